@@ -1,0 +1,4 @@
+pub mod Tests
+pub mod Searches
+pub mod Numbered
+pub mod Fill

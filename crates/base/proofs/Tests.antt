@@ -1,0 +1,119 @@
+-- Laws of tests and choices.
+use Prim.Native.Nat.{ℕ, zero, suc, _≤_, _<_}
+use mathlib.Core.Path.{_≡_, refl, sym, _∙_}
+use mathlib.Core.Bool.{Bool, true, false, not, true≢false, false≢true}
+use mathlib.Core.Logic.{_⊎_, inl, inr, ⊎-elim}
+use native.Mathlib.Omega.{arith}
+use lib.Dec.{ltb}
+use borrow.Author.Tests.{ltb-true, ltb-false}
+use Rattle.base.specs.Base.{_and_, _or_, pick}
+
+-- a test passes or fails; by cases on it
+pub known : (b : Bool) → (b ≡ true) ⊎ (b ≡ false)
+known true = inl refl
+known false = inr refl
+
+pub ifso {ℓ} : {P : Type ℓ} (b : Bool) → (b ≡ true → P) → (b ≡ false → P) → P
+ifso true f g = f refl
+ifso false f g = g refl
+
+pub clash : {b : Bool} → b ≡ true → b ≡ false → ⊥
+clash p q = true≢false (sym p ∙ q)
+
+pub is-false : (b : Bool) → (b ≡ true → ⊥) → b ≡ false
+is-false true h = absurd (h refl)
+is-false false h = refl
+
+pub is-true : (b : Bool) → (b ≡ false → ⊥) → b ≡ true
+is-true true h = refl
+is-true false h = absurd (h refl)
+
+-- two tests are equal where each passes if the other does
+pub same-test : (a b : Bool) → (a ≡ true → b ≡ true) → (b ≡ true → a ≡ true) → a ≡ b
+same-test true b f g = sym (f refl)
+same-test false true f g = g refl
+same-test false false f g = refl
+
+pub not-true : (b : Bool) → not b ≡ true → b ≡ false
+not-true true e = sym e
+not-true false e = refl
+
+pub not-false : (b : Bool) → not b ≡ false → b ≡ true
+not-false true e = refl
+not-false false e = sym e
+
+-- both pass
+pub both : (a b : Bool) → a ≡ true → b ≡ true → a and b ≡ true
+unfolding _and_
+both true b p q = q
+both false b p q = p
+
+pub and-left : (a b : Bool) → a and b ≡ true → a ≡ true
+unfolding _and_
+and-left true b e = refl
+and-left false b e = e
+
+pub and-right : (a b : Bool) → a and b ≡ true → b ≡ true
+unfolding _and_
+and-right true b e = e
+and-right false b e = absurd (false≢true e)
+
+-- a first test that passes leaves the second, one that fails decides
+pub and-on : (a b : Bool) → a ≡ true → a and b ≡ b
+unfolding _and_
+and-on true b e = refl
+and-on false b e = absurd (false≢true e)
+
+pub and-no-left : (a b : Bool) → a ≡ false → a and b ≡ false
+unfolding _and_
+and-no-left true b e = absurd (true≢false e)
+and-no-left false b e = refl
+
+pub and-no-right : (a b : Bool) → b ≡ false → a and b ≡ false
+unfolding _and_
+and-no-right true b e = e
+and-no-right false b e = refl
+
+pub and-swap : (a b : Bool) → a and b ≡ b and a
+unfolding _and_
+and-swap true true = refl
+and-swap true false = refl
+and-swap false true = refl
+and-swap false false = refl
+
+-- one passes
+pub or-cases : (a b : Bool) → a or b ≡ true → (a ≡ true) ⊎ (b ≡ true)
+unfolding _or_
+or-cases true b e = inl refl
+or-cases false b e = inr e
+
+pub or-left : (a b : Bool) → a ≡ true → a or b ≡ true
+unfolding _or_
+or-left true b h = refl
+or-left false b h = absurd (false≢true h)
+
+pub or-right : (a b : Bool) → b ≡ true → a or b ≡ true
+unfolding _or_
+or-right true b h = refl
+or-right false b h = h
+
+pub or-on : (a b : Bool) → a ≡ false → a or b ≡ b
+unfolding _or_
+or-on true b e = absurd (true≢false e)
+or-on false b e = refl
+
+pub or-none : (a b : Bool) → a ≡ false → b ≡ false → a or b ≡ false
+or-none a b p q = or-on a b p ∙ q
+
+-- a choice
+pub pick-on {ℓ} : {X : Type ℓ} (b : Bool) (x y : X) → b ≡ true → pick b x y ≡ x
+unfolding pick
+pick-on b x y e = rw e
+
+pub pick-off {ℓ} : {X : Type ℓ} (b : Bool) (x y : X) → b ≡ false → pick b x y ≡ y
+unfolding pick
+pick-off b x y e = rw e
+
+-- a number is below another or not
+pub split : (a b : ℕ) → (a < b) ⊎ (b ≤ a)
+split a b = ⊎-elim (λ e. inl (ltb-true a b e)) (λ e. inr (ltb-false a b e)) (known (ltb a b))

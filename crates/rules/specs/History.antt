@@ -1,0 +1,90 @@
+-- What a trace says: its transactions, numbered 1, 2, .. as they open, and its reads and writes, numbered 1, 2, .. over the whole trace.
+use Prim.Native.Nat.{ℕ, _+_}
+use mathlib.Core.Bool.{Bool, false}
+use mathlib.Core.List.{List, [], _∷_, _++_}
+use lib.ListN.{length, getD}
+use lib.Dec.{eqb}
+use Rattle.base.specs.Base.{_and_, pick, first, numbered}
+
+-- status 1: committed; 0: aborted; 3: open still
+pub record Tx : Type 0 where
+  pub session : ℕ
+  pub status : ℕ
+
+pub record Op : Type 0 where
+  pub tx : ℕ
+  pub isWrite : Bool
+  pub key : ℕ
+  pub value : ℕ
+
+pub record History : Type 0 where
+  pub txs : List Tx
+  pub ops : List Op
+
+-- "Transaction 0 is committed"
+abbrev pub zeroth : Tx
+zeroth = record { session = 0; status = 1 }
+
+-- past the end: no transaction, no operation
+abbrev pub noTx : Tx
+noTx = record { session = 0; status = 0 }
+
+abbrev pub noOp : Op
+noOp = record { tx = 0; isWrite = false; key = 0; value = 0 }
+
+-- transaction t, and operation i, by number
+unfoldable pub tx : History → ℕ → Tx
+tx h t = getD (zeroth ∷ h .txs) t noTx
+
+unfoldable pub op : History → ℕ → Op
+op h i = getD (noOp ∷ h .ops) i noOp
+
+abbrev pub txCount : History → ℕ
+txCount h = length (h .txs)
+
+abbrev pub opCount : History → ℕ
+opCount h = length (h .ops)
+
+-- the numbers of transactions, 0 among them, lie below this
+abbrev pub size : History → ℕ
+size h = txCount h + 1
+
+-- what counts as committed: status 1
+unfoldable pub committed : History → ℕ → Bool
+committed h t = eqb (tx h t .status) 1
+
+-- transaction t has been opened and not closed
+unfoldable pub isOpen : History → ℕ → Bool
+isOpen h t = eqb (tx h t .status) 3
+
+-- "Transactions do not overlap in the trace": the one that is open is the latest; 0 where none is
+unfoldable pub current : History → ℕ
+current h = pick (isOpen h (txCount h)) (txCount h) 0
+
+-- operation i is a write of the value v to the key x; the number of the first such, 0 where no write has (x, v)
+unfoldable pub writesValue : History → ℕ → ℕ → ℕ → Bool
+writesValue h x v i = eqb (op h i .value) v and op h i .isWrite and eqb (op h i .key) x
+
+unfoldable pub writeOf : History → ℕ → ℕ → ℕ
+writeOf h x v = first 0 1 (opCount h + 1) (writesValue h x v)
+
+-- ── how a history grows ──
+
+abbrev pub empty : History
+empty = record { txs = []; ops = [] }
+
+-- one transaction more, of session s, which is open
+unfoldable pub opened : History → ℕ → History
+opened h s = record { txs = h .txs ++ (record { session = s; status = 3 } ∷ []); ops = h .ops }
+
+-- transaction t gets the status x
+unfoldable pub closed : History → ℕ → ℕ → History
+closed h t x =
+    record {
+      txs = numbered (txCount h) (λ i. pick (eqb i t) (record { session = tx h i .session; status = x }) (tx h i));
+      ops = h .ops;
+    }
+
+-- one operation more
+unfoldable pub withOp : History → Op → History
+withOp h o = record { txs = h .txs; ops = h .ops ++ (o ∷ []) }

@@ -1,0 +1,10 @@
+pub mod Numbers
+pub mod History
+pub mod Records
+pub mod Reading
+pub mod Reads
+pub mod Levels
+pub mod Outcome
+pub mod Notes
+pub mod Traces
+pub mod Cases

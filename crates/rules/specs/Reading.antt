@@ -1,0 +1,142 @@
+-- Document 01, "When the judge declines", rows 2 to 11: how a trace is read, record by record, into a history and its notes.
+use Prim.Native.Nat.{ℕ, zero, suc, _+_, _-_}
+use mathlib.Core.Bool.{Bool, true, false, not}
+use mathlib.Core.List.{List, [], _∷_, _++_}
+use lib.ListN.{length}
+use lib.Dec.{ltb, leb, eqb}
+use Rattle.base.specs.Base.{pick, Row, row, firstFit}
+use Rattle.rules.specs.History.{History, txCount, opCount, empty, opened, closed, withOp, current, writeOf}
+use Rattle.rules.specs.Records.{lenAt, nextAt, nextSerial, eventAt, frameRows}
+use Rattle.rules.specs.declared.Event.{Event}
+use Rattle.rules.specs.declared.Event.the-variants.{Open, Read, Write, Close, End, Note, Other}
+
+-- ── what an event does to a history, where t is the open transaction that it belongs to, 0 where there is none ──
+
+-- row 7: "open inside a transaction; read, write or close outside one; end inside one"
+unfoldable pub misplaced : ℕ → Event → Bool
+misplaced t (Open s) = ltb 0 t
+misplaced t (Read x v) = eqb t 0
+misplaced t (Write x v) = eqb t 0
+misplaced t (Close c) = eqb t 0
+misplaced t (End n) = ltb 0 t
+misplaced t Note = false
+misplaced t Other = false
+
+-- row 8: "written value 0; status above 1; end number wrong"
+unfoldable pub unlawful : History → Event → Bool
+unlawful h (Open s) = false
+unlawful h (Read x v) = false
+unlawful h (Write x v) = eqb v 0
+unlawful h (Close c) = ltb 1 c
+unlawful h (End n) = not (eqb n (txCount h))
+unlawful h Note = false
+unlawful h Other = false
+
+-- row 9: "128th open, or 1,025th operation"
+unfoldable pub excess : History → Event → Bool
+excess h (Open s) = leb 127 (txCount h)
+excess h (Read x v) = leb 1024 (opCount h)
+excess h (Write x v) = leb 1024 (opCount h)
+excess h (Close c) = false
+excess h (End n) = false
+excess h Note = false
+excess h Other = false
+
+-- row 10: "a write repeats a key and value that an earlier write has, in any transaction"
+unfoldable pub repeats : History → Event → Bool
+repeats h (Open s) = false
+repeats h (Read x v) = false
+repeats h (Write x v) = ltb 0 (writeOf h x v)
+repeats h (Close c) = false
+repeats h (End n) = false
+repeats h Note = false
+repeats h Other = false
+
+-- ".. 7, 8, 9, 10."
+unfoldable pub stepRows : History → ℕ → Event → List Row
+stepRows h t e = row (misplaced t e) 7 ∷ row (unlawful h e) 8 ∷ row (excess h e) 9 ∷ row (repeats h e) 10 ∷ []
+
+-- what a lawful event enters
+unfoldable pub entered : History → ℕ → Event → History
+entered h t (Open s) = opened h s
+entered h t (Read x v) = withOp h (record { tx = t; isWrite = false; key = x; value = v })
+entered h t (Write x v) = withOp h (record { tx = t; isWrite = true; key = x; value = v })
+entered h t (Close c) = closed h t c
+entered h t (End n) = h
+entered h t Note = h
+entered h t Other = h
+
+unfoldable pub isEnd : Event → Bool
+isEnd (Open s) = false
+isEnd (Read x v) = false
+isEnd (Write x v) = false
+isEnd (Close c) = false
+isEnd (End n) = true
+isEnd Note = false
+isEnd Other = false
+
+-- ── reading ──
+
+-- a stretch of the trace: its first byte's offset and its length
+pub record Stretch : Type 0 where
+  pub start : ℕ
+  pub length : ℕ
+
+-- the text of a note that is the record at `at`
+unfoldable pub textAt : List ℕ → ℕ → Event → List Stretch
+textAt s at (Open n) = []
+textAt s at (Read x v) = []
+textAt s at (Write x v) = []
+textAt s at (Close c) = []
+textAt s at (End n) = []
+textAt s at Note = record { start = at + 8; length = lenAt s at - 6 } ∷ []
+textAt s at Other = []
+
+-- what is known between two records: where the next one starts, the serial that has to come, the history and the notes so far
+pub record State : Type 0 where
+  pub at : ℕ
+  pub serial : ℕ
+  pub history : History
+  pub notes : List Stretch
+
+abbrev pub begin : State
+begin = record { at = 0; serial = 0; history = empty; notes = [] }
+
+-- the event of the record that a state has come to
+abbrev pub eventIn : List ℕ → State → Event
+eventIn s st = eventAt s (st .at)
+
+-- the number of the first row that refuses that record; 0 where none does
+unfoldable pub refusalNo : List ℕ → State → ℕ
+refusalNo s st =
+    firstFit (frameRows s (st .at) (st .serial) ++ stepRows (st .history) (current (st .history)) (eventIn s st))
+
+-- the state behind that record
+unfoldable pub after : List ℕ → State → State
+after s st =
+    record {
+      at = nextAt s (st .at);
+      serial = nextSerial s (st .at);
+      history = entered (st .history) (current (st .history)) (eventIn s st);
+      notes = st .notes ++ textAt s (st .at) (eventIn s st);
+    }
+
+-- a trace is refused, with a number and a place, or it has a history and notes
+pub data Reading : Type 0 where
+  refused : ℕ → ℕ → Reading
+  read : History → List Stretch → Reading
+
+-- "After the end record, 11": bytes follow it, place the first such byte
+unfoldable pub finished : List ℕ → State → Reading
+finished s st = pick (ltb (st .at) (length s)) (refused 11 (st .at)) (read (st .history) (st .notes))
+
+-- record by record: the first that is refused decides. f is more than the records that can be left, since each has 8 bytes or more
+unfoldable pub walk : ℕ → List ℕ → State → Reading
+walk zero s st = refused 3 (st .at)
+walk (suc f) s st =
+    pick (ltb 0 (refusalNo s st)) (refused (refusalNo s st) (st .at))
+    (pick (isEnd (eventIn s st)) (finished s (after s st)) (walk f s (after s st)))
+
+-- row 2: "the trace is longer than 32,768 bytes", place 32,768; then the records
+unfoldable pub reading : List ℕ → Reading
+reading s = pick (ltb 32768 (length s)) (refused 2 32768) (walk (length s + 1) s begin)

@@ -1,0 +1,78 @@
+-- Traces as document 01 writes them by hand, turned into bytes. Used by the tables of cases alone.
+use Prim.Native.Nat.{ℕ, zero, suc, _+_, _/_, _%_, _^_}
+use mathlib.Core.List.{List, [], _∷_, _++_}
+use lib.ListN.{length}
+use Rattle.rules.specs.Outcome.{Report, Outcome, outcome, declining, rejecting, accepting}
+use Rattle.rules.specs.Numbers.{over}
+
+-- n in w bytes
+abbrev pub bytes : ℕ → ℕ → List ℕ
+bytes zero n = []
+bytes (suc w) n = n % 256 ∷ bytes w (n / 256)
+
+-- a kind and a payload; as a record, with the length that it says and its serial
+pub record Item : Type 0 where
+  pub kind : ℕ
+  pub payload : List ℕ
+
+abbrev pub raw : ℕ → ℕ → ℕ → List ℕ → List ℕ
+raw len kind serial p = bytes 2 len ++ bytes 2 kind ++ bytes 4 serial ++ p
+
+abbrev pub item : ℕ → List ℕ → Item
+item k p = record { kind = k; payload = p }
+
+-- records from the serial n on
+abbrev pub trace : ℕ → List Item → List ℕ
+trace n [] = []
+trace n (i ∷ is) = raw (6 + length (i .payload)) (i .kind) n (i .payload) ++ trace ((n + 1) % 2 ^ 32) is
+
+abbrev pub opens : ℕ → Item
+opens s = item 1 (bytes 2 s)
+
+abbrev pub r : ℕ → ℕ → Item
+r x v = item 2 (bytes 4 x ++ bytes 8 v)
+
+abbrev pub w : ℕ → ℕ → Item
+w x v = item 3 (bytes 4 x ++ bytes 8 v)
+
+abbrev pub closes : ℕ → Item
+closes c = item 4 (c ∷ [])
+
+abbrev pub ends : ℕ → Item
+ends n = item 5 (bytes 2 n)
+
+abbrev pub note : List ℕ → Item
+note p = item 6 p
+
+-- a transaction of session s with status c; a committed one
+abbrev pub block : ℕ → ℕ → List Item → List Item
+block s c l = opens s ∷ (l ++ (closes c ∷ []))
+
+abbrev pub T : ℕ → List Item → List Item
+T s l = block s 1 l
+
+-- n transactions and the end, with serials from 0
+abbrev pub whole : ℕ → List Item → List ℕ
+whole n l = trace 0 (l ++ (ends n ∷ []))
+
+-- a buffer of n bytes
+abbrev pub room : ℕ → List ℕ
+room zero = []
+room (suc n) = 170 ∷ room n
+
+-- what the tables say of a case, with buffers of f, p and o bytes
+abbrev pub refusesIn : ℕ → ℕ → ℕ → ℕ → ℕ → Outcome
+refusesIn f p o n at = outcome (declining n at) (room f) (room p) (room o)
+
+abbrev pub acceptsIn : ℕ → ℕ → ℕ → List ℕ → Outcome
+acceptsIn f p o l = outcome (accepting (length l)) (room f) (room p) (over l (room o))
+
+abbrev pub rejectsIn : ℕ → ℕ → ℕ → List ℕ → List ℕ → Outcome
+rejectsIn f p o fs ps = outcome (rejecting (length fs / 4) (length ps / 4)) (over fs (room f)) (over ps (room p)) (room o)
+
+-- `read T OP KIND` and `pair A B REASONS`, as bytes
+abbrev pub read : ℕ → ℕ → ℕ → List ℕ
+read t i k = t ∷ k ∷ i ∷ 0 ∷ []
+
+abbrev pub pair : ℕ → ℕ → ℕ → List ℕ
+pair a b n = a ∷ b ∷ n ∷ 0 ∷ []

@@ -1,0 +1,26 @@
+// The answers and events that code and definitions share. specs/ says what they mean; nothing here computes.
+
+// A record's kind with what its payload says.
+pub enum Event {
+    Open(u16),
+    Read(u32, u64),
+    Write(u32, u64),
+    Close(u8),
+    End(u16),
+    Note,
+    Other,
+}
+
+// The judge's answer: refused, with the refusal's number and place; rejected, with the counts of findings and of pairs; accepted, with the
+// order's length.
+pub enum Answer {
+    Refused(u8, usize),
+    Rejected(usize, usize),
+    Accepted(usize),
+}
+
+// The answer to asking for a note: refused, with the refusal's number and place; or its text's first byte and its length.
+pub enum NoteAnswer {
+    Refused(u8, usize),
+    Text(usize, usize),
+}

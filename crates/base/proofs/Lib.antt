@@ -2,3 +2,4 @@ pub mod Tests
 pub mod Searches
 pub mod Numbered
 pub mod Fill
+pub mod Chains

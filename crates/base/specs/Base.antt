@@ -54,6 +54,11 @@ listed a e f = listOf f a (e - a)
 unfoldable pub those : ℕ → ℕ → (ℕ → Bool) → List ℕ
 those a e p = listed a e (λ i. pick (p i) (i ∷ []) [])
 
+-- the greatest number below n that passes, else 0
+unfoldable pub last : (ℕ → Bool) → ℕ → ℕ
+last p zero = 0
+last p (suc n) = pick (p n) n (last p n)
+
 -- what f gives for each entry, in one list
 unfoldable pub joined : {A B : Type 0} → (A → List B) → List A → List B
 joined f [] = []

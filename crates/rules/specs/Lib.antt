@@ -8,3 +8,4 @@ pub mod Outcome
 pub mod Notes
 pub mod Traces
 pub mod Cases
+pub mod Edges

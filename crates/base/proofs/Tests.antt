@@ -4,6 +4,7 @@ use mathlib.Core.Path.{_≡_, refl, sym, _∙_}
 use mathlib.Core.Bool.{Bool, true, false, not, true≢false, false≢true}
 use mathlib.Core.Logic.{_⊎_, inl, inr, ⊎-elim}
 use native.Mathlib.Omega.{arith}
+use native.Mathlib.Nat.{eq-or-lt-of-le}
 use lib.Dec.{ltb}
 use borrow.Author.Tests.{ltb-true, ltb-false}
 use Rattle.base.specs.Base.{_and_, _or_, pick}
@@ -117,3 +118,6 @@ pick-off b x y e = rw e
 -- a number is below another or not
 pub split : (a b : ℕ) → (a < b) ⊎ (b ≤ a)
 split a b = ⊎-elim (λ e. inl (ltb-true a b e)) (λ e. inr (ltb-false a b e)) (known (ltb a b))
+
+pub below-suc : {a k : ℕ} → a < suc k → (a ≡ k) ⊎ (a < k)
+below-suc h = eq-or-lt-of-le (omega arith)

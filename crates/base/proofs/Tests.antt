@@ -106,6 +106,11 @@ or-on false b e = refl
 pub or-none : (a b : Bool) → a ≡ false → b ≡ false → a or b ≡ false
 or-none a b p q = or-on a b p ∙ q
 
+pub or-assoc : (a b c : Bool) → (a or b) or c ≡ a or (b or c)
+unfolding _or_
+or-assoc true b c = refl
+or-assoc false b c = refl
+
 -- a choice
 pub pick-on {ℓ} : {X : Type ℓ} (b : Bool) (x y : X) → b ≡ true → pick b x y ≡ x
 unfolding pick

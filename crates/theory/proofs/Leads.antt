@@ -24,6 +24,7 @@ leads-more s (then e p) = then (s _ _ e) (leads-more s p)
 -- ── the test, by its last round ──
 
 module _ (f : ℕ → ℕ → Bool) where
+  -- before any round the pairs alone, then each round once more
   pub via-zero : (a b : ℕ) → via f zero a b ≡ f a b
   unfolding via
   via-zero a b = refl
@@ -41,6 +42,7 @@ module _ (f : ℕ → ℕ → Bool) where
     pub via-more : via f k a b ≡ true → via f (suc k) a b ≡ true
     via-more p = rw via-suc (or-left _ _ p)
 
+    -- and it finds what goes through k
     pub via-through : via f k a k ≡ true → via f k k b ≡ true → via f (suc k) a b ≡ true
     via-through p q = rw via-suc (or-right _ _ (both _ _ p q))
 
@@ -113,6 +115,7 @@ pub record Lowest (r : ℕ → ℕ → Bool) (p : ℕ → Bool) (k : ℕ) : Type
 
 module _ (r : ℕ → ℕ → Bool) (n : ℕ) (trans : (a b c : ℕ) → b < n → r a b ≡ true → r b c ≡ true → r a c ≡ true)
     (irr : (a : ℕ) → a < n → r a a ≡ false) (p : ℕ → Bool) where
+  -- with one more number the lowest stays, or it is that number
   stays : {k : ℕ} (l : Lowest r p k) → (p k ≡ true → r k (l .at) ≡ false) → Lowest r p (suc k)
   stays l h =
       record {
@@ -126,7 +129,7 @@ module _ (r : ℕ → ℕ → Bool) (n : ℕ) (trans : (a b c : ℕ) → b < n �
   goes {k} l t h =
       record { at = k; under = omega arith; passes = t; none = λ b u s. ⊎-elim (λ e. rw e (irr k l)) (λ v. h b v s) (below-suc u) }
 
-  -- one more number: it is the lowest where it passes and goes before the lowest so far
+  -- it is that number where it passes and goes before the lowest so far
   lowest-suc : {k : ℕ} → k < n → Lowest r p k → Lowest r p (suc k)
   lowest-suc {k} u l =
       ⊎-elim
@@ -137,6 +140,7 @@ module _ (r : ℕ → ℕ → Bool) (n : ℕ) (trans : (a b c : ℕ) → b < n �
       (λ t. stays l (λ s. absurd (clash s t)))
       (known (p k))
 
+  -- none passes, or one of them is lowest
   pub lowest : (k : ℕ) → k ≤ n → ((a : ℕ) → a < k → p a ≡ false) ⊎ Lowest r p k
   lowest zero le = inl (λ a h. absurd (omega arith))
   lowest (suc k) le =

@@ -45,6 +45,7 @@ ready-parts n m f p a l e =
 -- ── how many are unplaced ──
 
 module _ (m : ℕ → Bool) (p : List ℕ) (a : ℕ) where
+  -- `isUnplaced` in parts
   pub unplaced-is : m a ≡ true → mem a p ≡ false → isUnplaced m p a ≡ true
   unfolding isUnplaced
   unplaced-is x y = both _ _ x (ap not y)
@@ -59,7 +60,7 @@ module _ (n : ℕ) (m : ℕ → Bool) where
   unfolding unplaced isUnplaced mem
   unplaced-all = count-same (isUnplaced m []) m n 0 (λ a _ l. and-swap (m a) true ∙ and-on true (m a) refl)
 
-  -- at last none is
+  -- none is exactly if each member is placed
   pub unplaced-none : (p : List ℕ) → ((a : ℕ) → a < n → m a ≡ true → mem a p ≡ true) → unplaced n m p ≡ 0
   unfolding unplaced
   unplaced-none p h =
@@ -82,6 +83,7 @@ ready-less {n} {m} {p = p} {a} r = unplaced-less n m p a (r .below) (r .member) 
 -- ── the smallest that may come next ──
 
 module _ (n : ℕ) (m : ℕ → Bool) (f : ℕ → ℕ → Bool) (p : List ℕ) where
+  -- n stands for none
   pub next-le : next n m f p ≤ n
   unfolding next
   next-le = ⊎-elim (λ z. omega (arith, z .0)) (λ g. omega (arith, g .to)) (first-cases n (ready n m f p) n 0)
@@ -91,10 +93,11 @@ module _ (n : ℕ) (m : ℕ → Bool) (f : ℕ → ℕ → Bool) (p : List ℕ) 
   next-ready l =
       ⊎-elim (λ z. absurd (omega (arith, z .0))) (λ g. ready-parts n m f p _ l (g .passes)) (first-cases n (ready n m f p) n 0)
 
+  -- with it placed, one unplaced less
   pub unplaced-step : next n m f p < n → unplaced n m p ≡ suc (unplaced n m (p ++ (next n m f p ∷ [])))
   unplaced-step l = ready-less (next-ready l)
 
-  -- `fill` by its first place
+  -- `fill` by its first place: the smallest that may come next, or none
   fill-step : (k : ℕ) → next n m f p < n → fill n m f (suc k) p ≡ next n m f p ∷ fill n m f k (p ++ (next n m f p ∷ []))
   unfolding fill
   fill-step k l = pick-on _ _ _ (lt-ltb (next n m f p) n l)
@@ -104,7 +107,7 @@ module _ (n : ℕ) (m : ℕ → Bool) (f : ℕ → ℕ → Bool) (p : List ℕ) 
   fill-end zero l = refl
   fill-end (suc k) l = pick-off _ _ _ (le-ltb (next n m f p) n l)
 
-  -- `rest` by its first place
+  -- `rest` likewise
   pub rest-step : next n m f p < n → rest n m f p ≡ next n m f p ∷ rest n m f (p ++ (next n m f p ∷ []))
   unfolding rest
   rest-step l = ap (λ k. fill n m f k p) (unplaced-step l) ∙ fill-step _ l
@@ -113,6 +116,7 @@ module _ (n : ℕ) (m : ℕ → Bool) (f : ℕ → ℕ → Bool) (p : List ℕ) 
   unfolding rest
   rest-end l = fill-end (unplaced n m p) l
 
+-- it is the smallest
 pub next-first : {n : ℕ} {m : ℕ → Bool} {f : ℕ → ℕ → Bool} {p : List ℕ} {a : ℕ} → Ready n m f p a → next n m f p ≤ a
 unfolding next
 next-first {n} {m} {f} {p} {a} r =
@@ -123,6 +127,7 @@ next-first {n} {m} {f} {p} {a} r =
 -- ── the entries of what is filled ──
 
 module _ (n : ℕ) (m : ℕ → Bool) (f : ℕ → ℕ → Bool) where
+  -- at most k, each below n
   fill-bound : (k : ℕ) (p : List ℕ) → length (fill n m f k p) ≤ k
   unfolding fill
   fill-bound zero p = omega arith
@@ -143,7 +148,7 @@ module _ (n : ℕ) (m : ℕ → Bool) (f : ℕ → ℕ → Bool) where
       go xs l ih zero h = l
       go xs l ih (suc i) h = ih i (omega arith)
 
-  -- no more than are unplaced, each below n
+  -- so no more than are unplaced
   pub rest-bound : (p : List ℕ) → length (rest n m f p) ≤ unplaced n m p
   unfolding rest
   rest-bound p = fill-bound (unplaced n m p) p
@@ -206,6 +211,7 @@ module _ {n : ℕ} {m : ℕ → Bool} {f : ℕ → ℕ → Bool} where
       after : (b : ℕ) → b < n → f b x ≡ true → mem b p ≡ true
       after b h e = is-true (mem b p) (λ t. omega (arith, at-x, place-back b p (x ∷ o) t, l .before b x e))
 
+  -- none starts an order, and one more that is ready goes on with it
   starts-none : Starts n m f []
   unfolding mem
   starts-none = record { lists = λ i h. absurd (omega arith); once = λ i h. absurd (omega arith); before = λ a b e h. absurd (clash h refl) }
@@ -305,6 +311,7 @@ module _ {n : ℕ} {m : ℕ → Bool} {f : ℕ → ℕ → Bool} where
                     (λ t. clash (via-keeps f n b (l .at) x) (l .none b h (unplaced-is m p b (w .first-in b (l .at) x .1) t)));
               }
 
+      -- so `fill` fits
       fill-fits : (k : ℕ) (p : List ℕ) → unplaced n m p ≡ k → Fits n m f p (fill n m f k p)
       unfolding fill
       fill-fits zero p e = done (none-unplaced n m p e)

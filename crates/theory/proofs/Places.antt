@@ -36,6 +36,7 @@ mem-last a xs = rw mem-append (or-right _ _ (mem-one a a ∙ eq-eqb a a refl))
 pub mem-snoc : (a : ℕ) (xs : List ℕ) (x : ℕ) → mem a (xs ++ (x ∷ [])) ≡ true → (mem a xs ≡ true) ⊎ (a ≡ x)
 mem-snoc a xs x e = ⊎-elim (λ h. inl h) (λ h. inr (eqb-true a x (rw mem-one at h))) (or-cases _ _ (rw mem-append at e))
 
+-- one more changes nothing for the others
 pub mem-other : (a : ℕ) (xs : List ℕ) (x : ℕ) → (a ≡ x → ⊥) → mem a xs ≡ mem a (xs ++ (x ∷ []))
 mem-other a xs x d = same-test _ _ (mem-front a xs (x ∷ [])) (λ e. ⊎-elim (λ h. h) (λ h. absurd (d h)) (mem-snoc a xs x e))
 

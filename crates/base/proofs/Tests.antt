@@ -124,5 +124,6 @@ pick-off b x y e = rw e
 pub split : (a b : ℕ) → (a < b) ⊎ (b ≤ a)
 split a b = ⊎-elim (λ e. inl (ltb-true a b e)) (λ e. inr (ltb-false a b e)) (known (ltb a b))
 
+-- one below suc k is k or below it
 pub below-suc : {a k : ℕ} → a < suc k → (a ≡ k) ⊎ (a < k)
 below-suc h = eq-or-lt-of-le (omega arith)

@@ -178,6 +178,39 @@ count-same p q e =
     (λ (t : p j ≡ false). count-miss p j e l t ∙ r ∙ sym (count-miss q j e l (sym (h j (omega arith) l) ∙ t)))
     (known (p j)))
 
+-- none passes exactly if none is counted
+pub count-zero : (p : ℕ → Bool) (e j : ℕ) → ((i : ℕ) → j ≤ i → i < e → p i ≡ false) → count j e p ≡ 0
+count-zero p e =
+    downward (λ j. ((i : ℕ) → j ≤ i → i < e → p i ≡ false) → count j e p ≡ 0) e (λ j g h. count-end p j e g)
+    (λ j l ih h. count-miss p j e l (h j (omega arith) l) ∙ ih (λ i a b. h i (omega arith) b))
+
+pub count-none : (p : ℕ → Bool) (e j : ℕ) → count j e p ≡ 0 → (i : ℕ) → j ≤ i → i < e → p i ≡ false
+count-none p e =
+    downward (λ j. count j e p ≡ 0 → (i : ℕ) → j ≤ i → i < e → p i ≡ false) e (λ j g z i a b. absurd (omega arith))
+    (λ j l ih z i a b.
+    ⊎-elim (λ (t : p j ≡ true). absurd (omega (arith, count-hit p j e l t)))
+    (λ (t : p j ≡ false). ⊎-elim (λ m. ih (omega (arith, count-miss p j e l t)) i (omega arith) b) (λ m. let q : i ≡ j = omega arith in rw q t) (split j i))
+    (known (p j)))
+
+-- q passes what p does, but for x: it counts one less
+pub count-less : (p q : ℕ → Bool) (x e j : ℕ) → j ≤ x → x < e → p x ≡ true → q x ≡ false → ((i : ℕ) → i < e → (i ≡ x → ⊥) → p i ≡ q i)
+    → count j e p ≡ suc (count j e q)
+count-less p q x e j a l px qx h =
+    downward (λ j. j ≤ x → count j e p ≡ suc (count j e q)) e (λ j g b. absurd (omega arith))
+    (λ j k ih b.
+    ⊎-elim
+    (λ (m : j < x).
+    let s = h j k (λ i. omega arith) in
+    let r = ih (omega arith) in
+    ⊎-elim (λ (t : p j ≡ true). omega (arith, count-hit p j e k t, count-hit q j e k (sym s ∙ t)))
+    (λ (t : p j ≡ false). omega (arith, count-miss p j e k t, count-miss q j e k (sym s ∙ t)))
+    (known (p j)))
+    (λ g.
+    let i : j ≡ x = omega arith in
+    omega (arith, count-hit p j e k (rw i px), count-miss q j e k (rw i qx), count-same p q e (j + 1) (λ c u v. h c v (λ z. omega arith))))
+    (split j x))
+    j a
+
 -- ── lists ──
 
 pub listed-same : {A : Type 0} (f g : ℕ → List A) (e j : ℕ) → ((i : ℕ) → j ≤ i → i < e → f i ≡ g i) → listed j e f ≡ listed j e g

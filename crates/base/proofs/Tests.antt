@@ -4,6 +4,7 @@ use mathlib.Core.Path.{_≡_, refl, sym, _∙_}
 use mathlib.Core.Bool.{Bool, true, false, not, true≢false, false≢true}
 use mathlib.Core.Logic.{_⊎_, inl, inr, ⊎-elim}
 use native.Mathlib.Omega.{arith}
+use native.Mathlib.Nat.{eq-or-lt-of-le}
 use lib.Dec.{ltb}
 use borrow.Author.Tests.{ltb-true, ltb-false}
 use Rattle.base.specs.Base.{_and_, _or_, pick}
@@ -105,6 +106,11 @@ or-on false b e = refl
 pub or-none : (a b : Bool) → a ≡ false → b ≡ false → a or b ≡ false
 or-none a b p q = or-on a b p ∙ q
 
+pub or-assoc : (a b c : Bool) → (a or b) or c ≡ a or (b or c)
+unfolding _or_
+or-assoc true b c = refl
+or-assoc false b c = refl
+
 -- a choice
 pub pick-on {ℓ} : {X : Type ℓ} (b : Bool) (x y : X) → b ≡ true → pick b x y ≡ x
 unfolding pick
@@ -117,3 +123,7 @@ pick-off b x y e = rw e
 -- a number is below another or not
 pub split : (a b : ℕ) → (a < b) ⊎ (b ≤ a)
 split a b = ⊎-elim (λ e. inl (ltb-true a b e)) (λ e. inr (ltb-false a b e)) (known (ltb a b))
+
+-- one below suc k is k or below it
+pub below-suc : {a k : ℕ} → a < suc k → (a ≡ k) ⊎ (a < k)
+below-suc h = eq-or-lt-of-le (omega arith)

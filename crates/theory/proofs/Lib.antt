@@ -1,0 +1,4 @@
+pub mod Leads
+pub mod Places
+pub mod Order
+pub mod Same

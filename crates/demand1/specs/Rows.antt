@@ -1,0 +1,160 @@
+-- Document 01's table of refusals as conditions in its own terms, apart from the functions that compute. The theorems say that the two agree.
+use Prim.Native.Nat.{ℕ, _+_, _<_, _≤_}
+use mathlib.Core.Path.{_≡_}
+use mathlib.Core.Bool.{Bool, true, false}
+use mathlib.Core.List.{List}
+use mathlib.Core.Logic.{_⊎_}
+use lib.ListN.{length, getD}
+use Rattle.rules.specs.Numbers.{le}
+use Rattle.rules.specs.History.{History, tx, op, txCount, opCount}
+use Rattle.rules.specs.Reading.{State, begin, after, Stretch}
+use Rattle.rules.specs.Outcome.{isAccepted, findingList, pairList, order}
+
+-- ── a record's fields, by their offsets ──
+
+module _ (s : List ℕ) (at : ℕ) where
+  abbrev pub len : ℕ
+  len = le 2 s at
+
+  abbrev pub kind : ℕ
+  kind = le 2 s (at + 2)
+
+  abbrev pub serial : ℕ
+  serial = le 4 s (at + 4)
+
+  abbrev pub key : ℕ
+  key = le 4 s (at + 8)
+
+  abbrev pub value : ℕ
+  value = le 8 s (at + 12)
+
+  abbrev pub status : ℕ
+  status = le 1 s (at + 8)
+
+  abbrev pub endNumber : ℕ
+  endNumber = le 2 s (at + 8)
+
+  -- the byte behind the record
+  abbrev pub behind : ℕ
+  behind = at + 2 + len
+
+-- the trace is inside a transaction: the latest opened one is open
+abbrev pub Inside : History → Type 0
+Inside h = (1 ≤ txCount h) × (tx h (txCount h) .status ≡ 3)
+
+-- ── the ten checks of a record, in the document's order ──
+
+pub data Check : Type 0 where
+  lengthField lengthLow bytesThere serialFollows kindKnown lengthFits inPlace valueLawful withinLimit newWrite : Check
+
+-- the number that each gives
+abbrev pub numberOf : Check → ℕ
+numberOf lengthField = 3
+numberOf lengthLow = 4
+numberOf bytesThere = 3
+numberOf serialFollows = 5
+numberOf kindKnown = 6
+numberOf lengthFits = 4
+numberOf inPlace = 7
+numberOf valueLawful = 8
+numberOf withinLimit = 9
+numberOf newWrite = 10
+
+-- its place in the order
+abbrev pub rank : Check → ℕ
+rank lengthField = 0
+rank lengthLow = 1
+rank bytesThere = 2
+rank serialFollows = 3
+rank kindKnown = 4
+rank lengthFits = 5
+rank inPlace = 6
+rank valueLawful = 7
+rank withinLimit = 8
+rank newWrite = 9
+
+-- the length that the table gives each kind
+pub data WrongLength (k n : ℕ) : Type 0 where
+  open-not-8 : k ≡ 1 → (n ≡ 8 → ⊥) → WrongLength k n
+  read-not-18 : k ≡ 2 → (n ≡ 18 → ⊥) → WrongLength k n
+  write-not-18 : k ≡ 3 → (n ≡ 18 → ⊥) → WrongLength k n
+  close-not-7 : k ≡ 4 → (n ≡ 7 → ⊥) → WrongLength k n
+  end-not-8 : k ≡ 5 → (n ≡ 8 → ⊥) → WrongLength k n
+  note-above-70 : k ≡ 6 → 70 < n → WrongLength k n
+
+-- "open inside a transaction; read, write or close outside one; end inside one"
+pub data Misplaced (k : ℕ) (h : History) : Type 0 where
+  open-inside : k ≡ 1 → Inside h → Misplaced k h
+  read-outside : k ≡ 2 → (Inside h → ⊥) → Misplaced k h
+  write-outside : k ≡ 3 → (Inside h → ⊥) → Misplaced k h
+  close-outside : k ≡ 4 → (Inside h → ⊥) → Misplaced k h
+  end-inside : k ≡ 5 → Inside h → Misplaced k h
+
+-- "written value 0; status above 1; end number wrong"
+pub data Unlawful (s : List ℕ) (at : ℕ) (h : History) : Type 0 where
+  written-0 : kind s at ≡ 3 → value s at ≡ 0 → Unlawful s at h
+  status-above-1 : kind s at ≡ 4 → 1 < status s at → Unlawful s at h
+  end-wrong : kind s at ≡ 5 → (endNumber s at ≡ txCount h → ⊥) → Unlawful s at h
+
+-- "128th open, or 1,025th operation"
+pub data Excess (k : ℕ) (h : History) : Type 0 where
+  open-128th : k ≡ 1 → 127 ≤ txCount h → Excess k h
+  read-1025th : k ≡ 2 → 1024 ≤ opCount h → Excess k h
+  write-1025th : k ≡ 3 → 1024 ≤ opCount h → Excess k h
+
+-- "a write repeats a key and value that an earlier write has, in any transaction"
+pub record Repeated (s : List ℕ) (at : ℕ) (h : History) : Type 0 where
+  pub writes : kind s at ≡ 3
+  pub by : ℕ
+  pub from : 1 ≤ by
+  pub to : by ≤ opCount h
+  pub is-write : op h by .isWrite ≡ true
+  pub same-key : op h by .key ≡ key s at
+  pub same-value : op h by .value ≡ value s at
+
+-- the check fails at the record that a state has come to
+abbrev pub Fails : List ℕ → State → Check → Type 0
+Fails s st lengthField = length s < st .at + 2
+Fails s st lengthLow = len s (st .at) < 6
+Fails s st bytesThere = length s < behind s (st .at)
+Fails s st serialFollows = (0 < st .at) × (serial s (st .at) ≡ st .serial → ⊥)
+Fails s st kindKnown = (kind s (st .at) < 1) ⊎ (6 < kind s (st .at))
+Fails s st lengthFits = WrongLength (kind s (st .at)) (len s (st .at))
+Fails s st inPlace = Misplaced (kind s (st .at)) (st .history)
+Fails s st valueLawful = Unlawful s (st .at) (st .history)
+Fails s st withinLimit = Excess (kind s (st .at)) (st .history)
+Fails s st newWrite = Repeated s (st .at) (st .history)
+
+abbrev pub Passes : List ℕ → State → Type 0
+Passes s st = (c : Check) → Fails s st c → ⊥
+
+-- ── how far reading comes, and how it ends ──
+
+-- the records up to a state pass every check, and none of them is the end
+pub data Reaches (s : List ℕ) : State → Type 0 where
+  start : Reaches s begin
+  on : {st : State} → Reaches s st → Passes s st → (kind s (st .at) ≡ 5 → ⊥) → Reaches s (after s st)
+
+-- row n refuses the trace at place p, and nothing earlier in the document's order does
+pub data Refuses (s : List ℕ) : ℕ → ℕ → Type 0 where
+  too-long : 32768 < length s → Refuses s 2 32768
+  at-record : {st : State} → length s ≤ 32768 → Reaches s st → (c : Check) → Fails s st c → ((d : Check) → rank d < rank c → Fails s st d → ⊥)
+      → Refuses s (numberOf c) (st .at)
+  bytes-behind : {st : State} → length s ≤ 32768 → Reaches s st → Passes s st → kind s (st .at) ≡ 5 → behind s (st .at) < length s
+      → Refuses s 11 (behind s (st .at))
+
+-- the trace is read: the end record is its last
+pub data Reads (s : List ℕ) : History → List Stretch → Type 0 where
+  to-the-end : {st : State} → length s ≤ 32768 → Reaches s st → Passes s st → kind s (st .at) ≡ 5 → behind s (st .at) ≡ length s
+      → Reads s (after s st .history) (after s st .notes)
+
+-- the outcome of judging is a refusal with number n and place p: rows 1 to 14, with buffers of f, p and o bytes
+pub data Declines (s : List ℕ) (level f p o : ℕ) : ℕ → ℕ → Type 0 where
+  no-level : ((1 ≤ level) × (level ≤ 3) → ⊥) → Declines s level f p o 1 0
+  reading-refused : {n at : ℕ} → 1 ≤ level → level ≤ 3 → Refuses s n at → Declines s level f p o n at
+  findings-short : {h : History} {notes : List Stretch} → 1 ≤ level → level ≤ 3 → Reads s h notes → isAccepted h level ≡ false
+      → f < length (findingList h) → Declines s level f p o 12 (length (findingList h))
+  pairs-short : {h : History} {notes : List Stretch} → 1 ≤ level → level ≤ 3 → Reads s h notes → isAccepted h level ≡ false
+      → length (findingList h) ≤ f → p < length (pairList h level) → Declines s level f p o 13 (length (pairList h level))
+  order-short : {h : History} {notes : List Stretch} → 1 ≤ level → level ≤ 3 → Reads s h notes → isAccepted h level ≡ true
+      → o < length (order h level) → Declines s level f p o 14 (length (order h level))

@@ -1,6 +1,6 @@
 -- Edge cases of document 01 beyond its worked traces: every refusal with its place, every two neighbours in the order of checks broken at once, limits,
 -- wraps, buffers one byte short, and reads that stand just beside a rule. As in Cases: a table and one statement.
-use Prim.Native.Nat.{ℕ}
+use Prim.Native.Nat.{ℕ, _+_}
 use mathlib.Core.Path.{_≡_, refl}
 use mathlib.Core.Bool.{true}
 use mathlib.Core.List.{List, [], _∷_, _++_, map}
@@ -131,6 +131,8 @@ table =
     -- sums of reasons: session and read; start and read
     ∷ rejects 1 (whole 2 (T 1 (r 2 7 ∷ w 1 5 ∷ []) ++ T 1 (r 1 5 ∷ w 2 7 ∷ []))) [] (pair 1 2 6 ++ pair 2 1 4)
     ∷ rejects 2 (whole 2 (T 1 (r 2 0 ∷ w 1 5 ∷ []) ++ T 1 (r 1 0 ∷ []))) [] (pair 0 1 5 ++ pair 1 0 8)
+    -- a reader that leads to itself is no rival of its own source
+    ∷ rejects 3 (whole 2 (T 1 (r 2 7 ∷ w 1 5 ∷ w 2 8 ∷ []) ++ T 2 (r 1 5 ∷ w 2 7 ∷ []))) [] (pair 1 2 4 ++ pair 2 1 4)
     -- pairs are worked out over clean reads even when findings exist
     ∷ rejects 1 (whole 3 (T 1 (r 2 7 ∷ w 1 5 ∷ []) ++ T 2 (r 1 5 ∷ w 2 7 ∷ []) ++ T 3 (r 9 9 ∷ []))) (read 3 5 1) (pair 1 2 4 ++ pair 2 1 4)
     -- level 1: 0 is read from first, and 1 writes the key that is read from 2: a rival is earlier in the reader, not later
@@ -183,7 +185,7 @@ closedState n =
     record {
       at = 0;
       serial = 0;
-      history = record { txs = numbered n (λ i. record { session = i; status = 1 }); ops = [] };
+      history = record { txs = listed 1 (n + 1) (λ i. record { session = i; status = 1 } ∷ []); ops = [] };
       notes = [];
     }
 
@@ -194,7 +196,7 @@ openState n =
       serial = 0;
       history = record {
         txs = record { session = 1; status = 3 } ∷ [];
-        ops = numbered n (λ i. record { tx = 1; isWrite = true; key = 1; value = i });
+        ops = listed 1 (n + 1) (λ i. record { tx = 1; isWrite = true; key = 1; value = i } ∷ []);
       };
       notes = [];
     }
@@ -213,7 +215,6 @@ limits =
     limit (closedState 126) (opens 9) 0
     ∷ limit (closedState 127) (opens 9) 9
     ∷ limit (openState 1023) (r 1 5000) 0
-    ∷ limit (openState 1023) (w 1 5000) 0
     ∷ limit (openState 1024) (r 1 5000) 9
     -- 8, then 9; 9, then 10; 10 alone
     ∷ limit (openState 1024) (w 1 0) 8

@@ -1,9 +1,8 @@
 -- Traces as document 01 writes them by hand, turned into bytes. Used by the tables of cases alone.
-use Prim.Native.Nat.{ℕ, zero, suc, _+_, _/_, _%_, _^_}
+use Prim.Native.Nat.{ℕ, zero, suc, _+_, _-_, _/_, _%_, _^_}
 use mathlib.Core.List.{List, [], _∷_, _++_}
 use lib.ListN.{length}
 use Rattle.rules.specs.Outcome.{Report, Outcome, outcome, declining, rejecting, accepting}
-use Rattle.rules.specs.Numbers.{over}
 
 -- n in w bytes
 abbrev pub bytes : ℕ → ℕ → List ℕ
@@ -65,10 +64,10 @@ abbrev pub refusesIn : ℕ → ℕ → ℕ → ℕ → ℕ → Outcome
 refusesIn f p o n at = outcome (declining n at) (room f) (room p) (room o)
 
 abbrev pub acceptsIn : ℕ → ℕ → ℕ → List ℕ → Outcome
-acceptsIn f p o l = outcome (accepting (length l)) (room f) (room p) (over l (room o))
+acceptsIn f p o l = outcome (accepting (length l)) (room f) (room p) (l ++ room (o - length l))
 
 abbrev pub rejectsIn : ℕ → ℕ → ℕ → List ℕ → List ℕ → Outcome
-rejectsIn f p o fs ps = outcome (rejecting (length fs / 4) (length ps / 4)) (over fs (room f)) (over ps (room p)) (room o)
+rejectsIn f p o fs ps = outcome (rejecting (length fs / 4) (length ps / 4)) (fs ++ room (f - length fs)) (ps ++ room (p - length ps)) (room o)
 
 -- `read T OP KIND` and `pair A B REASONS`, as bytes
 abbrev pub read : ℕ → ℕ → ℕ → List ℕ

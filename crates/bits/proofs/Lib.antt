@@ -1,0 +1,5 @@
+pub mod Tests
+pub mod Words
+pub mod Tables
+pub mod Rounds
+pub mod Fill

@@ -1,0 +1,237 @@
+-- A table's bits: what each store does to them, and the laws of loops that rewrite a table word by word, or fill it row by row and bit by bit.
+use Prim.Native.Nat.{ℕ, _+_, _*_, _/_, _%_, _^_, _<_, _≤_}
+use mathlib.Core.Path.{_≡_, refl, sym, ap, _∙_}
+use mathlib.Core.Bool.{Bool, true, false, false≢true}
+use mathlib.Core.List.{List}
+use mathlib.Core.Logic.{⊎-elim, _↔_}
+use native.Mathlib.Omega.{arith}
+use native.Mathlib.Nat.{mod-lt}
+use lib.Bits.{bitOr}
+use lib.Dec.{eqb, ltb}
+use lib.ListN.{length, getD, set, length-set}
+use lib.Seq.{getD-set-same, getD-set-other, ext-getD}
+use borrow.Author.Tests.{eqb-true, eqb-false, eq-eqb, ne-eqb, lt-ltb, le-ltb}
+use Rattle.base.specs.Base.{_and_, _or_}
+use Rattle.base.proofs.Tests.{ifso, split, same-test, both, and-left, and-right, and-on, and-no-left, and-no-right, or-none, or-on, or-assoc}
+use Rattle.bits.specs.Bits.{testBit, bitOf, Holds, nothing, either, plusBit, plusRow, plusRows}
+use Rattle.bits.proofs.Tests.{or-off, and-or, same-eqb, below-more}
+use Rattle.bits.proofs.Words.{testBit-zero, testBit-or, testBit-one, word-one}
+
+-- ── what a table holds ──
+
+-- its own bits
+pub holds-self : (t : List ℕ) → length t ≡ 256 → Holds t (bitOf t)
+holds-self t h = record { room = h; is = λ x y hx hy. refl }
+
+-- only what is said below 128 counts
+pub holds-same : {t : List ℕ} {f g : ℕ → ℕ → Bool} → Holds t f → ((x y : ℕ) → x < 128 → y < 128 → f x y ≡ g x y) → Holds t g
+holds-same h e = record { room = h .room; is = λ x y hx hy. h .is x y hx hy ∙ e x y hx hy }
+
+-- bit k of word i, by its row and column
+word-bit : (t : List ℕ) (i k : ℕ) → k < 64 → bitOf t (i / 2) (64 * (i % 2) + k) ≡ testBit (getD t i 0) k
+unfolding bitOf
+word-bit t i k h =
+    let e : 2 * (i / 2) + (64 * (i % 2) + k) / 64 ≡ i = omega arith in
+    let m : (64 * (i % 2) + k) % 64 ≡ k = omega arith in
+    rw (e, m)
+
+-- a relation is held by one table of 64-bit words
+pub holds-one : {t u : List ℕ} {f : ℕ → ℕ → Bool} → Holds t f → Holds u f → ((i : ℕ) → getD t i 0 < 2 ^ 64) → ((i : ℕ) → getD u i 0 < 2 ^ 64) → t ≡ u
+holds-one {t} {u} p q ht hu =
+    ext-getD 0 t u (p .room ∙ sym (q .room))
+    (λ i l.
+    word-one 64 (getD t i 0) (getD u i 0) (ht i) (hu i)
+    (λ k h.
+    let x : i / 2 < 128 = omega (arith, p .room) in
+    let y : 64 * (i % 2) + k < 128 = omega arith in
+    sym (word-bit t i k h) ∙ p .is _ _ x y ∙ sym (q .is _ _ x y) ∙ word-bit u i k h))
+
+-- ── words rewritten one after the other ──
+
+-- a loop that has come to word i: those before it are what f says, the others as they were
+pub record Rewritten (f : ℕ → ℕ) (o b : List ℕ) (i : ℕ) : Type 0 where
+  pub room : length b ≡ length o
+  pub done : (k : ℕ) → k < i → getD b k 0 ≡ f k
+  pub left : (k : ℕ) → i ≤ k → getD b k 0 ≡ getD o k 0
+
+module _ (f : ℕ → ℕ) where
+  pub rewritten-start : (o : List ℕ) → Rewritten f o o 0
+  rewritten-start o = record { room = refl; done = λ k l. absurd (omega arith); left = λ k l. refl }
+
+  rewritten-step : {o b : List ℕ} (i v : ℕ) → Rewritten f o b i → i < length b → v ≡ f i → Rewritten f o (set b i v) (i + 1)
+  rewritten-step {o} {b} i v r h e =
+      record {
+        room = length-set b i v ∙ r .room;
+        done =
+            λ k l.
+            ⊎-elim (λ m. getD-set-other b i k v 0 (λ q. omega arith) ∙ r .done k m) (λ m. let q : k ≡ i = omega arith in rw q (getD-set-same b i v 0 h ∙ e))
+            (split k i);
+        left = λ k l. getD-set-other b i k v 0 (λ q. omega arith) ∙ r .left k (omega arith);
+      }
+
+-- what `clear`, `copy` and `join` write
+unfoldable pub noWord : ℕ → ℕ
+noWord k = 0
+
+unfoldable pub wordOf : List ℕ → ℕ → ℕ
+wordOf t k = getD t k 0
+
+unfoldable pub eitherWord : List ℕ → List ℕ → ℕ → ℕ
+eitherWord t u k = bitOr (getD t k 0) (getD u k 0)
+
+module _ {o b : List ℕ} (i : ℕ) (h : i < length b) where
+  pub clear-step : Rewritten noWord o b i → Rewritten noWord o (set b i 0) (i + 1)
+  unfolding noWord
+  clear-step r = rewritten-step noWord i 0 r h refl
+
+  pub copy-step : (t : List ℕ) → Rewritten (wordOf t) o b i → Rewritten (wordOf t) o (set b i (getD t i 0)) (i + 1)
+  unfolding wordOf
+  copy-step t r = rewritten-step (wordOf t) i (getD t i 0) r h refl
+
+  pub join-step : (t : List ℕ) → Rewritten (eitherWord o t) o b i → Rewritten (eitherWord o t) o (set b i (bitOr (getD b i 0) (getD t i 0))) (i + 1)
+  unfolding eitherWord
+  join-step t r = rewritten-step (eitherWord o t) i _ r h (rw (r .left i (omega arith)))
+
+module _ {o b : List ℕ} {i : ℕ} (room : length o ≡ 256) (whole : 256 ≤ i) where
+  pub cleared : Rewritten noWord o b i → Holds b nothing
+  unfolding noWord nothing bitOf
+  cleared r = record { room = r .room ∙ room; is = λ x y hx hy. rw (r .done (2 * x + y / 64) (omega arith)) (testBit-zero (y % 64)) }
+
+  pub copied : {t : List ℕ} → length t ≡ 256 → Rewritten (wordOf t) o b i → b ≡ t
+  unfolding wordOf
+  copied {t} h r = ext-getD 0 b t (r .room ∙ room ∙ sym h) (λ k l. r .done k (omega (arith, r .room)))
+
+  pub joined : (t : List ℕ) → Rewritten (eitherWord o t) o b i → Holds b (either (bitOf o) (bitOf t))
+  unfolding eitherWord either bitOf
+  joined t r =
+      record { room = r .room ∙ room; is = λ x y hx hy. rw (r .done (2 * x + y / 64) (omega arith)) (testBit-or _ _ (y % 64)) }
+
+-- ── words compared one after the other ──
+
+-- a loop that has come to word i: those before it are the same
+pub record Alike (t u : List ℕ) (i : ℕ) : Type 0 where
+  pub words : (k : ℕ) → k < i → getD t k 0 ≡ getD u k 0
+
+module _ {t u : List ℕ} where
+  pub alike-start : Alike t u 0
+  alike-start = record { words = λ k l. absurd (omega arith) }
+
+  pub alike-step : (i : ℕ) → Alike t u i → getD t i 0 ≡ getD u i 0 → Alike t u (i + 1)
+  alike-step i h e = record { words = λ k l. ⊎-elim (λ m. h .words k m) (λ m. let q : k ≡ i = omega arith in rw q e) (split k i) }
+
+  pub alike-end : (i : ℕ) → length t ≡ 256 → length u ≡ 256 → 256 ≤ i → Alike t u i → (true ≡ true) ↔ (t ≡ u)
+  alike-end i p q l h = (λ _. ext-getD 0 t u (p ∙ sym q) (λ k m. h .words k (omega arith)), λ _. refl)
+
+  pub unlike : (i : ℕ) → (getD t i 0 ≡ getD u i 0 → ⊥) → (false ≡ true) ↔ (t ≡ u)
+  unlike i d = (λ e. absurd (false≢true e), λ e. absurd (d (ap (λ (v : List ℕ). getD v i 0) e)))
+
+-- ── single stores ──
+
+-- word i gets the bits of m too
+or-word : (t : List ℕ) (i m : ℕ) → i < length t → (x y : ℕ)
+    → bitOf (set t i (bitOr (getD t i 0) m)) x y ≡ bitOf t x y or (eqb (2 * x + y / 64) i and testBit m (y % 64))
+unfolding bitOf
+or-word t i m h x y =
+    ifso (eqb (2 * x + y / 64) i)
+    (λ e. let q : 2 * x + y / 64 ≡ i = eqb-true _ _ e in
+    rw (and-on _ (testBit m (y % 64)) e, q, getD-set-same t i (bitOr (getD t i 0) m) 0 h) (testBit-or (getD t i 0) m (y % 64)))
+    (λ e.
+    ap (λ (w : ℕ). testBit w (y % 64)) (getD-set-other t i (2 * x + y / 64) (bitOr (getD t i 0) m) 0 (eqb-false _ _ e))
+    ∙ sym (or-off _ _ (and-no-left _ (testBit m (y % 64)) e)))
+
+both-eqb : (a b c d : ℕ) → a ≡ b → c ≡ d → eqb a b and eqb c d ≡ true
+both-eqb a b c d e f = both _ _ (eq-eqb a b e) (eq-eqb c d f)
+
+-- a bit's word and its place there, against its row and column
+same-place : (a b x y : ℕ) → b < 128 → y < 128 → eqb (2 * x + y / 64) (2 * a + b / 64) and eqb (y % 64) (b % 64) ≡ eqb x a and eqb y b
+same-place a b x y hb hy =
+    same-test _ _
+    (λ h.
+    let p = eqb-true (2 * x + y / 64) (2 * a + b / 64) (and-left _ _ h) in
+    let q = eqb-true (y % 64) (b % 64) (and-right _ _ h) in
+    both-eqb x a y b (omega arith) (omega arith))
+    (λ h.
+    let p = eqb-true x a (and-left _ _ h) in
+    let q = eqb-true y b (and-right _ _ h) in
+    both-eqb (2 * x + y / 64) (2 * a + b / 64) (y % 64) (b % 64) (omega arith) (omega arith))
+
+-- row a gets bit b, as the machine shifts it
+pub bit-set : (t : List ℕ) (a b : ℕ) → length t ≡ 256 → a < 128 → b < 128
+    → Holds (set t (2 * a + b / 64) (bitOr (getD t (2 * a + b / 64) 0) ((1 * 2 ^ (b % 64)) % 2 ^ 64))) (plusBit (bitOf t) a b)
+unfolding plusBit
+bit-set t a b h ha hb =
+    record {
+      room = simp length-set h;
+      is =
+          λ x y hx hy.
+          or-word t (2 * a + b / 64) ((1 * 2 ^ (b % 64)) % 2 ^ 64) (omega arith) x y
+          ∙ rw (testBit-one (b % 64) (y % 64) (mod-lt b (omega arith)), same-place a b x y hb hy);
+    }
+
+-- a row's bits are those of its two words
+row-word : (u : List ℕ) (a b x y : ℕ) → y < 128
+    → (eqb (2 * x + y / 64) (2 * a) and testBit (getD u (2 * b) 0) (y % 64)) or (eqb (2 * x + y / 64) (2 * a + 1) and testBit (getD u (2 * b + 1) 0) (y % 64))
+    ≡ eqb x a and bitOf u b y
+unfolding bitOf
+row-word u a b x y hy =
+    ⊎-elim
+    (λ l.
+    let e : eqb (2 * x + y / 64) (2 * a) ≡ eqb x a = same-eqb (2 * x + y / 64) (2 * a) x a (λ q. omega arith) (λ q. omega arith) in
+    let r : 2 * b + y / 64 ≡ 2 * b = omega arith in
+    rw (e, r) (or-off _ _ (and-no-left _ _ (ne-eqb (2 * x + y / 64) (2 * a + 1) (λ q. omega arith)))))
+    (λ l.
+    let e : eqb (2 * x + y / 64) (2 * a + 1) ≡ eqb x a = same-eqb (2 * x + y / 64) (2 * a + 1) x a (λ q. omega arith) (λ q. omega arith) in
+    let r : 2 * b + y / 64 ≡ 2 * b + 1 = omega arith in
+    rw (e, r) (or-on _ _ (and-no-left _ _ (ne-eqb (2 * x + y / 64) (2 * a) (λ q. omega arith)))))
+    (split y 64)
+
+-- row a gets row b of u too
+pub row-joined : (t u : List ℕ) (a b : ℕ) → length t ≡ 256 → a < 128
+    → Holds (set (set t (2 * a) (bitOr (getD t (2 * a) 0) (getD u (2 * b) 0))) (2 * a + 1) (bitOr (getD t (2 * a + 1) 0) (getD u (2 * b + 1) 0)))
+    (plusRow (bitOf t) a (bitOf u b))
+unfolding plusRow
+row-joined t u a b h ha = record { room = simp length-set h; is = λ x y hx hy. whole x y hy }
+  where
+    first : List ℕ
+    first = set t (2 * a) (bitOr (getD t (2 * a) 0) (getD u (2 * b) 0))
+
+    second : (x y : ℕ) → bitOf (set first (2 * a + 1) (bitOr (getD t (2 * a + 1) 0) (getD u (2 * b + 1) 0))) x y
+        ≡ (bitOf t x y or (eqb (2 * x + y / 64) (2 * a) and testBit (getD u (2 * b) 0) (y % 64)))
+        or (eqb (2 * x + y / 64) (2 * a + 1) and testBit (getD u (2 * b + 1) 0) (y % 64))
+    second x y =
+        rw (← (getD-set-other t (2 * a) (2 * a + 1) (bitOr (getD t (2 * a) 0) (getD u (2 * b) 0)) 0 (λ e. omega arith)))
+        (or-word first (2 * a + 1) (getD u (2 * b + 1) 0) (omega (arith, length-set t (2 * a) (bitOr (getD t (2 * a) 0) (getD u (2 * b) 0)))) x y
+        ∙ rw (or-word t (2 * a) (getD u (2 * b) 0) (omega arith) x y))
+
+    whole : (x y : ℕ) → y < 128 → bitOf (set first (2 * a + 1) (bitOr (getD t (2 * a + 1) 0) (getD u (2 * b + 1) 0))) x y
+        ≡ bitOf t x y or (eqb x a and bitOf u b y)
+    whole x y hy = second x y ∙ or-assoc _ _ _ ∙ ap (λ (v : Bool). bitOf t x y or v) (row-word u a b x y hy)
+
+-- ── rows ──
+
+-- row a got nothing, or r and then s
+pub row-none : {t : List ℕ} {E : ℕ → ℕ → Bool} (a : ℕ) (r : ℕ → Bool) → Holds t E → ((y : ℕ) → y < 128 → r y ≡ false) → Holds t (plusRow E a r)
+unfolding plusRow
+row-none a r h none = holds-same h (λ x y hx hy. sym (or-off _ _ (and-no-right _ _ (none y hy))))
+
+pub row-more : {t u : List ℕ} (E : ℕ → ℕ → Bool) (a : ℕ) (r s q : ℕ → Bool) → Holds t (plusRow E a r) → Holds u (plusRow (bitOf t) a s)
+    → ((y : ℕ) → y < 128 → q y ≡ r y or s y) → Holds u (plusRow E a q)
+unfolding plusRow
+row-more E a r s q h k e =
+    holds-same k
+    (λ x y hx hy.
+    ap (λ (v : Bool). v or (eqb x a and s y)) (h .is x y hx hy) ∙ or-assoc _ _ _
+    ∙ ap (λ (v : Bool). E x y or v) (sym (and-or _ _ _) ∙ ap (λ (v : Bool). eqb x a and v) (sym (e y hy))))
+
+-- a loop over the rows: at first none has its part, then one more has
+pub rows-none : {t : List ℕ} {E : ℕ → ℕ → Bool} (z : ℕ → ℕ → Bool) → Holds t E → Holds t (plusRows E 0 z)
+unfolding plusRows
+rows-none z h = holds-same h (λ x y hx hy. sym (or-off _ _ (and-no-left _ _ (le-ltb x 0 (omega arith)))))
+
+pub rows-more : {t u : List ℕ} (E z : ℕ → ℕ → Bool) (a : ℕ) → Holds t (plusRows E a z) → Holds u (plusRow (bitOf t) a (z a)) → Holds u (plusRows E (a + 1) z)
+unfolding plusRows plusRow
+rows-more E z a h k =
+    holds-same k
+    (λ x y hx hy.
+    ap (λ (v : Bool). v or (eqb x a and z a y)) (h .is x y hx hy) ∙ or-assoc _ _ _
+    ∙ ap (λ (v : Bool). E x y or v) (sym (below-more (λ i. z i y) x a)))

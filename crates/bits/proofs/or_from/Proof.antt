@@ -1,0 +1,18 @@
+use native.Mathlib.Omega.{arith}
+use lib.ListN.{length-set}
+use borrow.Author.Needs.{needs}
+use Rattle.bits.proofs.Tables.{row-joined}
+use Rattle.bits.proofs.or_from.Statement.{statement}
+use Rattle.bits.proofs.or_from.Tie as tie
+
+returns : tie.Need-returns
+returns c =
+    let s = c .before .before .before .before in
+    row-joined (s .args .t .now) (s .args .w .now) (s .args .a) (s .args .b) (s .pre .0) (s .pre .2)
+
+pub or-from-spec : {M : Type 1} → statement M
+or-from-spec =
+    tie.close
+    (tie.spec (λ c. search needs) (λ c. search needs) (λ c. search needs) (λ c. search needs) (λ c. search needs) (λ c. search needs) (λ c. search needs)
+    (λ c. search needs) (λ c. search needs) (λ c. search needs) (λ c. search needs) (λ c. search needs) (λ c. search needs) (λ c. search needs)
+    (λ c. search needs) (λ c. search needs) (λ c. simp length-set (omega arith)) (λ c. search needs) returns)

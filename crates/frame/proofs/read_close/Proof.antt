@@ -1,0 +1,15 @@
+use mathlib.Core.Path.{ap}
+use native.Mathlib.Omega.{arith}
+use Rattle.rules.specs.Numbers.{le}
+use borrow.Author.Needs.{needs}
+use Rattle.rules.specs.declared.Event.the-variants.{Close}
+use Rattle.frame.proofs.read_close.Statement.{statement}
+use Rattle.frame.proofs.read_close.Tie as tie
+
+returns : tie.Need-returns
+unfolding le
+returns c =
+    ap Close (omega arith)
+
+pub read-close-spec : {M : Type 1} → statement M
+read-close-spec = tie.close (tie.spec (λ c. search needs) returns)

@@ -1,0 +1,60 @@
+-- What the words say is what the history says.
+use Prim.Native.Nat.{ℕ, _+_, _/_, _%_, _≤_, _<_}
+use mathlib.Core.Path.{_≡_, ap, sym}
+use mathlib.Core.List.{List}
+use mathlib.Core.Logic.{⊎-elim}
+use native.Mathlib.Omega.{arith}
+use lib.ListN.{getD}
+use Rattle.base.proofs.Numbered.{numbered-length, numbered-at}
+use Rattle.base.proofs.Searches.{first-cases}
+use Rattle.rules.specs.History.{History, Op, tx, op, txCount, opCount, zeroth, noTx, noOp, writesValue, writeOf}
+use Rattle.table.specs.Table.{txAt, opAt, historyOf, lastAt, prevAt, lastOf, prevOf, Held, HasTx, HasOp, Below}
+use Rattle.table.proofs.Grown.{last-of-less, prev-of-less}
+
+pub tx-count : (h : List ℕ) → txCount (historyOf h) ≡ getD h 0 0 % 128
+unfolding historyOf
+tx-count h = numbered-length (getD h 0 0 % 128) (txAt h)
+
+pub op-count : (h : List ℕ) → opCount (historyOf h) ≡ getD h 0 0 / 128
+unfolding historyOf
+op-count h = numbered-length (getD h 0 0 / 128) (opAt h)
+
+module _ (h : List ℕ) (t : ℕ) (p : HasTx h t) where
+  pub tx-is : tx (historyOf h) t ≡ txAt h t
+  unfolding historyOf tx
+  tx-is = numbered-at zeroth noTx _ (txAt h) t (p .from) (omega (arith, tx-count h, p .to))
+
+  pub last-is-kept : Below (lastAt h t) (lastOf (historyOf h) t) (opCount (historyOf h) + 1)
+  last-is-kept =
+      let e = p .held .lasts t (p .from) (p .to) in
+      record { is = e; below = omega (arith, e, last-of-less (historyOf h) t) }
+
+  -- so its word has room for it
+  pub last-small : getD h t 0 / 262144 ≤ 1024
+  unfolding lastAt
+  last-small = omega (arith, last-is-kept .below, p .held .most)
+
+module _ (h : List ℕ) (i : ℕ) (p : HasOp h i) where
+  pub op-is : op (historyOf h) i ≡ opAt h i
+  unfolding historyOf op
+  op-is = numbered-at noOp noOp _ (opAt h) i (p .from) (omega (arith, op-count h, p .to))
+
+  pub prev-is-kept : Below (prevAt h i) (prevOf (historyOf h) i) i
+  prev-is-kept =
+      let e = p .held .prevs i (p .from) (p .to) in
+      record { is = e; below = omega (arith, e, prev-of-less (historyOf h) i (p .from)) }
+
+  -- an operation's transaction is one of the table's
+  pub tx-kept : Below (opAt h i .tx) (op (historyOf h) i .tx) (txCount (historyOf h) + 1)
+  tx-kept = record { is = ap (λ (o : Op). o .tx) (sym op-is); below = omega (arith, ap (λ (o : Op). o .tx) op-is, p .held .txs-in i (p .from) (p .to) .1) }
+
+  pub op-has-tx : HasTx h (op (historyOf h) i .tx)
+  op-has-tx = let r = p .held .txs-in i (p .from) (p .to) in record { held = p .held; from = r .0; to = r .1 }
+
+-- the write that a search finds lies within the table
+pub write-less : (h : History) (x v : ℕ) → writeOf h x v < opCount h + 1
+unfolding writeOf
+write-less h x v = ⊎-elim (λ z. omega (arith, z .0)) (λ r. r .to) (first-cases 0 (writesValue h x v) (opCount h + 1) 1)
+
+pub write-has : (h : List ℕ) (x v w : ℕ) → Held h → w ≡ writeOf (historyOf h) x v → (w ≡ 0 → ⊥) → HasOp h w
+write-has h x v w p e n = record { held = p; from = omega (arith, n); to = omega (arith, e, write-less (historyOf h) x v) }

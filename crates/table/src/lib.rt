@@ -1,0 +1,168 @@
+ghost use mathlib.Core.Path.{_≡_};
+ghost use Prim.Native.Nat.{_+_, _<_};
+ghost use lib.ListN.{length};
+ghost use mathlib.Core.Bool.{true, false};
+ghost use Rattle.rules.specs.History.{tx, op, txCount, opCount, empty, opened, closed, withOp, writesValue, writeOf};
+ghost use Rattle.table.specs.Table.{historyOf, lastOf, prevOf, Held, HasTx, HasOp, Below, Becomes, cleared, putTx, closeTx, putWords, putOp};
+
+// The number of transactions; of operations.
+pub fn txs(h: &[u64]) -> usize
+    requires { ⌜ Held (now h) ⌝ }
+    ensures { λ r. ⌜ r ≡ txCount (historyOf (now (h .entry))) ⌝ }
+{
+    (h[0] % 128) as usize
+}
+
+pub fn ops(h: &[u64]) -> usize
+    requires { ⌜ Held (now h) ⌝ }
+    ensures { λ r. ⌜ r ≡ opCount (historyOf (now (h .entry))) ⌝ }
+{
+    (h[0] / 128) as usize
+}
+
+// Transaction t.
+pub fn session_of(h: &[u64], t: usize) -> u64
+    requires { ⌜ HasTx (now h) t ⌝ }
+    ensures { λ r. ⌜ r ≡ tx (historyOf (now (h .entry))) t .session ⌝ }
+{
+    h[t] / 4 % 65536
+}
+
+pub fn status_of(h: &[u64], t: usize) -> u64
+    requires { ⌜ HasTx (now h) t ⌝ }
+    ensures { λ r. ⌜ r ≡ tx (historyOf (now (h .entry))) t .status ⌝ }
+{
+    h[t] % 4
+}
+
+// The number of t's last operation, 0 where it has none.
+pub fn last_op(h: &[u64], t: usize) -> usize
+    requires { ⌜ HasTx (now h) t ⌝ }
+    ensures { λ r. ⌜ Below r (lastOf (historyOf (now (h .entry))) t) (opCount (historyOf (now (h .entry))) + 1) ⌝ }
+{
+    (h[t] / 262144) as usize
+}
+
+// Operation i.
+pub fn tx_of(h: &[u64], i: usize) -> usize
+    requires { ⌜ HasOp (now h) i ⌝ }
+    ensures { λ r. ⌜ Below r (op (historyOf (now (h .entry))) i .tx) (txCount (historyOf (now (h .entry))) + 1) ⌝ }
+{
+    (h[128 + 2 * i] % 128) as usize
+}
+
+pub fn is_write(h: &[u64], i: usize) -> bool
+    requires { ⌜ HasOp (now h) i ⌝ }
+    ensures { λ r. ⌜ r ≡ op (historyOf (now (h .entry))) i .isWrite ⌝ }
+{
+    h[128 + 2 * i] / 128 % 2 == 1
+}
+
+pub fn key_of(h: &[u64], i: usize) -> u64
+    requires { ⌜ HasOp (now h) i ⌝ }
+    ensures { λ r. ⌜ r ≡ op (historyOf (now (h .entry))) i .key ⌝ }
+{
+    h[128 + 2 * i] / 256 % 4294967296
+}
+
+pub fn value_of(h: &[u64], i: usize) -> u64
+    requires { ⌜ HasOp (now h) i ⌝ }
+    ensures { λ r. ⌜ r ≡ op (historyOf (now (h .entry))) i .value ⌝ }
+{
+    h[129 + 2 * i]
+}
+
+// The number of the operation before i in the same transaction, 0 where there is none.
+pub fn prev_op(h: &[u64], i: usize) -> usize
+    requires { ⌜ HasOp (now h) i ⌝ }
+    ensures { λ r. ⌜ Below r (prevOf (historyOf (now (h .entry))) i) i ⌝ }
+{
+    (h[128 + 2 * i] / 1099511627776) as usize
+}
+
+// Whether operation i is a write of v to x. Values are tested first: few operations share one.
+fn writes_value(h: &[u64], x: u64, v: u64, i: usize) -> bool
+    requires { ⌜ HasOp (now h) i ⌝ }
+    ensures { λ r. ⌜ r ≡ writesValue (historyOf (now (h .entry))) x v i ⌝ }
+{
+    if value_of(h, i) != v {
+        return false;
+    }
+    if !is_write(h, i) {
+        return false;
+    }
+    key_of(h, i) == x
+}
+
+// The number of the first write of v to x, 0 where no write has them.
+pub fn write_of(h: &[u64], x: u64, v: u64) -> usize
+    requires { ⌜ Held (now h) ⌝ }
+    ensures { λ r. ⌜ Below r (writeOf (historyOf (now (h .entry))) x v) (opCount (historyOf (now (h .entry))) + 1) ⌝ }
+{
+    let n = ops(h);
+    let mut i = 1;
+    while i <= n {
+        if writes_value(h, x, v, i) {
+            return i;
+        }
+        i += 1;
+    }
+    0
+}
+
+// No transaction and no operation.
+pub fn clear(h: &mut [u64])
+    requires { ⌜ length (now h) ≡ 2178 ⌝ }
+    ensures { λ r. ⌜ Becomes (now (h .exit)) (cleared (now (h .entry))) empty ⌝ }
+{
+    h[0] = 0;
+}
+
+// One transaction more, of session s, which is open.
+pub fn put_tx(h: &mut [u64], s: u16)
+    requires { ⌜ Held (now h) × (txCount (historyOf (now h)) < 127) ⌝ }
+    ensures { λ r. ⌜ Becomes (now (h .exit)) (putTx (now (h .entry)) s) (opened (historyOf (now (h .entry))) s) ⌝ }
+{
+    let n = h[0];
+    let t = (n % 128) as usize + 1;
+    h[t] = 4 * (s as u64) + 3;
+    h[0] = n + 1;
+}
+
+// Transaction t gets the status x.
+pub fn close_tx(h: &mut [u64], t: usize, x: u64)
+    requires { ⌜ HasTx (now h) t × (x < 4) ⌝ }
+    ensures { λ r. ⌜ Becomes (now (h .exit)) (closeTx (now (h .entry)) t x) (closed (historyOf (now (h .entry))) t x) ⌝ }
+{
+    let s = h[t] / 4;
+    h[t] = 4 * s + x;
+}
+
+// One operation more of transaction t: it reads v from the key k; it writes v to the key k.
+pub fn put_read(h: &mut [u64], t: usize, k: u32, v: u64)
+    requires { ⌜ HasTx (now h) t × (opCount (historyOf (now h)) < 1024) ⌝ }
+    ensures { λ r. ⌜ Becomes (now (h .exit)) (putOp (now (h .entry)) (record { tx = t; isWrite = false; key = k; value = v })) (withOp (historyOf (now (h .entry))) (record { tx = t; isWrite = false; key = k; value = v })) ⌝ }
+{
+    put_op(h, t, t as u64 + 256 * (k as u64), v);
+}
+
+pub fn put_write(h: &mut [u64], t: usize, k: u32, v: u64)
+    requires { ⌜ HasTx (now h) t × (opCount (historyOf (now h)) < 1024) ⌝ }
+    ensures { λ r. ⌜ Becomes (now (h .exit)) (putOp (now (h .entry)) (record { tx = t; isWrite = true; key = k; value = v })) (withOp (historyOf (now (h .entry))) (record { tx = t; isWrite = true; key = k; value = v })) ⌝ }
+{
+    put_op(h, t, t as u64 + 128 + 256 * (k as u64), v);
+}
+
+// One operation more of transaction t, whose first word is w besides the number of the operation before it. That is t's last, which the new one now is.
+fn put_op(h: &mut [u64], t: usize, w: u64, v: u64)
+    requires { ⌜ HasTx (now h) t × (opCount (historyOf (now h)) < 1024) × (w < 1099511627776) ⌝ }
+    ensures { λ r. ⌜ now (h .exit) ≡ putWords (now (h .entry)) t w v ⌝ }
+{
+    let n = h[0];
+    let i = (n / 128) as usize + 1;
+    let z = h[t];
+    h[128 + 2 * i] = w + 1099511627776 * (z / 262144);
+    h[129 + 2 * i] = v;
+    h[t] = z % 262144 + 262144 * (i as u64);
+    h[0] = n + 128;
+}

@@ -88,6 +88,13 @@ module _ (f : ℕ → List ℕ) (a e : ℕ) where
   pub size-end : {j n : ℕ} → Sizing f a e j n → e ≤ j → n ≡ length (listed a e f)
   size-end {j} {n} x h = omega (arith, x .rest, ap length (listed-end f j e h))
 
+-- one byte
+pub one : (o : List ℕ) (at a : ℕ) → at < length o → Appended o at (set o at a) (at + 1) (a ∷ [])
+one o at a h = record { end = refl; room = h′; is = sets-eq (a ∷ []) o at h′ ∙ append-assoc (take at o) (a ∷ []) (drop (at + 1) o) }
+  where
+    h′ : at + 1 ≤ length o
+    h′ = omega arith
+
 -- four bytes
 pub four : (o : List ℕ) (at a b c d : ℕ) → at + 4 ≤ length o
     → Appended o at (set (set (set (set o at a) (at + 1) b) (at + 2) c) (at + 3) d) (at + 4) (a ∷ b ∷ c ∷ d ∷ [])

@@ -1,0 +1,307 @@
+//! Makes full traces for measuring, and measures judges on traces.
+
+use ferozhak_compare::encode::Writer;
+use ferozhak_compare::generate::Shape;
+use ferozhak_compare::random::Random;
+use ferozhak_compare::report::{Level, Verdict};
+use ferozhak_compare::trace::{Trace, MAX_OPERATIONS, MAX_TRANSACTIONS};
+use ferozhak_compare::{judge_all, judge_one, Answer};
+use std::hint::black_box;
+use std::io::{self, Write as _};
+use std::path::Path;
+use std::process::ExitCode;
+use std::time::{Duration, Instant};
+
+const USAGE: &str = "Usage:
+  bench --write DIR     writes the traces for measuring into DIR
+  bench --time FILE..   prints the time of one call of each judge on each file
+";
+
+/// Reads and judges a trace at all three levels, and answers a number made
+/// from the whole answer, so that no part of the work can be left out.
+type Judge = fn(&[u8]) -> u64;
+
+/// What is measured. Other judges are entered here.
+fn judges() -> Vec<(&'static str, Judge)> {
+    vec![
+        ("rust, read once", |bytes| digest(&judge_all(bytes))),
+        ("rust, read for each level", |bytes| {
+            let [rc, ra, tcc] = Level::ALL.map(|level| judge_one(bytes, level));
+            digest(&rc.and_then(|rc| Ok([rc, ra?, tcc?])))
+        }),
+    ]
+}
+
+/// Mixes all bytes that an answer has into a number.
+fn digest(answer: &Answer) -> u64 {
+    let mix = |sum: u64, byte: u8| sum.wrapping_mul(31).wrapping_add(byte.into());
+    match answer {
+        Err(refusal) => mix(refusal.place as u64, refusal.number),
+        Ok(verdicts) => verdicts.iter().fold(0, |sum, verdict| match verdict {
+            Verdict::Accepted(order) => order.iter().copied().fold(sum, mix),
+            Verdict::Rejected { findings, pairs } => {
+                let sum = findings.iter().fold(sum, |sum, f| {
+                    let [low, high] = f.operation.to_le_bytes();
+                    [f.transaction, f.kind, low, high]
+                        .into_iter()
+                        .fold(sum, mix)
+                });
+                pairs.iter().fold(sum, |sum, p| {
+                    [p.first, p.second, p.reasons].into_iter().fold(sum, mix)
+                })
+            }
+        }),
+    }
+}
+
+fn main() -> ExitCode {
+    let arguments: Vec<String> = std::env::args().skip(1).collect();
+    let words: Vec<&str> = arguments.iter().map(String::as_str).collect();
+    let done = match words[..] {
+        ["--write", folder] => write_traces(Path::new(folder)),
+        ["--time", ref files @ ..] if !files.is_empty() => time_files(files),
+        _ => {
+            eprint!("{USAGE}");
+            return ExitCode::from(2);
+        }
+    };
+    match done {
+        Ok(()) => ExitCode::SUCCESS,
+        Err(error) => {
+            eprintln!("bench: {error}");
+            ExitCode::FAILURE
+        }
+    }
+}
+
+fn write_traces(folder: &Path) -> io::Result<()> {
+    std::fs::create_dir_all(folder)?;
+    for (name, bytes) in traces() {
+        std::fs::write(folder.join(format!("{name}.trace")), bytes)?;
+    }
+    Ok(())
+}
+
+fn time_files(files: &[&str]) -> io::Result<()> {
+    for file in files {
+        let bytes = std::fs::read(file)
+            .map_err(|error| io::Error::new(error.kind(), format!("{file}: {error}")))?;
+        let mut lines = format!("{file}: {}\n", describe(&bytes));
+        for (name, judge) in judges() {
+            let (median, least) = time(judge, &bytes);
+            lines += &format!("  {name:<28}{median:>9} ns a call, at best {least:>9} ns\n");
+        }
+        io::stdout().write_all(lines.as_bytes())?;
+    }
+    Ok(())
+}
+
+/// What a trace has, and what is said of it.
+fn describe(bytes: &[u8]) -> String {
+    let (trace, answer) = (Trace::parse(bytes), judge_all(bytes));
+    let (Ok(trace), Ok(verdicts)) = (trace, answer) else {
+        return format!("{} bytes, refused", bytes.len());
+    };
+    let said: String = Level::ALL
+        .iter()
+        .zip(&verdicts)
+        .map(|(level, verdict)| match verdict {
+            Verdict::Accepted(_) => format!(", {} accepted", level.name()),
+            Verdict::Rejected { findings, pairs } => {
+                let (found, listed) = (findings.len(), pairs.len());
+                format!(", {} rejected {found} {listed}", level.name())
+            }
+        })
+        .collect();
+    let (transactions, operations) = (trace.transactions.len(), trace.operations.len());
+    let size = bytes.len();
+    format!("{transactions} transactions, {operations} operations, {size} bytes{said}")
+}
+
+/// Nanoseconds a call: the median and the least of many rounds.
+fn time(judge: Judge, bytes: &[u8]) -> (u128, u128) {
+    const ROUNDS: usize = 25;
+    const ROUND: Duration = Duration::from_millis(10);
+    let run = |calls: u32| {
+        let start = Instant::now();
+        for _ in 0..calls {
+            black_box(judge(black_box(bytes)));
+        }
+        start.elapsed()
+    };
+    // As many calls as fill a round; these also warm everything up.
+    let mut calls = 1;
+    while run(calls) < ROUND {
+        calls *= 2;
+    }
+    let mut times: Vec<u128> = (0..ROUNDS)
+        .map(|_| run(calls).as_nanos() / u128::from(calls))
+        .collect();
+    times.sort_unstable();
+    (times[ROUNDS / 2], times[0])
+}
+
+/// All traces for measuring, by name.
+fn traces() -> Vec<(String, Vec<u8>)> {
+    let mut traces = vec![
+        ("typical".into(), typical(MAX_TRANSACTIONS)),
+        ("hot-keys".into(), full(|shape| shape.keys = 3)),
+        (
+            "anomalies".into(),
+            full(|shape| {
+                shape.keys = 3;
+                shape.aborted = 30;
+                shape.wild = 90;
+            }),
+        ),
+        ("slow-chain".into(), chain()),
+        ("slow-sources".into(), sources()),
+        ("slow-unsettled".into(), unsettled()),
+        ("slow-thin-air".into(), thin_air()),
+        ("slow-cycle".into(), cycle()),
+        ("slow-session-cycle".into(), session_cycle()),
+    ];
+    for transactions in [16, 32, 64, MAX_TRANSACTIONS] {
+        traces.push((format!("grow-{transactions:03}"), typical(transactions)));
+    }
+    traces
+}
+
+/// A store that answers rightly, so that the trace is accepted: 8 or 9
+/// operations a transaction on as many keys as there are transactions.
+fn typical(transactions: usize) -> Vec<u8> {
+    shaped(transactions, |_| {})
+}
+
+fn full(change: impl Fn(&mut Shape)) -> Vec<u8> {
+    shaped(MAX_TRANSACTIONS, change)
+}
+
+/// A random trace that has its share of the limit of operations: 1,024 if it
+/// has 127 transactions.
+fn shaped(transactions: usize, change: impl Fn(&mut Shape)) -> Vec<u8> {
+    let mut shape = Shape {
+        transactions,
+        sessions: transactions / 8,
+        keys: transactions,
+        operations_least: 8,
+        operations_each: 9,
+        operations: transactions * MAX_OPERATIONS / MAX_TRANSACTIONS,
+        writes: 50,
+        aborted: 5,
+        notes: 0,
+        stale: 0,
+        ahead: false,
+        wild: 0,
+        mixed: true,
+    };
+    change(&mut shape);
+    shape.trace(&mut Random::new(16, transactions as u64))
+}
+
+enum Step {
+    Read(u32, u64),
+    Write(u32, u64),
+}
+use Step::{Read, Write};
+
+/// A trace of 127 transactions from the session and the operations of each.
+/// It is filled up to 1,024 operations with writes that nobody reads.
+fn planned(transaction: impl Fn(u32) -> (u16, Vec<Step>)) -> Vec<u8> {
+    let mut plan: Vec<(u16, Vec<Step>)> = (1..=127).map(transaction).collect();
+    let operations: usize = plan.iter().map(|(_, steps)| steps.len()).sum();
+    for extra in operations..MAX_OPERATIONS {
+        let (_, steps) = &mut plan[extra % MAX_TRANSACTIONS];
+        steps.push(Write(1_000_000 + extra as u32, 1));
+    }
+    let mut writer = Writer::new(0);
+    for (session, steps) in plan {
+        writer.open(session);
+        for step in steps {
+            match step {
+                Read(key, value) => writer.read(key, value),
+                Write(key, value) => writer.write(key, value),
+            }
+        }
+        writer.close(1);
+    }
+    writer.end()
+}
+
+/// Each transaction reads what the next one wrote, so that what leads to what
+/// runs against the numbers, by up to 126 steps; and all write the same two
+/// keys, so that each that leads to a reader is a rival.
+fn chain() -> Vec<u8> {
+    planned(|t| {
+        let (own, next) = (u64::from(t), u64::from(t) + 1);
+        let mut steps = Vec::new();
+        if t < 127 {
+            steps.extend([Read(1, next), Read(2, next)]);
+        }
+        steps.extend([Write(1, own), Write(2, own)]);
+        (t as u16, steps)
+    })
+}
+
+/// One reader takes all it reads from all the others: each of its reads has
+/// many earlier ones to compare with, and each source is a rival of each.
+fn sources() -> Vec<u8> {
+    planned(|t| {
+        let steps = if t < 127 {
+            (0..4).map(|key| Write(key, t.into())).collect()
+        } else {
+            (0..504)
+                .map(|n| Read(n % 4, u64::from(n) / 4 + 1))
+                .collect()
+        };
+        (t as u16, steps)
+    })
+}
+
+/// Every search for a rival goes to its end and finds none. Half write and
+/// half read, all in one session, so that every writer leads to every reader;
+/// but no key is written twice. Each reader has 8 sources.
+fn unsettled() -> Vec<u8> {
+    const WRITERS: u32 = 64;
+    planned(|t| {
+        let key = |writer: u32, n: u32| (writer % WRITERS) * 8 + n;
+        let steps = if t <= WRITERS {
+            (0..8).map(|n| Write(key(t, n), 1)).collect()
+        } else {
+            (0..8).map(|n| Read(key(t + 8 * n, n), 1)).collect()
+        };
+        (1, steps)
+    })
+}
+
+/// Every second operation is a read that looks for a write in vain.
+fn thin_air() -> Vec<u8> {
+    planned(|t| {
+        let value = u64::from(t);
+        let steps = (0..4).flat_map(|key| [Write(key, value), Read(key, 1_000 + value)]);
+        (t as u16, steps.collect())
+    })
+}
+
+/// A cycle through all transactions, in which each reads from six more: all
+/// of these pairs are listed.
+fn cycle() -> Vec<u8> {
+    planned(|t| {
+        let reads = [1, 2, 4, 8, 16, 32, 64].map(|step| Read((t + step) % 127, 1));
+        let mut steps = vec![Write(t % 127, 1)];
+        steps.extend(reads);
+        (t as u16, steps)
+    })
+}
+
+/// One session whose first transaction reads from its last, so that every
+/// session pair is listed; and all write what the others read, so that almost
+/// every pair is a rival's too.
+fn session_cycle() -> Vec<u8> {
+    planned(|t| {
+        let source = if t == 1 { 127 } else { t - 1 };
+        let reads = (0..4).map(|key| Read(key, source.into()));
+        let writes = (0..4).map(|key| Write(key, t.into()));
+        (1, reads.chain(writes).collect())
+    })
+}

@@ -1,0 +1,397 @@
+//! Compares a program `judge` with the independent judge on many traces, and
+//! the independent judge's two deciders with each other.
+
+use ferozhak_compare::cases::{self, Case};
+use ferozhak_compare::generate::{self, Origin};
+use ferozhak_compare::random::Random;
+use ferozhak_compare::report::{self, Level, Verdict};
+use ferozhak_compare::trace::Trace;
+use ferozhak_compare::{brute, Answer};
+use std::io::{self, Write};
+use std::path::{Path, PathBuf};
+use std::process::{Command, ExitCode, Stdio};
+use std::sync::atomic::{AtomicBool, AtomicUsize, Ordering};
+use std::thread;
+
+const USAGE: &str = "Usage:
+  compare --judge PATH [options]   compares the program at PATH with the Rust judge
+  compare --self [options]         compares the Rust judge's two deciders only
+Options:
+  --traces N    at least this many traces (default 100000)
+  --seed S      the seed of the random traces (default 1)
+  --threads K   how many threads, each running one program at a time (default 1)
+";
+
+struct Options {
+    /// None with `--self`.
+    judge: Option<PathBuf>,
+    traces: usize,
+    seed: u64,
+    threads: usize,
+}
+
+fn main() -> ExitCode {
+    let options = match parse_options(std::env::args().skip(1)) {
+        Ok(options) => options,
+        Err(message) => {
+            eprint!("compare: {message}\n{USAGE}");
+            return ExitCode::from(2);
+        }
+    };
+    let (summary, difference) = run(&options);
+    let mut out = summary.describe(&options);
+    if let Some(difference) = &difference {
+        out.push_str(&difference.describe());
+    }
+    // Whether or not anyone still reads this, the exit number says the rest.
+    let _ = io::stdout().write_all(out.as_bytes());
+    match difference {
+        None => ExitCode::SUCCESS,
+        Some(_) => ExitCode::FAILURE,
+    }
+}
+
+fn parse_options(mut words: impl Iterator<Item = String>) -> Result<Options, String> {
+    let mut options = Options {
+        judge: None,
+        traces: 100_000,
+        seed: 1,
+        threads: 1,
+    };
+    let mut only_self = false;
+    while let Some(word) = words.next() {
+        if word == "--self" {
+            only_self = true;
+            continue;
+        }
+        let value = words.next().ok_or(format!("{word} needs a value"))?;
+        let wrong = |_| format!("{word} {value} is not a number");
+        match word.as_str() {
+            "--judge" => options.judge = Some(PathBuf::from(value)),
+            "--traces" => options.traces = value.parse().map_err(wrong)?,
+            "--seed" => options.seed = value.parse().map_err(wrong)?,
+            "--threads" => options.threads = value.parse::<usize>().map_err(wrong)?.max(1),
+            _ => return Err(format!("unknown option {word}")),
+        }
+    }
+    if only_self == options.judge.is_some() {
+        return Err("give either --judge PATH or --self".into());
+    }
+    Ok(options)
+}
+
+/// Judges all traces, up to the first difference.
+fn run(options: &Options) -> (Summary, Option<Box<Difference>>) {
+    let cases = cases::all();
+    let total = options.traces.max(cases.len());
+    let next = AtomicUsize::new(0);
+    let stop = AtomicBool::new(false);
+    let work = || {
+        let mut summary = Summary::default();
+        while !stop.load(Ordering::Relaxed) {
+            let index = next.fetch_add(1, Ordering::Relaxed);
+            if index >= total {
+                break;
+            }
+            // Each trace has its own random stream, so that a run is the same
+            // whatever the number of threads.
+            let subject = match cases.get(index) {
+                Some(case) => Subject::known(index, case),
+                None => Subject::random(index, options.seed),
+            };
+            if let Err(difference) = subject.check(options.judge.as_deref(), &mut summary) {
+                stop.store(true, Ordering::Relaxed);
+                return (summary, Some(difference));
+            }
+        }
+        (summary, None)
+    };
+    thread::scope(|scope| {
+        let workers: Vec<_> = (0..options.threads).map(|_| scope.spawn(work)).collect();
+        let mut summary = Summary::default();
+        let mut found = None;
+        for worker in workers {
+            let (part, difference) = worker.join().expect("a worker does not panic");
+            summary.add(&part);
+            found = found.or(difference);
+        }
+        (summary, found)
+    })
+}
+
+/// A trace to be judged.
+struct Subject {
+    index: usize,
+    name: String,
+    origin: Origin,
+    bytes: Vec<u8>,
+    /// What must be printed, where that is known beforehand.
+    expected: Option<String>,
+}
+
+impl Subject {
+    fn known(index: usize, case: &Case) -> Subject {
+        Subject {
+            index,
+            name: format!("case '{}'", case.name),
+            origin: Origin::Case,
+            bytes: case.bytes.clone(),
+            expected: Some(case.output.clone()),
+        }
+    }
+
+    fn random(index: usize, seed: u64) -> Subject {
+        let (origin, bytes) = generate::any(&mut Random::new(seed, index as u64));
+        Subject {
+            index,
+            name: format!("trace {index} of seed {seed}, {}", origin.describe()),
+            origin,
+            bytes,
+            expected: None,
+        }
+    }
+
+    fn check(self, judge: Option<&Path>, summary: &mut Summary) -> Result<(), Box<Difference>> {
+        let parsed = Trace::parse(&self.bytes);
+        let answer = parsed
+            .as_ref()
+            .map(ferozhak_compare::judge_trace)
+            .map_err(|r| *r);
+        let ours = report::print(&answer);
+        summary.count(self.origin, &answer);
+        if let Some(expected) = &self.expected {
+            if *expected != ours {
+                let expected = expected.clone();
+                return Err(self.differs("the expected answer", expected, "the graph", ours));
+            }
+        }
+        if let (Ok(trace), Ok(verdicts)) = (&parsed, &answer) {
+            for (level, verdict) in Level::ALL.into_iter().zip(verdicts) {
+                let Some(outcome) = brute::judge(trace, level) else {
+                    break;
+                };
+                summary.brute += 1;
+                // An order exists exactly if no pair is listed, whether or not
+                // there are findings.
+                let no_pair = match &outcome.verdict {
+                    Verdict::Accepted(_) => true,
+                    Verdict::Rejected { pairs, .. } => pairs.is_empty(),
+                };
+                if outcome.verdict != *verdict || outcome.order_exists != no_pair {
+                    let exists = outcome.order_exists;
+                    let brute = format!("{level:?} {:?} order {exists}\n", outcome.verdict);
+                    let graph = format!("{level:?} {verdict:?}\n");
+                    return Err(self.differs("trying every order", brute, "the graph", graph));
+                }
+            }
+        }
+        let Some(judge) = judge else {
+            return Ok(());
+        };
+        match run_judge(judge, &self.bytes) {
+            Ok(theirs) if theirs == ours.as_bytes() => Ok(()),
+            Ok(theirs) => {
+                let theirs = String::from_utf8_lossy(&theirs).into_owned();
+                Err(self.differs("the program", theirs, "the Rust judge", ours))
+            }
+            Err(message) => {
+                let message = format!("did not run: {message}\n");
+                Err(self.differs("the program", message, "the Rust judge", ours))
+            }
+        }
+    }
+
+    fn differs(
+        self,
+        one: &'static str,
+        said: String,
+        other: &'static str,
+        ours: String,
+    ) -> Box<Difference> {
+        Box::new(Difference {
+            subject: self,
+            answers: [(one, said), (other, ours)],
+        })
+    }
+}
+
+/// Runs the program with these bytes as its standard input, and answers its
+/// standard output. Its standard error is passed through.
+fn run_judge(program: &Path, input: &[u8]) -> Result<Vec<u8>, String> {
+    let mut child = Command::new(program)
+        .stdin(Stdio::piped())
+        .stdout(Stdio::piped())
+        .spawn()
+        .map_err(|error| format!("{}: {error}", program.display()))?;
+    let mut stdin = child.stdin.take().expect("standard input is piped");
+    thread::scope(|scope| {
+        // Written beside the reading, so that neither side can block the
+        // other, however much each has to say.
+        let writing = scope.spawn(move || stdin.write_all(input));
+        let output = child
+            .wait_with_output()
+            .map_err(|error| error.to_string())?;
+        match writing.join().expect("the writer does not panic") {
+            // A program may stop reading when it has seen enough.
+            Err(error) if error.kind() != io::ErrorKind::BrokenPipe => {
+                return Err(format!("writing its input: {error}"));
+            }
+            _ => {}
+        }
+        // The specification gives no exit numbers, so any will do; but a
+        // program that a signal ended has not answered.
+        match output.status.code() {
+            Some(_) => Ok(output.stdout),
+            None => Err(format!("ended by {}", output.status)),
+        }
+    })
+}
+
+/// Two answers that should have been one.
+struct Difference {
+    subject: Subject,
+    answers: [(&'static str, String); 2],
+}
+
+impl Difference {
+    /// Writes the trace to a file in the temporary folder, and says the rest.
+    fn describe(&self) -> String {
+        let name = format!(
+            "compare-{}-{}.trace",
+            std::process::id(),
+            self.subject.index
+        );
+        let path = std::env::temp_dir().join(name);
+        let kept = match std::fs::write(&path, &self.subject.bytes) {
+            Ok(()) => format!("its bytes are in {}", path.display()),
+            Err(error) => format!("its bytes could not be kept in {}: {error}", path.display()),
+        };
+        let [(one, said), (other, ours)] = &self.answers;
+        format!(
+            "\nDIFFERENCE in {}\n{kept}\n--- {one} says:\n{said}--- {other} says:\n{ours}",
+            self.subject.name
+        )
+    }
+}
+
+/// How often each thing occurred.
+#[derive(Default)]
+struct Summary {
+    origins: [usize; Origin::ALL.len()],
+    accepted: [usize; 3],
+    rejected: [usize; 3],
+    refusals: [usize; 16],
+    /// Findings by kind, in all traces.
+    kinds: [usize; 7],
+    /// Listed pairs by level and sum of reasons.
+    reasons: [[usize; 16]; 3],
+    /// Verdicts checked by trying every order.
+    brute: usize,
+}
+
+impl Summary {
+    fn count(&mut self, origin: Origin, answer: &Answer) {
+        self.origins[origin as usize] += 1;
+        let verdicts = match answer {
+            Err(refusal) => {
+                self.refusals[usize::from(refusal.number)] += 1;
+                return;
+            }
+            Ok(verdicts) => verdicts,
+        };
+        for (level, verdict) in verdicts.iter().enumerate() {
+            match verdict {
+                Verdict::Accepted(_) => self.accepted[level] += 1,
+                Verdict::Rejected { findings, pairs } => {
+                    self.rejected[level] += 1;
+                    // Findings are the same at each level: counted once.
+                    for finding in findings.iter().filter(|_| level == 0) {
+                        self.kinds[usize::from(finding.kind)] += 1;
+                    }
+                    for pair in pairs {
+                        self.reasons[level][usize::from(pair.reasons)] += 1;
+                    }
+                }
+            }
+        }
+    }
+
+    fn add(&mut self, other: &Summary) {
+        let sum = |to: &mut [usize], from: &[usize]| {
+            for (to, from) in to.iter_mut().zip(from) {
+                *to += from;
+            }
+        };
+        sum(&mut self.origins, &other.origins);
+        sum(&mut self.accepted, &other.accepted);
+        sum(&mut self.rejected, &other.rejected);
+        sum(&mut self.refusals, &other.refusals);
+        sum(&mut self.kinds, &other.kinds);
+        for (to, from) in self.reasons.iter_mut().zip(&other.reasons) {
+            sum(to, from);
+        }
+        self.brute += other.brute;
+    }
+
+    fn describe(&self, options: &Options) -> String {
+        let traces: usize = self.origins.iter().sum();
+        let judges = match &options.judge {
+            Some(path) => format!("by {} and in Rust", path.display()),
+            None => "in Rust only".into(),
+        };
+        let mut lines = vec![
+            format!("{traces} traces of seed {}, judged {judges}", options.seed),
+            format!("{} verdicts also by trying every order", self.brute),
+            "origins:".into(),
+        ];
+        for origin in Origin::ALL {
+            let count = self.origins[origin as usize];
+            lines.push(format!("  {:<26}{count:>9}", origin.describe()));
+        }
+        lines.push("verdicts:".into());
+        for (index, level) in Level::ALL.iter().enumerate() {
+            let (accepted, rejected) = (self.accepted[index], self.rejected[index]);
+            let name = level.name();
+            lines.push(format!(
+                "  {name:<4}accepted {accepted:>9}, rejected {rejected:>9}"
+            ));
+        }
+        lines.push("refusals (1 and 12 to 15 cannot be given by the program):".into());
+        for number in 2..=11 {
+            lines.push(format!("  {number:>2} {:>9}", self.refusals[number]));
+        }
+        let missing: Vec<String> = (2..=11)
+            .filter(|&number| self.refusals[number] == 0)
+            .map(|number| number.to_string())
+            .collect();
+        lines.push(match missing.is_empty() {
+            true => "  every one from 2 to 11 occurred".into(),
+            false => format!("  did not occur: {}", missing.join(" ")),
+        });
+        lines.push("findings by kind:".into());
+        for kind in 1..=6 {
+            lines.push(format!("  {kind:>2} {:>9}", self.kinds[kind]));
+        }
+        lines.push("listed pairs by reason (1 start, 2 session, 4 read, 8 rival):".into());
+        for (level, sums) in Level::ALL.iter().zip(&self.reasons) {
+            let by_reason = [1, 2, 4, 8].map(|reason| {
+                let with = |sum: &usize| sum & reason != 0;
+                let count: usize = (0..16).filter(with).map(|sum| sums[sum]).sum();
+                format!("{reason}: {count}")
+            });
+            lines.push(format!("  {:<4}{}", level.name(), by_reason.join(", ")));
+        }
+        let by_sum: Vec<String> = (1..16)
+            .map(|sum| {
+                (
+                    sum,
+                    self.reasons.iter().map(|sums| sums[sum]).sum::<usize>(),
+                )
+            })
+            .filter(|&(_, count)| count != 0)
+            .map(|(sum, count)| format!("{sum}: {count}"))
+            .collect();
+        lines.push(format!("  by sum, all levels: {}\n", by_sum.join(", ")));
+        lines.join("\n")
+    }
+}

@@ -1,0 +1,57 @@
+//! Turns the specification's notation into the bytes of a trace and back.
+
+use ferozhak_compare::text;
+use std::io::{self, Read, Write};
+use std::process::ExitCode;
+
+const USAGE: &str = "Usage:
+  tracetext encode < text > trace    the bytes of a trace from its text
+  tracetext decode < trace > text    the text of a trace that is not refused
+  tracetext --help                   this, and how the text is written
+";
+
+fn main() -> ExitCode {
+    let arguments: Vec<String> = std::env::args().skip(1).collect();
+    let words: Vec<&str> = arguments.iter().map(String::as_str).collect();
+    let done = match words[..] {
+        ["encode"] => encode(),
+        ["decode"] => decode(),
+        ["--help" | "-h"] => io::stdout()
+            .write_all(format!("{USAGE}\n{}", text::GRAMMAR).as_bytes())
+            .map_err(|error| error.to_string()),
+        _ => {
+            eprint!("{USAGE}");
+            return ExitCode::from(2);
+        }
+    };
+    match done {
+        Ok(()) => ExitCode::SUCCESS,
+        Err(message) => {
+            eprintln!("tracetext: {message}");
+            ExitCode::FAILURE
+        }
+    }
+}
+
+fn encode() -> Result<(), String> {
+    let mut input = Vec::new();
+    io::stdin()
+        .read_to_end(&mut input)
+        .map_err(|error| error.to_string())?;
+    let bytes = text::encode(&input).map_err(|error| error.to_string())?;
+    io::stdout()
+        .write_all(&bytes)
+        .map_err(|error| error.to_string())
+}
+
+fn decode() -> Result<(), String> {
+    let bytes =
+        ferozhak_compare::read_bounded(io::stdin().lock()).map_err(|error| error.to_string())?;
+    let text = text::decode(&bytes).map_err(|refusal| {
+        let (number, place, meaning) = (refusal.number, refusal.place, refusal.meaning());
+        format!("the trace is refused {number} at byte {place}: {meaning}")
+    })?;
+    io::stdout()
+        .write_all(text.as_bytes())
+        .map_err(|error| error.to_string())
+}

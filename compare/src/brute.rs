@@ -1,0 +1,330 @@
+//! Deciding small traces by trying every order.
+//!
+//! An order is tested against the axioms as Biswas and Enea publish them (On
+//! the Complexity of Checking Transactional Consistency, OOPSLA 2019), not
+//! through forced pairs: session order SO and write-read relation WR are part
+//! of the order CO, and for all t1 other than t2, if a read of x in t3 comes
+//! from t1, t2 writes x, and
+//!
+//! * read committed: (t2, that read) is in WR;PO,
+//! * read atomicity: (t2, t3) is in SO or WR,
+//! * causal: (t2, t3) is in the transitive closure of SO and WR together,
+//!
+//! then (t2, t1) is in CO. Transaction 0 is first in SO. The kinds of reads and
+//! the lists of a rejection follow their definitions by plain loops and plain
+//! search; nothing is shared with [`crate::graph`].
+
+use crate::report::{Finding, Level, Pair, Verdict, READ, RIVAL, SESSION, START};
+use crate::trace::{Operation, Trace, MAX_TRANSACTIONS};
+
+/// The most committed transactions besides 0 for which orders are tried.
+pub const MOST: usize = 7;
+
+/// What trying every order says of a trace at a level.
+pub struct Outcome {
+    pub verdict: Verdict,
+    /// Whether some order passes, unclean reads left aside.
+    pub order_exists: bool,
+}
+
+/// Decides, or answers nothing if there are too many orders to try.
+pub fn judge(trace: &Trace, level: Level) -> Option<Outcome> {
+    if trace.transactions.iter().filter(|t| t.committed).count() > MOST {
+        return None;
+    }
+    let small = Small::new(trace);
+    let first_order = small.first_order(level);
+    let order_exists = first_order.is_some();
+    let verdict = match first_order {
+        Some(order) if small.findings.is_empty() => Verdict::Accepted(order),
+        _ => Verdict::Rejected {
+            findings: small.findings.clone(),
+            pairs: small.listed(level),
+        },
+    };
+    Some(Outcome {
+        verdict,
+        order_exists,
+    })
+}
+
+/// The findings, and the listed pairs of the level, by their definitions alone
+/// and for any number of transactions; slowly, if there are many.
+pub fn lists(trace: &Trace, level: Level) -> (Vec<Finding>, Vec<Pair>) {
+    let small = Small::new(trace);
+    let pairs = small.listed(level);
+    (small.findings, pairs)
+}
+
+/// Where a clean external read stands and what it came from.
+struct ExternalRead {
+    index: usize,
+    key: u32,
+    reader: u8,
+    source: u8,
+}
+
+struct Small<'a> {
+    trace: &'a Trace,
+    /// Transaction 0 and the committed ones, ascending.
+    committed: Vec<u8>,
+    findings: Vec<Finding>,
+    reads: Vec<ExternalRead>,
+    /// SO and WR together; 0 is first in SO.
+    so_or_wr: Relation,
+    /// The transitive closure of the same.
+    causal: Relation,
+}
+
+impl<'a> Small<'a> {
+    fn new(trace: &'a Trace) -> Small<'a> {
+        let mut committed = vec![0];
+        committed.extend(
+            (1..)
+                .zip(&trace.transactions)
+                .filter_map(|(number, t)| t.committed.then_some(number)),
+        );
+        let mut small = Small {
+            trace,
+            committed,
+            findings: Vec::new(),
+            reads: Vec::new(),
+            so_or_wr: Relation::default(),
+            causal: Relation::default(),
+        };
+        for (index, operation) in trace.operations.iter().enumerate() {
+            if operation.is_write || !small.committed.contains(&operation.transaction) {
+                continue;
+            }
+            match small.kind(index, operation) {
+                Read::Unclean(kind) => small.findings.push(Finding {
+                    transaction: operation.transaction,
+                    kind,
+                    operation: index as u16 + 1,
+                }),
+                Read::Internal => {}
+                Read::From(source) => small.reads.push(ExternalRead {
+                    index,
+                    key: operation.key,
+                    reader: operation.transaction,
+                    source,
+                }),
+            }
+        }
+        small.so_or_wr = Relation::new(&small.committed, |a, b| {
+            small.start(a, b) || small.session(a, b) || small.wr(a, b)
+        });
+        small.causal = Relation::new(&small.committed, |a, b| small.leads(a, b, &small.so_or_wr));
+        small
+    }
+
+    /// The indexes of the writes of `key` by transaction `t`.
+    fn writes_of(&self, t: u8, key: u32) -> impl Iterator<Item = usize> + '_ {
+        self.operations().filter_map(move |(index, operation)| {
+            (operation.is_write && operation.transaction == t && operation.key == key)
+                .then_some(index)
+        })
+    }
+
+    fn operations(&self) -> impl Iterator<Item = (usize, &'a Operation)> {
+        self.trace.operations.iter().enumerate()
+    }
+
+    /// The six rules, one after another, each in the words of its row.
+    fn kind(&self, index: usize, read: &Operation) -> Read {
+        let (t, key, value) = (read.transaction, read.key, read.value);
+        let write = self
+            .operations()
+            .find(|(_, w)| w.is_write && value != 0 && (w.key, w.value) == (key, value))
+            .map(|(at, w)| (at, w.transaction));
+        if value != 0 && write.is_none() {
+            return Read::Unclean(1);
+        }
+        if write.is_some_and(|(_, author)| author != t && !self.committed.contains(&author)) {
+            return Read::Unclean(2);
+        }
+        if write.is_some_and(|(at, author)| author == t && at > index) {
+            return Read::Unclean(3);
+        }
+        let own_write_between = |from: usize| self.writes_of(t, key).any(|w| from < w && w < index);
+        if write.is_some_and(|(at, author)| author == t && at < index && own_write_between(at)) {
+            return Read::Unclean(4);
+        }
+        let from_other = write.is_none_or(|(_, author)| author != t);
+        if from_other && self.writes_of(t, key).any(|w| w < index) {
+            return Read::Unclean(5);
+        }
+        let again_later = |at: usize, author: u8| self.writes_of(author, key).any(|w| w > at);
+        if write.is_some_and(|(at, author)| author != t && again_later(at, author)) {
+            return Read::Unclean(6);
+        }
+        match write {
+            None => Read::From(0),
+            Some((_, author)) if author == t => Read::Internal,
+            Some((_, author)) => Read::From(author),
+        }
+    }
+
+    /// Whether a committed transaction writes `key`; 0 writes every key.
+    fn writes(&self, t: u8, key: u32) -> bool {
+        t == 0 || self.writes_of(t, key).next().is_some()
+    }
+
+    fn start(&self, a: u8, b: u8) -> bool {
+        a == 0 && b != 0
+    }
+
+    fn session(&self, a: u8, b: u8) -> bool {
+        let session_of = |t: u8| self.trace.transactions[usize::from(t) - 1].session;
+        a != 0 && a < b && session_of(a) == session_of(b)
+    }
+
+    /// WR between transactions.
+    fn wr(&self, a: u8, b: u8) -> bool {
+        self.reads.iter().any(|r| (r.source, r.reader) == (a, b))
+    }
+
+    /// The level's relation between t2 and a read in t3.
+    fn related(&self, level: Level, t2: u8, read: &ExternalRead) -> bool {
+        match level {
+            Level::ReadCommitted => self.reads.iter().any(|earlier| {
+                earlier.reader == read.reader && earlier.index < read.index && earlier.source == t2
+            }),
+            Level::ReadAtomicity => self.so_or_wr.holds(t2, read.reader),
+            Level::Causal => self.causal.holds(t2, read.reader),
+        }
+    }
+
+    /// Whether one or more steps of `pair` lead from `a` to `b`: plain search.
+    fn leads(&self, a: u8, b: u8, pair: &Relation) -> bool {
+        let mut reached: Vec<u8> = Vec::new();
+        let mut from = vec![a];
+        while let Some(here) = from.pop() {
+            for &next in &self.committed {
+                if pair.holds(here, next) && !reached.contains(&next) {
+                    reached.push(next);
+                    from.push(next);
+                }
+            }
+        }
+        reached.contains(&b)
+    }
+
+    /// The first order in dictionary order, 0 first, that passes.
+    fn first_order(&self, level: Level) -> Option<Vec<u8>> {
+        let mut order = self.committed.clone();
+        loop {
+            if self.passes(level, &order) {
+                return Some(order);
+            }
+            if !next_order(&mut order[1..]) {
+                return None;
+            }
+        }
+    }
+
+    /// Whether this order as CO meets the axioms of the level. "If .. then"
+    /// is asked with the "then" first, since that is the quicker question.
+    fn passes(&self, level: Level, order: &[u8]) -> bool {
+        let mut place = [0; MAX_TRANSACTIONS + 1];
+        for (at, &t) in order.iter().enumerate() {
+            place[usize::from(t)] = at;
+        }
+        let in_co = |a: u8, b: u8| place[usize::from(a)] < place[usize::from(b)];
+        let all = |holds: &dyn Fn(u8) -> bool| self.committed.iter().all(|&t| holds(t));
+        all(&|a| all(&|b| in_co(a, b) || !self.so_or_wr.holds(a, b)))
+            && self.reads.iter().all(|read| {
+                let t1 = read.source;
+                all(&|t2| {
+                    t1 == t2
+                        || in_co(t2, t1)
+                        || !self.writes(t2, read.key)
+                        || !self.related(level, t2, read)
+                })
+            })
+    }
+
+    /// The reasons that force the pair at this level, or 0.
+    fn reasons(&self, level: Level, a: u8, b: u8) -> u8 {
+        let rival = self.reads.iter().any(|read| {
+            read.source == b
+                && a != b
+                && a != read.reader
+                && self.writes(a, read.key)
+                && self.related(level, a, read)
+        });
+        [
+            (self.start(a, b), START),
+            (self.session(a, b), SESSION),
+            (self.wr(a, b), READ),
+            (rival, RIVAL),
+        ]
+        .iter()
+        .map(|&(holds, reason)| if holds { reason } else { 0 })
+        .sum()
+    }
+
+    /// The forced pairs whose second leads to their first through forced pairs.
+    fn listed(&self, level: Level) -> Vec<Pair> {
+        let mut forced = Vec::new();
+        for &first in &self.committed {
+            for &second in &self.committed {
+                let reasons = self.reasons(level, first, second);
+                if reasons != 0 {
+                    forced.push(Pair {
+                        first,
+                        second,
+                        reasons,
+                    });
+                }
+            }
+        }
+        let all_forced = forced.clone();
+        let is_forced = Relation::new(&self.committed, |a, b| {
+            all_forced.iter().any(|p| (p.first, p.second) == (a, b))
+        });
+        forced.retain(|p| self.leads(p.second, p.first, &is_forced));
+        forced
+    }
+}
+
+/// A relation between transactions, written down since it is asked often.
+#[derive(Default)]
+struct Relation(Vec<[bool; MAX_TRANSACTIONS + 1]>);
+
+impl Relation {
+    fn new(among: &[u8], holds: impl Fn(u8, u8) -> bool) -> Relation {
+        let mut table = vec![[false; MAX_TRANSACTIONS + 1]; MAX_TRANSACTIONS + 1];
+        for &a in among {
+            for &b in among {
+                table[usize::from(a)][usize::from(b)] = holds(a, b);
+            }
+        }
+        Relation(table)
+    }
+
+    fn holds(&self, a: u8, b: u8) -> bool {
+        self.0[usize::from(a)][usize::from(b)]
+    }
+}
+
+/// What the six rules say of a read.
+enum Read {
+    Unclean(u8),
+    Internal,
+    From(u8),
+}
+
+/// Turns an order into the next one of the dictionary, if there is one.
+fn next_order(order: &mut [u8]) -> bool {
+    let Some(turn) = order.windows(2).rposition(|pair| pair[0] < pair[1]) else {
+        return false;
+    };
+    let swap = order
+        .iter()
+        .rposition(|&t| t > order[turn])
+        .expect("the one after the turn is greater");
+    order.swap(turn, swap);
+    order[turn + 1..].reverse();
+    true
+}

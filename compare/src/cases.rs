@@ -1,0 +1,551 @@
+//! Traces whose answers are known: those of the specification, worked there by
+//! hand, and its edges, each with what `judge` has to print.
+
+use crate::encode::Writer;
+use crate::text;
+use crate::trace::{CLOSE, END, MAX_BYTES, NOTE, OPEN, WRITE};
+
+/// A trace with the output that it must have.
+pub struct Case {
+    pub name: &'static str,
+    pub bytes: Vec<u8>,
+    pub output: String,
+}
+
+/// All of them.
+pub fn all() -> Vec<Case> {
+    let mut cases = document();
+    cases.extend(fine_points());
+    cases.extend(limits());
+    cases.extend(framing());
+    cases.extend(order_of_checks());
+    cases
+}
+
+fn written(name: &'static str, notation: &str, output: String) -> Case {
+    let bytes = text::encode(notation.as_bytes()).unwrap_or_else(|e| panic!("{name}: {e}"));
+    Case {
+        name,
+        bytes,
+        output,
+    }
+}
+
+fn refused(name: &'static str, bytes: Vec<u8>, number: u8, place: usize) -> Case {
+    Case {
+        name,
+        bytes,
+        output: format!("refused {number} {place}\n"),
+    }
+}
+
+/// The same block for all three levels, given without the level's name.
+fn same(block: &str) -> String {
+    ["rc ", "ra ", "tcc "]
+        .map(|level| format!("{level}{block}\n"))
+        .concat()
+}
+
+/// The P table and cases 15 and 16.
+pub fn document() -> Vec<Case> {
+    let two_pairs = "rejected 0 2\npair 1 2 8\npair 2 1 8\n";
+    let one_then_pairs =
+        |order: &str, pairs: &str| format!("rc accepted {order}\nra {pairs}tcc {pairs}");
+    vec![
+        written("P1", "", same("accepted 0")),
+        refused("P2", vec![], 3, 0),
+        written("P3", "T1 r1=5", same("rejected 1 0\nread 1 1 1")),
+        written("P4", "T1 r1=0", same("accepted 0 1")),
+        written(
+            "P5",
+            "T1 w1=5 aborted; T2 r1=5",
+            same("rejected 1 0\nread 2 2 2"),
+        ),
+        written("P6", "T1 r1=5 w1=5", same("rejected 1 0\nread 1 1 3")),
+        written("P7", "T1 w1=5 w1=6 r1=5", same("rejected 1 0\nread 1 3 4")),
+        written(
+            "P8",
+            "T1 w1=5; T2 w1=6 r1=5",
+            same("rejected 1 0\nread 2 3 5"),
+        ),
+        written(
+            "P9",
+            "T1 w1=5 w1=6; T2 r1=5",
+            same("rejected 1 0\nread 2 3 6"),
+        ),
+        written(
+            "P10",
+            "T1 w1=5; T2 w1=6; T3 r1=5 r1=6",
+            one_then_pairs("0 1 2 3", two_pairs),
+        ),
+        written(
+            "P11",
+            "T1 w1=5; T2 w1=6; T3 r1=5 r1=6 r1=5",
+            same("rejected 0 2\npair 1 2 8\npair 2 1 8"),
+        ),
+        written(
+            "P12",
+            "T1 w1=5; T2 r1=5 w2=7; T3 r2=7 r1=0",
+            "rc accepted 0 1 2 3\nra accepted 0 1 2 3\n\
+             tcc rejected 0 2\npair 0 1 9\npair 1 0 8\n"
+                .into(),
+        ),
+        written(
+            "P13",
+            "T1 r2=7 w1=5; T2 r1=5 w2=7",
+            same("rejected 0 2\npair 1 2 4\npair 2 1 4"),
+        ),
+        written(
+            "P14",
+            "T1 s1 w1=5; T2 s1 r1=0",
+            one_then_pairs("0 1 2", "rejected 0 2\npair 0 1 1\npair 1 0 8\n"),
+        ),
+        written(
+            "case 15",
+            "T1 r1=0 w1=5; T2 r1=0 w1=6",
+            same("accepted 0 1 2"),
+        ),
+        written(
+            "case 16",
+            "T1 w1=11 w2=21; T2 w1=12 w2=22; T3 r1=12 r2=21",
+            one_then_pairs("0 2 1 3", two_pairs),
+        ),
+    ]
+}
+
+/// Answers that turn on a single word of the specification, worked by hand.
+pub fn fine_points() -> Vec<Case> {
+    let rc_and_others = |rc: &str, others: &str| format!("rc {rc}ra {others}tcc {others}");
+    vec![
+        written(
+            "rival two back in a session",
+            "T1 s1 w1=5; T2 s1; T3 s1 r1=0",
+            rc_and_others(
+                "accepted 0 1 2 3\n",
+                "rejected 0 2\npair 0 1 1\npair 1 0 8\n",
+            ),
+        ),
+        written(
+            "aborted: no rival, no pair, no finding",
+            "T1 s1 w1=5 aborted; T2 s1 r1=0; T3 s1 r9=9 aborted",
+            same("accepted 0 2"),
+        ),
+        written(
+            "pairs beside a finding",
+            "T1 r2=7 w1=5 r3=3; T2 r1=5 w2=7",
+            same("rejected 1 2\nread 1 3 1\npair 1 2 4\npair 2 1 4"),
+        ),
+        written(
+            "sums of reasons",
+            "T1 s1 w1=1 r3=3; T2 s1 r1=1 w1=2 w3=3; T3 r1=2 r1=1",
+            rc_and_others(
+                "rejected 0 2\npair 1 2 6\npair 2 1 12\n",
+                "rejected 0 2\npair 1 2 14\npair 2 1 12\n",
+            ),
+        ),
+        written(
+            "0 read after another value of the key",
+            "T1 w1=5; T2 r1=5 r1=0",
+            rc_and_others(
+                "rejected 0 2\npair 0 1 1\npair 1 0 8\n",
+                "rejected 0 2\npair 0 1 9\npair 1 0 8\n",
+            ),
+        ),
+        written(
+            "0 as rival at level 1",
+            "T1 w1=5; T2 r1=0 r1=5 r1=0",
+            same("rejected 0 2\npair 0 1 9\npair 1 0 8"),
+        ),
+        written(
+            "internal reads",
+            "T1 w1=5 r1=5 w1=6 r1=6",
+            same("accepted 0 1"),
+        ),
+        written(
+            "kind 5 by value 0",
+            "T1 w1=5 r1=0",
+            same("rejected 1 0\nread 1 2 5"),
+        ),
+        written(
+            "kind 5 before 6",
+            "T1 w1=5 w1=6; T2 w1=7 r1=5",
+            same("rejected 1 0\nread 2 4 5"),
+        ),
+        written(
+            "kind 2 before 5",
+            "T1 w1=5 aborted; T2 w1=6 r1=5",
+            same("rejected 1 0\nread 2 3 2"),
+        ),
+    ]
+}
+
+/// The numbers from 0 to `last`, as in an order.
+fn counting(last: usize) -> String {
+    let numbers: Vec<String> = (0..=last).map(|n| n.to_string()).collect();
+    numbers.join(" ")
+}
+
+/// `count` transactions without operations, each in a session of its own.
+fn empty_transactions(count: u16) -> Writer {
+    let mut writer = Writer::new(0);
+    for session in 1..=count {
+        writer.open(session);
+        writer.close(1);
+    }
+    writer
+}
+
+/// One open transaction with `count` writes.
+fn one_with_writes(count: u64) -> Writer {
+    let mut writer = Writer::new(0);
+    writer.open(1);
+    for value in 1..=count {
+        writer.write(1, value);
+    }
+    writer
+}
+
+/// A trace of notes alone that has exactly this many bytes, 82 or more.
+fn notes_of_size(size: usize) -> Vec<u8> {
+    const HEAD: usize = 8;
+    const END_SIZE: usize = 10;
+    let mut writer = Writer::new(0);
+    loop {
+        let left = size - END_SIZE - writer.bytes.len();
+        // Never leave a rest too small for one more note.
+        let note = match left {
+            0 => return writer.end(),
+            1..=72 => left,
+            73..=80 => left - HEAD,
+            _ => 72,
+        };
+        writer.note(&vec![b'n'; note - HEAD]);
+    }
+}
+
+/// Transactions, operations, bytes, serials, notes; and the longest cycle.
+pub fn limits() -> Vec<Case> {
+    let mut cases = Vec::new();
+    let mut accepted = |name, bytes, order: &str| {
+        cases.push(Case {
+            name,
+            bytes,
+            output: same(&format!("accepted {order}")),
+        })
+    };
+
+    accepted(
+        "127 transactions",
+        empty_transactions(127).end(),
+        &counting(127),
+    );
+    let mut thousand = one_with_writes(1_024);
+    thousand.close(1);
+    accepted("1,024 operations", thousand.end(), "0 1");
+    accepted("32,768 bytes", notes_of_size(MAX_BYTES), "0");
+    for (name, size) in [("note of 0 bytes", 0), ("note of 64 bytes", 64)] {
+        let mut writer = Writer::new(0);
+        writer.note(&vec![0xff; size]);
+        writer.open(1);
+        writer.note(&vec![0; size]);
+        writer.close(1);
+        writer.note(&vec![b'n'; size]);
+        accepted(name, writer.end(), "0 1");
+    }
+    let mut wrap = Writer::new(u32::MAX);
+    wrap.open(1);
+    wrap.close(1);
+    let wrapped = wrap.end();
+    accepted("serial 4,294,967,295 then 0", wrapped.clone(), "0 1");
+
+    let mut beside_wrap = wrapped;
+    // The close record comes after 10 bytes, its serial 4 bytes later.
+    beside_wrap[14] = 1;
+    cases.push(refused("serial 4,294,967,295 then 1", beside_wrap, 5, 10));
+
+    let mut above = empty_transactions(127);
+    let place = above.bytes.len();
+    above.open(128);
+    above.close(1);
+    cases.push(refused("128 transactions", above.end(), 9, place));
+
+    for (name, is_write) in [
+        ("1,025 operations, write", true),
+        ("1,025 operations, read", false),
+    ] {
+        let mut above = one_with_writes(1_024);
+        let place = above.bytes.len();
+        if is_write {
+            above.write(2, 1);
+        } else {
+            above.read(2, 0);
+        }
+        above.close(1);
+        cases.push(refused(name, above.end(), 9, place));
+    }
+
+    let mut long_note = Writer::new(0);
+    long_note.note(b"short");
+    let place = long_note.bytes.len();
+    long_note.note(&[b'n'; 65]);
+    cases.push(refused("note of 65 bytes", long_note.end(), 4, place));
+
+    cases.push(refused(
+        "32,769 bytes",
+        notes_of_size(MAX_BYTES + 1),
+        2,
+        MAX_BYTES,
+    ));
+    cases.push(refused(
+        "33,000 bytes of nothing",
+        vec![0; 33_000],
+        2,
+        MAX_BYTES,
+    ));
+    let mut byte_more = notes_of_size(MAX_BYTES);
+    byte_more.push(0);
+    cases.push(refused(
+        "32,768 bytes and one more",
+        byte_more,
+        2,
+        MAX_BYTES,
+    ));
+
+    // Each reads what the one before wrote, the first what the last wrote.
+    let mut cycle = Writer::new(0);
+    let mut pairs = String::new();
+    for t in 1..=127 {
+        let before = if t == 1 { 127 } else { t - 1 };
+        let behind = if t == 127 { 1 } else { t + 1 };
+        cycle.open(t as u16);
+        cycle.read(before, 7);
+        cycle.write(t, 7);
+        cycle.close(1);
+        pairs.push_str(&format!("\npair {t} {behind} 4"));
+    }
+    cases.push(Case {
+        name: "cycle through 127 transactions",
+        bytes: cycle.end(),
+        output: same(&format!("rejected 0 127{pairs}")),
+    });
+    cases
+}
+
+/// Bytes too few, too many, or not framed.
+pub fn framing() -> Vec<Case> {
+    let lone_transaction = || {
+        let mut writer = Writer::new(0);
+        writer.open(1);
+        writer.write(1, 5);
+        writer.close(1);
+        writer
+    };
+    let with_tail = |tail: &[u8]| [lone_transaction().end().as_slice(), tail].concat();
+    let cut_to = |size: usize| lone_transaction().end()[..size].to_vec();
+    // The records of that trace begin at 0, 10, 30 and 39; it ends at 49.
+    vec![
+        refused("one byte", vec![8], 3, 0),
+        refused("length field alone", vec![8, 0], 3, 0),
+        refused("length 5 and nothing behind it", vec![5, 0], 4, 0),
+        refused(
+            "length 65,535",
+            vec![255, 255, 1, 0, 0, 0, 0, 0, 1, 0],
+            3,
+            0,
+        ),
+        refused("no end record", cut_to(39), 3, 39),
+        refused("no close, no end", cut_to(30), 3, 30),
+        refused("cut in a length field", cut_to(31), 3, 30),
+        refused("cut behind a length field", cut_to(32), 3, 30),
+        refused("end record cut by a byte", cut_to(48), 3, 39),
+        refused("a byte after the end", with_tail(&[0]), 11, 49),
+        refused(
+            "a whole trace after the end",
+            with_tail(&lone_transaction().end()),
+            11,
+            49,
+        ),
+        refused(
+            "end number too small",
+            lone_transaction().end_with(0),
+            8,
+            39,
+        ),
+        refused(
+            "end number too great",
+            lone_transaction().end_with(2),
+            8,
+            39,
+        ),
+        refused(
+            "end number off by 256",
+            lone_transaction().end_with(257),
+            8,
+            39,
+        ),
+    ]
+}
+
+/// Records with more than one thing wrong, and single faults of each row.
+pub fn order_of_checks() -> Vec<Case> {
+    let mut cases = Vec::new();
+    // A trace that begins lawfully, then has a record as told, then goes on.
+    let mut after = |name, start: Writer, kind: u16, payload: &[u8], number: u8| {
+        let place = start.bytes.len();
+        let mut writer = start;
+        writer.record(kind, payload);
+        writer.note(b"more");
+        cases.push(refused(name, writer.end(), number, place));
+    };
+    let outside = || empty_transactions(1);
+    let inside = || one_with_writes(1);
+    let full = || one_with_writes(1_024);
+    let payload = |key: u32, value: u64| {
+        let mut bytes = key.to_le_bytes().to_vec();
+        bytes.extend(value.to_le_bytes());
+        bytes
+    };
+
+    after("kind 0", outside(), 0, &[], 6);
+    after("kind 7", outside(), 7, &[1, 0], 6);
+    after("kind 257, which is not 1", outside(), 257, &[1, 0], 6);
+    after("unknown kind, long: 6 before 4", inside(), 9, &[0; 100], 6);
+    after("open with 3 bytes", outside(), OPEN, &[0; 3], 4);
+    after(
+        "open inside, 3 bytes: 4 before 7",
+        inside(),
+        OPEN,
+        &[0; 3],
+        4,
+    );
+    after(
+        "write outside, 11 bytes: 4 before 7",
+        outside(),
+        WRITE,
+        &[0; 11],
+        4,
+    );
+    after("close without status", inside(), CLOSE, &[], 4);
+    after("end with 1 byte", outside(), END, &[1], 4);
+    after("open inside", inside(), OPEN, &[2, 0], 7);
+    after("write outside", outside(), WRITE, &payload(1, 5), 7);
+    after(
+        "read outside",
+        outside(),
+        crate::trace::READ,
+        &payload(1, 5),
+        7,
+    );
+    after("close outside", outside(), CLOSE, &[1], 7);
+    after("end inside", inside(), END, &[1, 0], 7);
+    after(
+        "end inside, wrong number: 7 before 8",
+        inside(),
+        END,
+        &[9, 0],
+        7,
+    );
+    after(
+        "write of 0 outside: 7 before 8",
+        outside(),
+        WRITE,
+        &payload(1, 0),
+        7,
+    );
+    after("status 2 outside: 7 before 8", outside(), CLOSE, &[2], 7);
+    after("write of 0", inside(), WRITE, &payload(1, 0), 8);
+    after("status 2", inside(), CLOSE, &[2], 8);
+    after("status 255", inside(), CLOSE, &[255], 8);
+    after(
+        "1,025th outside: 7 before 9",
+        {
+            let mut w = full();
+            w.close(1);
+            w
+        },
+        WRITE,
+        &payload(1, 5),
+        7,
+    );
+    after(
+        "1,025th writes 0: 8 before 9",
+        full(),
+        WRITE,
+        &payload(1, 0),
+        8,
+    );
+    after(
+        "1,025th repeats: 9 before 10",
+        full(),
+        WRITE,
+        &payload(1, 5),
+        9,
+    );
+    after("write repeated inside", inside(), WRITE, &payload(1, 1), 10);
+    after(
+        "write repeated by another",
+        {
+            let mut w = inside();
+            w.close(0);
+            w.open(1);
+            w
+        },
+        WRITE,
+        &payload(1, 1),
+        10,
+    );
+    after(
+        "128th open inside: 7 before 9",
+        {
+            let mut w = empty_transactions(126);
+            w.open(127);
+            w
+        },
+        OPEN,
+        &[1, 0],
+        7,
+    );
+
+    // Faults that a writer does not make by itself: serials and lengths.
+    let mut serial_and_kind = outside();
+    let place = serial_and_kind.bytes.len();
+    serial_and_kind.record(9, &[0; 3]);
+    serial_and_kind.bytes[place + 4] ^= 1;
+    cases.push(refused(
+        "serial and kind wrong: 5 before 6",
+        serial_and_kind.end(),
+        5,
+        place,
+    ));
+
+    let mut serial_and_cut = outside();
+    let place = serial_and_cut.bytes.len();
+    serial_and_cut.note(b"cut");
+    serial_and_cut.bytes[place + 4] ^= 1;
+    serial_and_cut.bytes.pop();
+    cases.push(refused(
+        "serial wrong and cut: 3 before 5",
+        serial_and_cut.bytes,
+        3,
+        place,
+    ));
+
+    let mut serial_repeats = outside().end();
+    let place = serial_repeats.len() - 10;
+    serial_repeats[place + 4] -= 1;
+    cases.push(refused("end's serial repeats", serial_repeats, 5, place));
+
+    let mut same_value_other_key = inside();
+    same_value_other_key.write(2, 1);
+    same_value_other_key.close(1);
+    cases.push(Case {
+        name: "same value, other key",
+        bytes: same_value_other_key.end(),
+        output: same("accepted 0 1"),
+    });
+
+    let mut notes_only = Writer::new(9);
+    notes_only.record(NOTE, b"");
+    cases.push(refused("a note and no end", notes_only.bytes, 3, 8));
+    cases
+}

@@ -1,0 +1,372 @@
+//! Deciding by forced pairs, for traces of any lawful size.
+//!
+//! There are at most 127 transactions besides 0, so a set of transactions is
+//! one `u128`, and a relation is a row of them: row b holds every a that stands
+//! before b.
+
+use crate::hash::FastMap;
+use crate::report::{Finding, Level, Pair, Verdict, READ, RIVAL, SESSION, START};
+use crate::trace::{Trace, MAX_TRANSACTIONS};
+
+type Set = u128;
+type Rows = [Set; MAX_TRANSACTIONS + 1];
+
+const EMPTY: Rows = [0; MAX_TRANSACTIONS + 1];
+
+fn only(transaction: u8) -> Set {
+    1 << transaction
+}
+
+/// The members of a set, smallest first.
+fn members(mut set: Set) -> impl Iterator<Item = u8> {
+    std::iter::from_fn(move || {
+        let smallest = (set != 0).then(|| set.trailing_zeros() as u8)?;
+        set &= set - 1;
+        Some(smallest)
+    })
+}
+
+/// A clean external read.
+struct ExternalRead {
+    reader: u8,
+    source: u8,
+    /// Every committed transaction that writes the key read, 0 among them.
+    writers: Set,
+}
+
+/// What a trace says whatever the level.
+pub struct History {
+    /// Transaction 0 and all that committed.
+    committed: Set,
+    findings: Vec<Finding>,
+    /// In the order of the trace, so those of one reader stand together.
+    reads: Vec<ExternalRead>,
+    session_before: Rows,
+    source_before: Rows,
+}
+
+impl History {
+    pub fn new(trace: &Trace) -> History {
+        let mut committed = only(0);
+        let mut session_before = EMPTY;
+        let mut sessions: FastMap<u16, Set> = FastMap::default();
+        for (number, transaction) in (1..).zip(&trace.transactions) {
+            if transaction.committed {
+                let earlier = sessions.entry(transaction.session).or_default();
+                session_before[usize::from(number)] = *earlier;
+                *earlier |= only(number);
+                committed |= only(number);
+            }
+        }
+        let mut history = History {
+            committed,
+            findings: Vec::new(),
+            reads: Vec::new(),
+            session_before,
+            source_before: EMPTY,
+        };
+        history.judge_reads(trace, &Keys::new(trace, committed));
+        history
+    }
+
+    /// Gives every read of a committed transaction its kind.
+    fn judge_reads(&mut self, trace: &Trace, keys: &Keys) {
+        // The last write so far of each key, by any transaction. Transactions
+        // do not overlap, so a transaction's own writes hide no other it needs.
+        let mut last_write: Vec<Option<u16>> = vec![None; keys.writers.len()];
+        for (index, operation) in trace.operations.iter().enumerate() {
+            let slot = usize::from(keys.slot_of[index]);
+            if operation.is_write {
+                last_write[slot] = Some(index as u16);
+                continue;
+            }
+            let reader = operation.transaction;
+            if self.committed & only(reader) == 0 {
+                continue;
+            }
+            let author = |write: u16| trace.operations[usize::from(write)].transaction;
+            let own_last = last_write[slot].filter(|&write| author(write) == reader);
+            // None for value 0 too, which no write has.
+            let write = trace.writes.get(&(operation.key, operation.value)).copied();
+            let kind = match write {
+                None if operation.value != 0 => 1,
+                Some(write) if author(write) == reader => {
+                    if usize::from(write) > index {
+                        3
+                    } else if own_last != Some(write) {
+                        4
+                    } else {
+                        continue; // clean, internal
+                    }
+                }
+                Some(write) if self.committed & only(author(write)) == 0 => 2,
+                _ if own_last.is_some() => 5,
+                Some(write) if keys.written_again[usize::from(write)] => 6,
+                _ => {
+                    let source = write.map_or(0, author);
+                    self.source_before[usize::from(reader)] |= only(source);
+                    self.reads.push(ExternalRead {
+                        reader,
+                        source,
+                        writers: keys.writers[slot],
+                    });
+                    continue;
+                }
+            };
+            self.findings.push(Finding {
+                transaction: reader,
+                kind,
+                operation: index as u16 + 1,
+            });
+        }
+    }
+
+    pub fn judge(&self, level: Level) -> Verdict {
+        let basic = self.basic();
+        let rival_before = self.rivals(level, &basic);
+        let mut before = basic;
+        for (row, rivals) in before.iter_mut().zip(&rival_before) {
+            *row |= rivals;
+        }
+        match smallest_order(&before, self.committed) {
+            Some(order) if self.findings.is_empty() => Verdict::Accepted(order),
+            order => Verdict::Rejected {
+                findings: self.findings.clone(),
+                pairs: match order {
+                    Some(_) => Vec::new(), // nothing leads back
+                    None => self.listed(&before, &rival_before),
+                },
+            },
+        }
+    }
+
+    /// The basic pairs: start, session and read.
+    fn basic(&self) -> Rows {
+        let mut before = EMPTY;
+        for t in members(self.committed & !only(0)).map(usize::from) {
+            before[t] = only(0) | self.session_before[t] | self.source_before[t];
+        }
+        before
+    }
+
+    /// The pairs that the level adds.
+    fn rivals(&self, level: Level, basic: &Rows) -> Rows {
+        let mut before = EMPTY;
+        let mut add = |read: &ExternalRead, related: Set| {
+            let rivals = read.writers & related & !only(read.source) & !only(read.reader);
+            before[usize::from(read.source)] |= rivals;
+        };
+        match level {
+            Level::ReadCommitted => {
+                let mut reader = 0;
+                let mut earlier_sources = 0;
+                for read in &self.reads {
+                    if read.reader != reader {
+                        reader = read.reader;
+                        earlier_sources = 0;
+                    }
+                    add(read, earlier_sources);
+                    earlier_sources |= only(read.source);
+                }
+            }
+            Level::ReadAtomicity => {
+                for read in &self.reads {
+                    add(read, basic[usize::from(read.reader)]);
+                }
+            }
+            Level::Causal => {
+                let leading = Paths::new(basic, self.committed).leading;
+                for read in &self.reads {
+                    add(read, leading[usize::from(read.reader)]);
+                }
+            }
+        }
+        before
+    }
+
+    /// The forced pairs whose second leads to their first: those whose two
+    /// lead to each other.
+    fn listed(&self, before: &Rows, rival_before: &Rows) -> Vec<Pair> {
+        let mutual = Paths::new(before, self.committed).mutual;
+        // The list goes by firsts, so the rows are turned round.
+        let mut seconds = EMPTY;
+        for second in members(self.committed) {
+            for first in members(before[usize::from(second)] & mutual[usize::from(second)]) {
+                seconds[usize::from(first)] |= only(second);
+            }
+        }
+        let count: u32 = seconds.iter().map(|row| row.count_ones()).sum();
+        let mut pairs = Vec::with_capacity(count as usize);
+        for first in members(self.committed) {
+            for second in members(seconds[usize::from(first)]) {
+                let has = |rows: &Rows| rows[usize::from(second)] & only(first) != 0;
+                let mut reasons = 0;
+                // Start puts 0 before every other, whatever else does so too.
+                if first == 0 {
+                    reasons |= START;
+                }
+                if has(&self.session_before) {
+                    reasons |= SESSION;
+                }
+                if has(&self.source_before) {
+                    reasons |= READ;
+                }
+                if has(rival_before) {
+                    reasons |= RIVAL;
+                }
+                pairs.push(Pair {
+                    first,
+                    second,
+                    reasons,
+                });
+            }
+        }
+        pairs
+    }
+}
+
+/// What is known of the keys of a trace.
+struct Keys {
+    /// For each operation, the number of its key among the different keys.
+    slot_of: Vec<u16>,
+    /// For each key, every committed transaction that writes it, with 0.
+    writers: Vec<Set>,
+    /// For each operation that is a write, whether its transaction writes the
+    /// key again later.
+    written_again: Vec<bool>,
+}
+
+impl Keys {
+    fn new(trace: &Trace, committed: Set) -> Keys {
+        let mut slots: FastMap<u32, u16> = FastMap::default();
+        let mut last_write: Vec<Option<usize>> = Vec::new();
+        let mut keys = Keys {
+            slot_of: Vec::with_capacity(trace.operations.len()),
+            writers: Vec::new(),
+            written_again: vec![false; trace.operations.len()],
+        };
+        for (index, operation) in trace.operations.iter().enumerate() {
+            let slot = *slots.entry(operation.key).or_insert_with(|| {
+                keys.writers.push(only(0));
+                last_write.push(None);
+                keys.writers.len() as u16 - 1
+            });
+            keys.slot_of.push(slot);
+            if operation.is_write {
+                let slot = usize::from(slot);
+                keys.writers[slot] |= only(operation.transaction) & committed;
+                if let Some(earlier) = last_write[slot].replace(index) {
+                    keys.written_again[earlier] =
+                        trace.operations[earlier].transaction == operation.transaction;
+                }
+            }
+        }
+        keys
+    }
+}
+
+/// The smallest order: each next place has the smallest transaction that is
+/// free, all before it being placed. None if a cycle leaves some without.
+fn smallest_order(before: &Rows, among: Set) -> Option<Vec<u8>> {
+    let mut order = Vec::with_capacity(among.count_ones() as usize);
+    let mut unplaced = among;
+    let mut free: Set = 0;
+    // Each transaction that is not free waits for one of those before it, and
+    // looks for another when that one is placed: most of a long row is never
+    // looked at. The greatest is taken since it tends to come last.
+    let mut waiting = EMPTY;
+    let mut woken = among;
+    loop {
+        for t in members(woken) {
+            let missing = before[usize::from(t)] & unplaced;
+            match missing.checked_ilog2() {
+                None => free |= only(t),
+                Some(greatest) => waiting[greatest as usize] |= only(t),
+            }
+        }
+        let Some(next) = members(free).next() else {
+            return (unplaced == 0).then_some(order);
+        };
+        order.push(next);
+        free &= !only(next);
+        unplaced &= !only(next);
+        woken = waiting[usize::from(next)];
+    }
+}
+
+/// Where the pairs of a relation lead.
+struct Paths {
+    /// For each transaction, all that lead to it by one or more pairs.
+    leading: Rows,
+    /// For each transaction on a cycle, all that lead to it and that it leads
+    /// to, itself among them.
+    mutual: Rows,
+}
+
+impl Paths {
+    /// The path-based search for strongly connected components. It walks back
+    /// along the pairs and keeps its path as a stack of groups, the members of
+    /// a group leading to one another. A step back onto the path makes one
+    /// group of all it spans. A group with no step left but to finished ones is
+    /// finished itself, and the same transactions lead to all its members.
+    fn new(before: &Rows, among: Set) -> Paths {
+        struct Group {
+            members: Set,
+            /// All that stand before a member by one pair.
+            before: Set,
+        }
+        let mut paths = Paths {
+            leading: EMPTY,
+            mutual: EMPTY,
+        };
+        let mut stack: Vec<Group> = Vec::new();
+        let mut on_path: Set = 0;
+        let mut unseen = among;
+        loop {
+            let mut reachable = unseen;
+            if let Some(mut top) = stack.pop() {
+                let mut back = top.before & on_path & !top.members;
+                while back != 0 {
+                    let below = stack.pop().expect("the path's members are in its groups");
+                    back &= !below.members;
+                    top.members |= below.members;
+                    top.before |= below.before;
+                }
+                reachable &= top.before;
+                if reachable == 0 {
+                    on_path &= !top.members;
+                    paths.finish(top.members, top.before);
+                    continue;
+                }
+                stack.push(top);
+            }
+            let Some(next) = members(reachable).next() else {
+                return paths; // an empty path and nothing unseen
+            };
+            unseen &= !only(next);
+            on_path |= only(next);
+            stack.push(Group {
+                members: only(next),
+                before: before[usize::from(next)],
+            });
+        }
+    }
+
+    /// Enters a finished group. All that stand before it are finished.
+    fn finish(&mut self, group: Set, before: Set) {
+        let mut leading = before;
+        let mut rest = before & !group;
+        while let Some(greatest) = rest.checked_ilog2() {
+            let further = self.leading[greatest as usize];
+            leading |= further;
+            // What leads to those in `further` is in it already.
+            rest &= !(further | 1 << greatest);
+        }
+        // No transaction stands before itself, so one alone is on no cycle.
+        let mutual = if group.is_power_of_two() { 0 } else { group };
+        for t in members(group).map(usize::from) {
+            self.leading[t] = leading;
+            self.mutual[t] = mutual;
+        }
+    }
+}

@@ -1,0 +1,65 @@
+//! An independent judge of transaction traces.
+//!
+//! It is written from the specification `01-scope.md` alone, to be compared
+//! with the proved judge: the two share no code, so a mistake would have to be
+//! made twice, in the same way, to stay unseen.
+//!
+//! * [`trace`] reads the bytes of a trace, or says why they are refused;
+//! * [`graph`] decides by forced pairs, for any trace, and is meant to be fast;
+//! * [`brute`] decides small traces by trying every order against the
+//!   published axioms, and is meant to be obviously right;
+//! * [`report`] holds the answers and prints them as the program `judge` does;
+//! * [`encode`], [`text`], [`generate`] and [`cases`] make traces.
+
+pub mod brute;
+pub mod cases;
+pub mod encode;
+pub mod generate;
+pub mod graph;
+pub mod hash;
+pub mod random;
+pub mod report;
+pub mod text;
+pub mod trace;
+
+use graph::History;
+use report::{Level, Verdict};
+use trace::{Refusal, Trace};
+
+/// The answers for one trace: a verdict a level, or one refusal for all.
+pub type Answer = Result<[Verdict; 3], Refusal>;
+
+/// Judges a trace at all three levels; the trace is read once.
+pub fn judge_all(bytes: &[u8]) -> Answer {
+    Ok(judge_trace(&Trace::parse(bytes)?))
+}
+
+/// Judges a trace that has been read already at all three levels.
+pub fn judge_trace(trace: &Trace) -> [Verdict; 3] {
+    let history = History::new(trace);
+    Level::ALL.map(|level| history.judge(level))
+}
+
+/// Judges a trace at one level, reading it anew.
+pub fn judge_one(bytes: &[u8], level: Level) -> Result<Verdict, Refusal> {
+    Ok(History::new(&Trace::parse(bytes)?).judge(level))
+}
+
+/// What the program `judge` prints for these bytes.
+pub fn judge_text(bytes: &[u8]) -> String {
+    report::print(&judge_all(bytes))
+}
+
+/// Reads all of `input`, but keeps no more than the program `judge` keeps: one
+/// byte above the limit is enough to know that a trace is too long. The rest
+/// is read and dropped, so that a writer is not left with a broken pipe.
+pub fn read_bounded(mut input: impl std::io::Read) -> std::io::Result<Vec<u8>> {
+    use std::io::Read;
+    let mut bytes = Vec::new();
+    input
+        .by_ref()
+        .take(trace::MAX_BYTES as u64 + 1)
+        .read_to_end(&mut bytes)?;
+    std::io::copy(&mut input, &mut std::io::sink())?;
+    Ok(bytes)
+}

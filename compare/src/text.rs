@@ -1,0 +1,489 @@
+//! The specification's own notation for traces, as text.
+//!
+//! ```text
+//! serial 7
+//! note "before all"
+//! T1 w1=5 aborted; T2 s1 r1=5 note "inside" r2=0
+//! ```
+//!
+//! See [`GRAMMAR`] for the whole of it.
+
+use crate::encode::Writer;
+use crate::trace::{self, Refusal, Trace};
+use std::fmt;
+use std::str::FromStr;
+
+/// What may be written, for `tracetext --help`.
+pub const GRAMMAR: &str = r#"Items, parted by ';' or by line ends:
+  serial N          the first serial; only as the first item; default 0
+  T1 ...            a transaction; they are numbered T1, T2, .. in order. Then
+                    may follow, parted by blanks and in this order:
+      sN            its session; default: the transaction's own number
+      rK=V  wK=V    reads and writes of key K, value V, in any number
+      note "text"   a note, anywhere among the reads and writes
+      committed, aborted or status N     default: committed
+  note "text"       a note between transactions
+  end N             an end record with this number; only as the last item;
+                    default: the number of transactions
+In a note's text, \" is a quote, \\ a backslash, \xNN the byte with the
+hexadecimal number NN. A value 0 written, a status above 1, a wrong end number
+or a note of more than 64 bytes is encoded as it stands, to be refused.
+
+Example, case 16:  T1 w1=11 w2=21; T2 w1=12 w2=22; T3 r1=12 r2=21
+"#;
+
+/// What is wrong with a text, and where: line and byte of the line, from 1.
+#[derive(Debug, PartialEq, Eq)]
+pub struct TextError {
+    pub line: usize,
+    pub column: usize,
+    pub message: String,
+}
+
+impl fmt::Display for TextError {
+    fn fmt(&self, f: &mut fmt::Formatter) -> fmt::Result {
+        let TextError {
+            line,
+            column,
+            message,
+        } = self;
+        write!(f, "line {line}, column {column}: {message}")
+    }
+}
+
+#[derive(Clone, Copy)]
+struct Position {
+    line: usize,
+    column: usize,
+}
+
+impl Position {
+    fn error(self, message: impl Into<String>) -> TextError {
+        TextError {
+            line: self.line,
+            column: self.column,
+            message: message.into(),
+        }
+    }
+}
+
+enum Token {
+    Word(String),
+    Quoted(Vec<u8>),
+    /// `;` or the end of a line or of the text.
+    Separator,
+}
+
+/// Turns a text into the bytes of a trace.
+pub fn encode(text: &[u8]) -> Result<Vec<u8>, TextError> {
+    let tokens = Tokens::cut(text)?;
+    Encoder {
+        tokens,
+        writer: Writer::new(0),
+        transactions: 0,
+    }
+    .run()
+}
+
+/// The text of a trace that is not refused: encoding it gives its bytes again.
+pub fn decode(bytes: &[u8]) -> Result<String, Refusal> {
+    Trace::parse(bytes)?;
+    let mut out = String::new();
+    let mut number = 0;
+    let mut inside = false;
+    for (index, record) in trace::records(bytes).enumerate() {
+        if index == 0 && record.serial != 0 {
+            out.push_str(&format!("serial {}\n", record.serial));
+        }
+        let payload = record.payload;
+        match record.kind {
+            trace::OPEN => {
+                number += 1;
+                inside = true;
+                out.push_str(&format!("T{number}"));
+                let session = u16::from_le_bytes([payload[0], payload[1]]);
+                if session != number {
+                    out.push_str(&format!(" s{session}"));
+                }
+            }
+            trace::READ | trace::WRITE => {
+                let letter = if record.kind == trace::READ { 'r' } else { 'w' };
+                let (key, value) = trace::key_and_value(payload);
+                out.push_str(&format!(" {letter}{key}={value}"));
+            }
+            trace::CLOSE => {
+                inside = false;
+                out.push_str(if payload[0] == 1 { "\n" } else { " aborted\n" });
+            }
+            trace::NOTE if inside => out.push_str(&format!(" note {}", quote(payload))),
+            trace::NOTE => out.push_str(&format!("note {}\n", quote(payload))),
+            _ => {} // the end record says nothing that is not known
+        }
+    }
+    Ok(out)
+}
+
+fn quote(text: &[u8]) -> String {
+    let mut out = String::from('"');
+    for &byte in text {
+        match byte {
+            b'"' => out.push_str("\\\""),
+            b'\\' => out.push_str("\\\\"),
+            b' '..=b'~' => out.push(char::from(byte)),
+            _ => out.push_str(&format!("\\x{byte:02x}")),
+        }
+    }
+    out.push('"');
+    out
+}
+
+/// The tokens of a text, looked at one by one.
+struct Tokens {
+    all: Vec<(Position, Token)>,
+    next: usize,
+}
+
+impl Tokens {
+    fn cut(text: &[u8]) -> Result<Tokens, TextError> {
+        let mut all = Vec::new();
+        let (mut line, mut line_start, mut at) = (1, 0, 0);
+        while at < text.len() {
+            let here = Position {
+                line,
+                column: at - line_start + 1,
+            };
+            match text[at] {
+                b'\n' => {
+                    all.push((here, Token::Separator));
+                    at += 1;
+                    (line, line_start) = (line + 1, at);
+                }
+                b';' => {
+                    all.push((here, Token::Separator));
+                    at += 1;
+                }
+                b' ' | b'\t' | b'\r' => at += 1,
+                b'"' => {
+                    let (quoted, length) = unquote(&text[at..], here)?;
+                    all.push((here, Token::Quoted(quoted)));
+                    at += length;
+                }
+                _ => {
+                    let word: Vec<u8> = text[at..]
+                        .iter()
+                        .copied()
+                        .take_while(|byte| !b" \t\r\n;\"".contains(byte))
+                        .collect();
+                    at += word.len();
+                    let word = String::from_utf8_lossy(&word).into_owned();
+                    all.push((here, Token::Word(word)));
+                }
+            }
+        }
+        let end = Position {
+            line,
+            column: text.len() - line_start + 1,
+        };
+        all.push((end, Token::Separator));
+        Ok(Tokens { all, next: 0 })
+    }
+
+    fn peek(&self) -> Option<(Position, &Token)> {
+        self.all.get(self.next).map(|(at, token)| (*at, token))
+    }
+
+    /// The next token if it is a word, left in its place.
+    fn peek_word(&self) -> Option<(Position, String)> {
+        match self.peek() {
+            Some((at, Token::Word(word))) => Some((at, word.clone())),
+            _ => None,
+        }
+    }
+
+    fn position(&self) -> Position {
+        // The last token is a separator that only skipping blank items passes.
+        let (at, _) = &self.all[self.next.min(self.all.len() - 1)];
+        *at
+    }
+
+    fn skip_separators(&mut self) {
+        while let Some((_, Token::Separator)) = self.peek() {
+            self.next += 1;
+        }
+    }
+
+    fn end_of_item(&mut self) -> Result<(), TextError> {
+        match self.peek() {
+            Some((at, Token::Word(word))) => {
+                Err(at.error(format!("'{word}' is not expected here")))
+            }
+            Some((at, Token::Quoted(_))) => Err(at.error("a quoted text is not expected here")),
+            _ => Ok(()),
+        }
+    }
+
+    fn number<N: FromStr + fmt::Display>(&mut self, what: &str, most: N) -> Result<N, TextError> {
+        let at = self.position();
+        let Some((_, word)) = self.peek_word() else {
+            return Err(at.error(format!("a number is missing: {what}")));
+        };
+        self.next += 1;
+        number(&word, at, what, most)
+    }
+
+    fn quoted(&mut self) -> Result<Vec<u8>, TextError> {
+        let at = self.position();
+        let Some((_, Token::Quoted(text))) = self.peek() else {
+            return Err(at.error("a note's text in quotes is missing"));
+        };
+        let text = text.clone();
+        self.next += 1;
+        // A length field counts to 65,535, 6 of them not the text's.
+        if text.len() > 65_529 {
+            return Err(at.error("a note's text cannot have more than 65529 bytes"));
+        }
+        Ok(text)
+    }
+}
+
+/// Plain decimal digits only: the standard parser would take a sign too.
+fn number<N: FromStr + fmt::Display>(
+    word: &str,
+    at: Position,
+    what: &str,
+    most: N,
+) -> Result<N, TextError> {
+    let plain = word.bytes().all(|byte| byte.is_ascii_digit());
+    match word.parse() {
+        Ok(number) if plain => Ok(number),
+        _ => Err(at.error(format!("'{word}' is not a number from 0 to {most}: {what}"))),
+    }
+}
+
+/// Reads a quoted text, whose first byte is the quote at `start`. Answers what
+/// it says and the bytes it takes.
+fn unquote(text: &[u8], start: Position) -> Result<(Vec<u8>, usize), TextError> {
+    let mut out = Vec::new();
+    let mut at = 1;
+    loop {
+        let here = Position {
+            line: start.line,
+            column: start.column + at,
+        };
+        match text.get(at) {
+            None | Some(b'\n') => return Err(start.error("the quote is not closed on its line")),
+            Some(b'"') => return Ok((out, at + 1)),
+            Some(b'\\') => {
+                let (byte, length) = match &text[at + 1..] {
+                    [byte @ (b'"' | b'\\'), ..] => (*byte, 2),
+                    [b'x', high, low, ..] if hex(*high).is_some() && hex(*low).is_some() => {
+                        (hex(*high).unwrap_or(0) * 16 + hex(*low).unwrap_or(0), 4)
+                    }
+                    _ => {
+                        return Err(here.error(r#"after '\' comes '"', '\' or 'x' and two digits"#))
+                    }
+                };
+                out.push(byte);
+                at += length;
+            }
+            Some(&byte) => {
+                out.push(byte);
+                at += 1;
+            }
+        }
+    }
+}
+
+fn hex(digit: u8) -> Option<u8> {
+    char::from(digit).to_digit(16).map(|value| value as u8)
+}
+
+struct Encoder {
+    tokens: Tokens,
+    writer: Writer,
+    transactions: u16,
+}
+
+impl Encoder {
+    fn run(mut self) -> Result<Vec<u8>, TextError> {
+        let mut first_item = true;
+        loop {
+            self.tokens.skip_separators();
+            let Some((at, token)) = self.tokens.peek() else {
+                return Ok(self.writer.end());
+            };
+            let Token::Word(word) = token else {
+                return Err(at.error("a quoted text needs the word 'note' before it"));
+            };
+            let word = word.clone();
+            self.tokens.next += 1;
+            match word.as_str() {
+                "serial" => {
+                    if !first_item {
+                        return Err(at.error("'serial' can only be the first item"));
+                    }
+                    let serial = self.tokens.number("first serial", u32::MAX)?;
+                    self.writer = Writer::new(serial);
+                }
+                "note" => {
+                    let text = self.tokens.quoted()?;
+                    self.writer.note(&text);
+                }
+                "end" => {
+                    let number = self.tokens.number("end number", u16::MAX)?;
+                    self.tokens.end_of_item()?;
+                    self.tokens.skip_separators();
+                    if let Some((at, _)) = self.tokens.peek() {
+                        return Err(at.error("nothing can follow 'end'"));
+                    }
+                    return Ok(self.writer.end_with(number));
+                }
+                _ => self.transaction(&word, at)?,
+            }
+            self.tokens.end_of_item()?;
+            first_item = false;
+        }
+    }
+
+    /// A transaction, whose name has been taken.
+    fn transaction(&mut self, name: &str, at: Position) -> Result<(), TextError> {
+        let Some(digits) = name.strip_prefix('T') else {
+            return Err(at.error(format!(
+                "'{name}' begins no item; expected T1, T2, .., note, serial or end"
+            )));
+        };
+        let given: u16 = number(digits, at, "transaction", u16::MAX)?;
+        if self.transactions.checked_add(1) != Some(given) {
+            let next = u32::from(self.transactions) + 1;
+            return Err(at.error(format!("{name} is out of turn; T{next} comes next")));
+        }
+        self.transactions = given;
+        let mut session = given;
+        if let Some((at, word)) = self.tokens.peek_word() {
+            if let Some(digits) = word.strip_prefix('s').filter(|_| word != "status") {
+                session = number(digits, at, "session", u16::MAX)?;
+                self.tokens.next += 1;
+            }
+        }
+        self.writer.open(session);
+        let mut status = 1;
+        while let Some((at, word)) = self.tokens.peek_word() {
+            self.tokens.next += 1;
+            match word.as_str() {
+                "committed" => break,
+                "aborted" => {
+                    status = 0;
+                    break;
+                }
+                "status" => {
+                    status = self.tokens.number("status", u8::MAX)?;
+                    break;
+                }
+                "note" => {
+                    let text = self.tokens.quoted()?;
+                    self.writer.note(&text);
+                }
+                _ => self.operation(&word, at)?,
+            }
+        }
+        self.writer.close(status);
+        Ok(())
+    }
+
+    fn operation(&mut self, word: &str, at: Position) -> Result<(), TextError> {
+        let wrong = || {
+            at.error(format!(
+                "'{word}' is no r<key>=<value>, w<key>=<value>, note, committed, aborted or status"
+            ))
+        };
+        let is_write = word.starts_with('w');
+        let rest = word.strip_prefix(['r', 'w']).ok_or_else(wrong)?;
+        let (key, value) = rest.split_once('=').ok_or_else(wrong)?;
+        let key = number(key, at, "key", u32::MAX)?;
+        let value = number(value, at, "value", u64::MAX)?;
+        if is_write {
+            self.writer.write(key, value);
+        } else {
+            self.writer.read(key, value);
+        }
+        Ok(())
+    }
+}
+
+#[cfg(test)]
+mod tests {
+    use super::*;
+
+    fn error_of(text: &str) -> String {
+        encode(text.as_bytes()).unwrap_err().to_string()
+    }
+
+    #[test]
+    fn case_16_has_187_bytes() {
+        let bytes = encode(b"T1 w1=11 w2=21; T2 w1=12 w2=22; T3 r1=12 r2=21").unwrap();
+        assert_eq!(bytes.len(), 187);
+    }
+
+    #[test]
+    fn the_text_comes_back() {
+        let text =
+            "serial 4294967295\nnote \"a;\\\"\\\\\\x0a\\xff\"\nT1 s9 w1=5 note \"\" aborted\n\
+                    T2 r1=0 w4294967295=18446744073709551615\nT3\nnote \"z\"\n";
+        let bytes = encode(text.as_bytes()).unwrap();
+        assert_eq!(decode(&bytes).unwrap(), text);
+        assert_eq!(decode(&encode(b"").unwrap()).unwrap(), "");
+    }
+
+    #[test]
+    fn wrong_traces_can_be_written() {
+        let number = |text: &str| {
+            decode(&encode(text.as_bytes()).unwrap())
+                .unwrap_err()
+                .number
+        };
+        assert_eq!(number("T1 status 2"), 8);
+        assert_eq!(number("T1; end 2"), 8);
+        assert_eq!(number("T1 w1=0"), 8);
+        assert_eq!(number("T1 w1=1 w1=1"), 10);
+    }
+
+    #[test]
+    fn errors_say_where() {
+        assert_eq!(
+            error_of("T1;\n T3"),
+            "line 2, column 2: T3 is out of turn; T2 comes next"
+        );
+        assert_eq!(
+            error_of("T1 w1=x"),
+            "line 1, column 4: 'x' is not a number from 0 to 18446744073709551615: value"
+        );
+        assert_eq!(
+            error_of("T1 w1=+5"),
+            "line 1, column 4: '+5' is not a number from 0 to 18446744073709551615: value"
+        );
+        assert_eq!(
+            error_of("note \"abc"),
+            "line 1, column 6: the quote is not closed on its line"
+        );
+        assert_eq!(
+            error_of("note \"a\\n\""),
+            "line 1, column 8: after '\\' comes '\"', '\\' or 'x' and two digits"
+        );
+        assert_eq!(
+            error_of("T1 aborted r1=0"),
+            "line 1, column 12: 'r1=0' is not expected here"
+        );
+        assert_eq!(
+            error_of("T1; serial 5"),
+            "line 1, column 5: 'serial' can only be the first item"
+        );
+        assert_eq!(
+            error_of("serial"),
+            "line 1, column 7: a number is missing: first serial"
+        );
+        assert_eq!(
+            error_of("end 0; T1"),
+            "line 1, column 8: nothing can follow 'end'"
+        );
+    }
+}

@@ -1,0 +1,249 @@
+//! Reading a trace: rows 2 to 11 of the table of refusals.
+//!
+//! Row 1 (the level) has no place here since [`crate::report::Level`] cannot
+//! be wrong, and rows 12 to 15 concern buffers and notes asked for, which this
+//! package does not have.
+
+use crate::hash::FastMap;
+
+pub const MAX_BYTES: usize = 32_768;
+pub const MAX_TRANSACTIONS: usize = 127;
+pub const MAX_OPERATIONS: usize = 1_024;
+pub const MAX_NOTE: usize = 64;
+
+pub const OPEN: u16 = 1;
+pub const READ: u16 = 2;
+pub const WRITE: u16 = 3;
+pub const CLOSE: u16 = 4;
+pub const END: u16 = 5;
+pub const NOTE: u16 = 6;
+
+/// Bytes of a record that its length does not count: the length field itself.
+const LENGTH_FIELD: usize = 2;
+/// Bytes that every length counts: kind and serial.
+const KIND_AND_SERIAL: usize = 6;
+/// Bytes of a read or a write.
+const OPERATION_SIZE: usize = 20;
+
+/// Why a trace is not judged: the number of the row and the place.
+#[derive(Clone, Copy, Debug, PartialEq, Eq)]
+pub struct Refusal {
+    pub number: u8,
+    pub place: usize,
+}
+
+impl Refusal {
+    /// The row's own words, shortened.
+    pub fn meaning(&self) -> &'static str {
+        match self.number {
+            2 => "the trace is longer than 32,768 bytes",
+            3 => "too few bytes are left for a record, or no end record came",
+            4 => "length below 6, or not this kind's",
+            5 => "serial does not follow",
+            6 => "unknown kind",
+            7 => "record not lawful here: inside or outside a transaction",
+            8 => "written value 0, status above 1, or wrong end number",
+            9 => "128th open or 1,025th operation",
+            10 => "a write repeats an earlier write's key and value",
+            11 => "bytes follow the end record",
+            _ => "not given when reading a trace",
+        }
+    }
+}
+
+/// A read or a write. Its number in the trace is its index plus one.
+#[derive(Clone, Copy, Debug, PartialEq, Eq)]
+pub struct Operation {
+    /// The number of its transaction, from 1.
+    pub transaction: u8,
+    pub is_write: bool,
+    pub key: u32,
+    pub value: u64,
+}
+
+/// A transaction. Its number is its index plus one.
+#[derive(Clone, Copy, Debug, PartialEq, Eq)]
+pub struct Transaction {
+    pub session: u16,
+    pub committed: bool,
+}
+
+/// A trace that is not refused.
+#[derive(Debug)]
+pub struct Trace {
+    pub transactions: Vec<Transaction>,
+    pub operations: Vec<Operation>,
+    /// The index of the only operation that writes this key and value.
+    pub writes: FastMap<(u32, u64), u16>,
+}
+
+impl Trace {
+    /// Reads the bytes of a trace, checking in the order of the specification.
+    pub fn parse(bytes: &[u8]) -> Result<Trace, Refusal> {
+        if bytes.len() > MAX_BYTES {
+            return Err(Refusal {
+                number: 2,
+                place: MAX_BYTES,
+            });
+        }
+        let expected_operations = (bytes.len() / OPERATION_SIZE).min(MAX_OPERATIONS);
+        let mut trace = Trace {
+            transactions: Vec::new(),
+            operations: Vec::with_capacity(expected_operations),
+            // Most traces have about as many reads as writes.
+            writes: FastMap::with_capacity_and_hasher(expected_operations / 2, Default::default()),
+        };
+        let mut inside = false;
+        let mut expected_serial = None;
+        let mut offset = 0;
+        loop {
+            let refused = |number| Refusal {
+                number,
+                place: offset,
+            };
+            let record = Record::at(&bytes[offset..]).map_err(refused)?;
+            if expected_serial.is_some_and(|serial| serial != record.serial) {
+                return Err(refused(5));
+            }
+            expected_serial = Some(record.serial.wrapping_add(1));
+            trace.take(&record, &mut inside).map_err(refused)?;
+            offset += record.size();
+            if record.kind == END {
+                break;
+            }
+        }
+        if offset < bytes.len() {
+            return Err(Refusal {
+                number: 11,
+                place: offset,
+            });
+        }
+        Ok(trace)
+    }
+
+    /// Checks one record from row 6 on, and enters what it says.
+    fn take(&mut self, record: &Record, inside: &mut bool) -> Result<(), u8> {
+        let payload = record.payload;
+        let lawful_size = match record.kind {
+            OPEN | END => payload.len() == 2,
+            READ | WRITE => payload.len() == 12,
+            CLOSE => payload.len() == 1,
+            NOTE => payload.len() <= MAX_NOTE,
+            _ => return Err(6),
+        };
+        if !lawful_size {
+            return Err(4);
+        }
+        let lawful_here = match record.kind {
+            NOTE => true,
+            OPEN | END => !*inside,
+            _ => *inside,
+        };
+        if !lawful_here {
+            return Err(7);
+        }
+        match record.kind {
+            OPEN => {
+                if self.transactions.len() == MAX_TRANSACTIONS {
+                    return Err(9);
+                }
+                self.transactions.push(Transaction {
+                    session: u16::from_le_bytes([payload[0], payload[1]]),
+                    committed: false,
+                });
+                *inside = true;
+            }
+            READ | WRITE => {
+                let is_write = record.kind == WRITE;
+                let (key, value) = key_and_value(payload);
+                if is_write && value == 0 {
+                    return Err(8);
+                }
+                let index = self.operations.len();
+                if index == MAX_OPERATIONS {
+                    return Err(9);
+                }
+                if is_write && self.writes.insert((key, value), index as u16).is_some() {
+                    return Err(10);
+                }
+                self.operations.push(Operation {
+                    transaction: self.transactions.len() as u8,
+                    is_write,
+                    key,
+                    value,
+                });
+            }
+            CLOSE => {
+                if payload[0] > 1 {
+                    return Err(8);
+                }
+                if let Some(transaction) = self.transactions.last_mut() {
+                    transaction.committed = payload[0] == 1;
+                }
+                *inside = false;
+            }
+            END => {
+                let number = u16::from_le_bytes([payload[0], payload[1]]);
+                if usize::from(number) != self.transactions.len() {
+                    return Err(8);
+                }
+            }
+            _ => {}
+        }
+        Ok(())
+    }
+}
+
+/// Key and value from the payload of a read or a write, which has 12 bytes.
+pub fn key_and_value(payload: &[u8]) -> (u32, u64) {
+    let (key, value) = payload.split_at(4);
+    (
+        u32::from_le_bytes(key.try_into().expect("4 bytes")),
+        u64::from_le_bytes(value.try_into().expect("8 bytes")),
+    )
+}
+
+/// One record, framed but not understood.
+pub struct Record<'a> {
+    pub kind: u16,
+    pub serial: u32,
+    pub payload: &'a [u8],
+}
+
+impl<'a> Record<'a> {
+    /// The record that `bytes` begin with, or the number of the refusal.
+    fn at(bytes: &'a [u8]) -> Result<Record<'a>, u8> {
+        let [low, high, rest @ ..] = bytes else {
+            return Err(3);
+        };
+        let length = usize::from(u16::from_le_bytes([*low, *high]));
+        if length < KIND_AND_SERIAL {
+            return Err(4);
+        }
+        if rest.len() < length {
+            return Err(3);
+        }
+        let (head, payload) = rest[..length].split_at(KIND_AND_SERIAL);
+        Ok(Record {
+            kind: u16::from_le_bytes([head[0], head[1]]),
+            serial: u32::from_le_bytes([head[2], head[3], head[4], head[5]]),
+            payload,
+        })
+    }
+
+    /// The bytes it takes in the trace.
+    pub fn size(&self) -> usize {
+        LENGTH_FIELD + KIND_AND_SERIAL + self.payload.len()
+    }
+}
+
+/// The records of `bytes` as far as they are framed rightly; for a trace that
+/// is not refused, all of them.
+pub fn records(bytes: &[u8]) -> impl Iterator<Item = Record<'_>> {
+    let mut offset = 0;
+    std::iter::from_fn(move || {
+        let record = Record::at(&bytes[offset..]).ok()?;
+        offset += record.size();
+        Some(record)
+    })
+}

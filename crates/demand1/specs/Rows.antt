@@ -22,6 +22,9 @@ module _ (s : List ℕ) (at : ℕ) where
   abbrev pub serial : ℕ
   serial = le 4 s (at + 4)
 
+  abbrev pub session : ℕ
+  session = le 2 s (at + 8)
+
   abbrev pub key : ℕ
   key = le 4 s (at + 8)
 

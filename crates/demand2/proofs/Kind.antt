@@ -15,7 +15,7 @@ use Rattle.rules.specs.History.{History, op, opCount, committed, writesValue, w
 use Rattle.rules.specs.Reads.{writesAt, wroteBetween, originOf, sourceOf, kindBy, kindOf, isJudged, isFinding}
 use Rattle.rules.specs.Outcome.{findings}
 use Rattle.demand2.proofs.Lists.{those-none}
-use Rattle.demand2.specs.Lawful.{LawfulHistory}
+use Rattle.demand1.specs.Lawful.{IsWrite, LawfulHistory}
 use Rattle.demand2.specs.Kinds.{WriteIn, WriteOf, JudgedRead, WroteBefore, FromOther, Fits, thin-air, aborted, future, not-my-last, not-my-own, intermediate, HasKind, Clean, AllClean}
 
 -- ── writes ──
@@ -83,14 +83,16 @@ unfolding writesValue
 write-value k = both _ _ (both _ _ (eq-eqb _ _ (k .of-value)) (k .in-it .is-write)) (eq-eqb _ _ (k .in-it .of-key))
 
 -- none has value 0, and no two have the same key and value
+as-write : {h : History} {u x v w : ℕ} → WriteOf h u x v w → IsWrite h x v w
+as-write k =
+    let i = k .in-it in
+    record { is-op = record { from = i .from; to = i .to }; is-write = i .is-write; of-key = i .of-key; of-value = k .of-value }
+
 not-0 : {h : History} {u x v w : ℕ} → LawfulHistory h → WriteOf h u x v w → v ≡ 0 → ⊥
-not-0 ok k z = let i = k .in-it in ok .no-zero _ (i .from) (i .to) (i .is-write) (k .of-value ∙ z)
+not-0 ok k z = ok .not-zero _ _ (as-write (rw z at k))
 
 same-write : {h : History} {u u' x v w w' : ℕ} → LawfulHistory h → WriteOf h u x v w → WriteOf h u' x v w' → w ≡ w'
-same-write ok k l =
-    let i = k .in-it in
-    let j = l .in-it in
-    ok .once _ _ (i .from) (i .to) (j .from) (j .to) (i .is-write) (j .is-write) (i .of-key ∙ sym (j .of-key)) (k .of-value ∙ sym (l .of-value))
+same-write ok k l = ok .one-write _ _ _ _ (as-write k) (as-write l)
 
 -- number 0 is no operation's
 op-0 : (h : History) → op h 0 .tx ≡ 0

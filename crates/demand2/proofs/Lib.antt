@@ -1,3 +1,4 @@
 pub mod Lists
 pub mod Kind
 pub mod Pairs
+pub mod Axiom

@@ -156,7 +156,7 @@ module _ (h : History) (a b : ℕ) where
   so-members (from-0 e l m) = (rw e (member-0 h), m)
   so-members (in-session l k m n e) = (m, n)
 
-  so-apart : SO h a b → a ≡ b → ⊥
+  pub so-apart : SO h a b → a ≡ b → ⊥
   so-apart (from-0 e l m) d = omega arith
   so-apart (in-session l k m n e) d = omega arith
 

@@ -2,3 +2,4 @@ pub mod Lists
 pub mod Kind
 pub mod Pairs
 pub mod Axiom
+pub mod Accepted

@@ -3,3 +3,4 @@ pub mod Kind
 pub mod Pairs
 pub mod Axiom
 pub mod Accepted
+pub mod Traces

@@ -14,7 +14,7 @@ use Rattle.rules.specs.Reading.{State, begin, after, entered, Stretch}
 use Rattle.demand1.specs.Lawful.{IsOp, IsWrite, IsTx, LawfulHistory}
 use Rattle.demand1.specs.Rows.{kind, session, key, value, status, endNumber, Inside, Passes, inPlace, valueLawful, withinLimit, newWrite, open-inside, read-outside, write-outside, close-outside, end-inside, written-0, status-above-1, open-128th, read-1025th, write-1025th, Reaches, start, on, Reads, to-the-end}
 use Rattle.demand1.proofs.Histories.{op-count, op-old, op-new, open-count, open-old, open-new, close-count, close-this, close-other, inside-current, inside-or-not}
-use Rattle.demand1.proofs.Events.{Framed, framed, Shape, opens, reads, writes, closes, ends, notes, shape, end-event, same-or, at-least, below}
+use Rattle.demand1.proofs.Events.{passes-framed, Shape, open-record, read-record, write-record, close-record, end-record, note-record, shape, end-event, same-or, at-least, below}
 
 -- ── operations ──
 
@@ -178,34 +178,34 @@ module _ {s : List ℕ} {st : State} (p : Passes s st) (g : Growing (st .history
   -- a passing record's event leaves the history growing
   grown : Shape s (st .at) → Growing (after s st .history)
   unfolding after entered opened closed
-  grown (opens k e) =
+  grown (open-record k e) =
       rw e
       (record {
         ops = ops-kept (opened (st .history) (session s (st .at))) refl (omega (arith, open-count (st .history) (session s (st .at)))) (g .ops);
         txs = txs-more (session s (st .at)) (g .txs) (λ i. p inPlace (open-inside k i)) (below _ 127 (λ l. p withinLimit (open-128th k l)));
       })
-  grown (reads k e) =
+  grown (read-record k e) =
       rw e
       (grown-op (record { tx = current (st .history); isWrite = false; key = key s (st .at); value = value s (st .at) }) g
       (inside (λ o. p inPlace (read-outside k o))) refl (below _ 1024 (λ l. p withinLimit (read-1025th k l))) (λ w. absurd (clash w refl)) (λ w. absurd (clash w refl)))
-  grown (writes k e) =
+  grown (write-record k e) =
       rw e
       (grown-op (record { tx = current (st .history); isWrite = true; key = key s (st .at); value = value s (st .at) }) g
       (inside (λ o. p inPlace (write-outside k o))) refl (below _ 1024 (λ l. p withinLimit (write-1025th k l))) (λ _ z. p valueLawful (written-0 k z))
-      (λ _ i w. p newWrite (record { writes = k; by = i; from = w .is-op .from; to = w .is-op .to; is-write = w .is-write; same-key = w .of-key; same-value = w .of-value })))
-  grown (closes k e) =
+      (λ _ i w. p newWrite (record { writes = k; by = i; earlier = w })))
+  grown (close-record k e) =
       rw e
       (record {
         ops = ops-kept (closed (st .history) (current (st .history)) (status s (st .at))) refl (omega (arith, close-count (st .history) (current (st .history)) (status s (st .at)))) (g .ops);
         txs = txs-close (status s (st .at)) (g .txs) (inside (λ o. p inPlace (close-outside k o))) (at-least _ 1 (λ l. p valueLawful (status-above-1 k l)));
       })
-  grown (ends k e) = rw e g
-  grown (notes k e) = rw e g
+  grown (end-record k e) = rw e g
+  grown (note-record k e) = rw e g
 
 -- the history of a state that reading comes to
 growing : {s : List ℕ} {st : State} → Reaches s st → Growing (st .history)
 growing start = growing-begin
-growing (on r p d) = grown p (growing r) (shape (framed (λ c _. p c)))
+growing (on r p d) = grown p (growing r) (shape (passes-framed p))
 
 -- an end record leaves the history as it is
 end-keeps : (s : List ℕ) (st : State) → eventAt s (st .at) ≡ End (endNumber s (st .at)) → after s st .history ≡ st .history
@@ -215,7 +215,7 @@ end-keeps s st e = rw e
 -- a trace that is read gives a lawful history
 pub lawful-history : {s : List ℕ} {h : History} {notes : List Stretch} → Reads s h notes → LawfulHistory h
 lawful-history {s} (to-the-end {st} l r p k e) =
-    rw (end-keeps s st (end-event (framed (λ c _. p c)) k))
+    rw (end-keeps s st (end-event (passes-framed p) k))
     (let g = growing r in
     record {
       few-txs = g .txs .few-txs;

@@ -1,3 +1,6 @@
 pub mod Histories
 pub mod Events
 pub mod Lawful
+pub mod Checks
+pub mod Refusals
+pub mod Readings

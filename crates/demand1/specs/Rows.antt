@@ -6,9 +6,10 @@ use mathlib.Core.List.{List}
 use mathlib.Core.Logic.{_⊎_}
 use lib.ListN.{length, getD}
 use Rattle.rules.specs.Numbers.{le}
-use Rattle.rules.specs.History.{History, tx, op, txCount, opCount}
+use Rattle.rules.specs.History.{History, tx, txCount, opCount}
 use Rattle.rules.specs.Reading.{State, begin, after, Stretch}
 use Rattle.rules.specs.Outcome.{isAccepted, findingList, pairList, order}
+use Rattle.demand1.specs.Lawful.{IsWrite}
 
 -- ── a record's fields, by their offsets ──
 
@@ -109,11 +110,7 @@ pub data Excess (k : ℕ) (h : History) : Type 0 where
 pub record Repeated (s : List ℕ) (at : ℕ) (h : History) : Type 0 where
   pub writes : kind s at ≡ 3
   pub by : ℕ
-  pub from : 1 ≤ by
-  pub to : by ≤ opCount h
-  pub is-write : op h by .isWrite ≡ true
-  pub same-key : op h by .key ≡ key s at
-  pub same-value : op h by .value ≡ value s at
+  pub earlier : IsWrite h (key s at) (value s at) by
 
 -- the check fails at the record that a state has come to
 abbrev pub Fails : List ℕ → State → Check → Type 0
@@ -131,6 +128,11 @@ Fails s st newWrite = Repeated s (st .at) (st .history)
 abbrev pub Passes : List ℕ → State → Type 0
 Passes s st = (c : Check) → Fails s st c → ⊥
 
+-- c is the first check that fails
+pub record FirstFailing (s : List ℕ) (st : State) (c : Check) : Type 0 where
+  pub fails : Fails s st c
+  pub none-before : (d : Check) → rank d < rank c → Fails s st d → ⊥
+
 -- ── how far reading comes, and how it ends ──
 
 -- the records up to a state pass every check, and none of them is the end
@@ -141,8 +143,7 @@ pub data Reaches (s : List ℕ) : State → Type 0 where
 -- row n refuses the trace at place p, and nothing earlier in the document's order does
 pub data Refuses (s : List ℕ) : ℕ → ℕ → Type 0 where
   too-long : 32768 < length s → Refuses s 2 32768
-  at-record : {st : State} → length s ≤ 32768 → Reaches s st → (c : Check) → Fails s st c → ((d : Check) → rank d < rank c → Fails s st d → ⊥)
-      → Refuses s (numberOf c) (st .at)
+  at-record : {st : State} {c : Check} → length s ≤ 32768 → Reaches s st → FirstFailing s st c → Refuses s (numberOf c) (st .at)
   bytes-behind : {st : State} → length s ≤ 32768 → Reaches s st → Passes s st → kind s (st .at) ≡ 5 → behind s (st .at) < length s
       → Refuses s 11 (behind s (st .at))
 
@@ -150,6 +151,13 @@ pub data Refuses (s : List ℕ) : ℕ → ℕ → Type 0 where
 pub data Reads (s : List ℕ) : History → List Stretch → Type 0 where
   to-the-end : {st : State} → length s ≤ 32768 → Reaches s st → Passes s st → kind s (st .at) ≡ 5 → behind s (st .at) ≡ length s
       → Reads s (after s st .history) (after s st .notes)
+
+-- every trace is refused, on one row and at one place, or read, in one way, and never both
+pub record OneOutcome (s : List ℕ) : Type 0 where
+  pub either : ((n : ℕ) × (p : ℕ) × Refuses s n p) ⊎ ((h : History) × (notes : List Stretch) × Reads s h notes)
+  pub not-both : (n p : ℕ) (h : History) (notes : List Stretch) → Refuses s n p → Reads s h notes → ⊥
+  pub one-refusal : (n p m q : ℕ) → Refuses s n p → Refuses s m q → (n ≡ m) × (p ≡ q)
+  pub one-reading : (h g : History) (notes texts : List Stretch) → Reads s h notes → Reads s g texts → (h ≡ g) × (notes ≡ texts)
 
 -- the outcome of judging is a refusal with number n and place p: rows 1 to 14, with buffers of f, p and o bytes
 pub data Declines (s : List ℕ) (level f p o : ℕ) : ℕ → ℕ → Type 0 where

@@ -2,7 +2,7 @@
 use Prim.Native.Nat.{ℕ, _<_, _≤_}
 use mathlib.Core.Path.{_≡_, refl, ap, sym, _∙_}
 use mathlib.Core.Bool.{true, false}
-use mathlib.Core.Logic.{_↔_}
+use mathlib.Core.Logic.{⊎-elim, _↔_}
 use mathlib.Core.List.{List}
 use native.Mathlib.Omega.{arith}
 use lib.Dec.{ltb}
@@ -15,7 +15,10 @@ use Rattle.rules.specs.History.{History, size, committed}
 use Rattle.rules.specs.Reading.{Stretch, Reading, refused, read, reading}
 use Rattle.rules.specs.Outcome.{findings, findingList, pairs, pairList, order, isAccepted, Report, declines, rejects, accepts, declining, rejecting, accepting, Outcome, outcome, acceptance, rejection, judgedRead, isLevel, judged}
 use Rattle.demand1.specs.Lawful.{LawfulHistory}
-use Rattle.demand2.specs.Accepted.{Accepts, OrderWritten}
+use Rattle.demand1.specs.Rows.{Reads}
+use Rattle.demand1.proofs.Lawful.{lawful-history}
+use Rattle.demand1.proofs.Readings.{refuses-iff, reads-iff, one-outcome}
+use Rattle.demand2.specs.Accepted.{Accepts, AcceptsTrace, OrderWritten}
 use Rattle.demand2.proofs.Accepted.{accepted-shows, order-first, order-length}
 
 -- ── reports ──
@@ -49,37 +52,38 @@ module _ (h : History) (level : ℕ) (fs ps os : List ℕ) where
 
 -- ── from bytes ──
 
--- the trace is read, at a lawful level, and accepted, with an order of n that fits
-record Came (r : Reading) (level n room : ℕ) (h : History) (notes : List Stretch) : Type 0 where
-  is-read : r ≡ read h notes
+-- the history is accepted, with an order of n that fits
+record Came (h : History) (level n room : ℕ) : Type 0 where
   accepted : isAccepted h level ≡ true
   is-long : length (order h level) ≡ n
   fits : length (order h level) ≤ room
 
 module _ (level : ℕ) (fs ps os : List ℕ) where
-  -- only that is answered by an acceptance
-  came : {n : ℕ} (r : Reading) → judgedRead r level fs ps os .report ≡ accepting n
-      → (h : History) × (notes : List Stretch) × Came r level n (length os) h notes
+  -- a refused trace is not answered by an acceptance, and a history only if it is accepted
+  refused-not : (k p : ℕ) {n : ℕ} → judgedRead (refused k p) level fs ps os .report ≡ accepting n → ⊥
   unfolding judgedRead
-  came (refused k p) e = absurd (declining-not e)
-  came {n} (read h notes) e =
-      ifso (isAccepted h level)
-      (λ t.
-      let f = sym (ap (λ (x : Outcome). x .report) (pick-on _ _ _ t)) ∙ e in
-      ifso (ltb (length os) (length (order h level))) (λ u. absurd (acceptance-short h level fs ps os (ltb-true _ _ u) f))
-      (λ u.
-      let l = ltb-false (length os) (length (order h level)) u in
-      let g = sym (ap (λ (x : Outcome). x .report) (acceptance-room h level fs ps os l)) ∙ f in
-      (h, notes, record { is-read = refl; accepted = t; is-long = ap (λ (x : Report). x .order) g; fits = l })))
-      (λ t. absurd (rejection-not h level fs ps os (sym (ap (λ (x : Outcome). x .report) (pick-off _ _ _ t)) ∙ e)))
+  refused-not k p e = declining-not e
 
-  -- and that always is
-  goes : {n : ℕ} (r : Reading) {h : History} {notes : List Stretch} → Came r level n (length os) h notes
-      → judgedRead r level fs ps os ≡ outcome (accepting n) fs ps (over (order h level) os)
-  unfolding judgedRead
-  goes r {h} {notes} c =
-      ap (λ (x : Reading). judgedRead x level fs ps os) (c .is-read) ∙ pick-on _ _ _ (c .accepted) ∙ acceptance-room h level fs ps os (c .fits)
-      ∙ ap (λ (k : ℕ). outcome (accepting k) fs ps (over (order h level) os)) (c .is-long)
+  module _ (h : History) (notes : List Stretch) {n : ℕ} where
+    came : judgedRead (read h notes) level fs ps os .report ≡ accepting n → Came h level n (length os)
+    unfolding judgedRead
+    came e =
+        ifso (isAccepted h level)
+        (λ t.
+        let f = sym (ap (λ (x : Outcome). x .report) (pick-on _ _ _ t)) ∙ e in
+        ifso (ltb (length os) (length (order h level))) (λ u. absurd (acceptance-short h level fs ps os (ltb-true _ _ u) f))
+        (λ u.
+        let l = ltb-false (length os) (length (order h level)) u in
+        let g = sym (ap (λ (x : Outcome). x .report) (acceptance-room h level fs ps os l)) ∙ f in
+        record { accepted = t; is-long = ap (λ (x : Report). x .order) g; fits = l }))
+        (λ t. absurd (rejection-not h level fs ps os (sym (ap (λ (x : Outcome). x .report) (pick-off _ _ _ t)) ∙ e)))
+
+    -- and then it always is
+    goes : Came h level n (length os) → judgedRead (read h notes) level fs ps os ≡ outcome (accepting n) fs ps (over (order h level) os)
+    unfolding judgedRead
+    goes c =
+        pick-on _ _ _ (c .accepted) ∙ acceptance-room h level fs ps os (c .fits)
+        ∙ ap (λ (k : ℕ). outcome (accepting k) fs ps (over (order h level) os)) (c .is-long)
 
 -- levels are 1 to 3
 level-iff : (level : ℕ) → (isLevel level ≡ true) ↔ ((1 ≤ level) × (level ≤ 3))
@@ -91,12 +95,66 @@ level-iff level = (
 
 module _ (s : List ℕ) (level : ℕ) (fs ps os : List ℕ) where
   -- at a lawful level the reading decides
-  judged-level : (1 ≤ level) × (level ≤ 3) → judged s level fs ps os ≡ judgedRead (reading s) level fs ps os
+  judged-level : 1 ≤ level → level ≤ 3 → {r : Reading} → reading s ≡ r → judged s level fs ps os ≡ judgedRead r level fs ps os
   unfolding judged
-  judged-level l = pick-on _ _ _ (level-iff level .1 l)
+  judged-level low high e = pick-on _ _ _ (level-iff level .1 (low, high)) ∙ ap (λ (x : Reading). judgedRead x level fs ps os) e
 
   accepting-level : {n : ℕ} → judged s level fs ps os .report ≡ accepting n → (1 ≤ level) × (level ≤ 3)
   unfolding judged
   accepting-level e =
       ifso (isLevel level) (λ t. level-iff level .0 t)
       (λ t. absurd (declining-not (sym (ap (λ (x : Outcome). x .report) (pick-off _ _ _ t)) ∙ e)))
+
+  module _ (low : 1 ≤ level) (high : level ≤ 3) {h : History} {notes : List Stretch} (r : Reads s h notes) where
+    judged-is : judged s level fs ps os ≡ judgedRead (read h notes) level fs ps os
+    judged-is = judged-level low high (reads-iff s h notes .1 r)
+
+    came-iff : {n : ℕ} → Came h level n (length os) ↔ Accepts h level n (length os)
+    came-iff =
+        let ok = lawful-history r in
+        let a = accepted-shows ok low high in (
+          λ c.
+              let x = a .0 (c .accepted) in
+              record { clean = x .0; shown = x .1; each = sym (c .is-long) ∙ order-length ok low high (c .accepted); fits = omega (arith, c .is-long, c .fits) },
+          λ x.
+              let t = a .1 (x .clean, x .shown) in
+              let e = order-length ok low high t in
+              record { accepted = t; is-long = e ∙ sym (x .each); fits = omega (arith, e, x .each, x .fits) },
+        )
+
+    -- a trace that is read is accepted, with n, exactly if its history is
+    pub accepted-read : {n : ℕ} → (judged s level fs ps os .report ≡ accepting n) ↔ Accepts h level n (length os)
+    accepted-read = (
+      λ e. came-iff .0 (came level fs ps os h notes (sym (ap (λ (x : Outcome). x .report) judged-is) ∙ e)),
+      λ a. ap (λ (x : Outcome). x .report) (judged-is ∙ goes level fs ps os h notes (came-iff .1 a)),
+    )
+
+    -- and then its first commit order is written, and nothing else
+    pub order-read : {n : ℕ} → Accepts h level n (length os) → OrderWritten h level fs ps os (judged s level fs ps os)
+    order-read a =
+        let c = came-iff .1 a in
+        let e = judged-is ∙ goes level fs ps os h notes c in
+        record {
+          shown = order h level;
+          first = order-first (lawful-history r) low high (c .accepted);
+          order = ap (λ (x : Outcome). x .order) e;
+          findings = ap (λ (x : Outcome). x .findings) e;
+          pairs = ap (λ (x : Outcome). x .pairs) e;
+        }
+
+  -- of any bytes and any level
+  pub accepted-trace : (n : ℕ) → (judged s level fs ps os .report ≡ accepting n) ↔ AcceptsTrace s level n (length os)
+  accepted-trace n = (at, λ a. accepted-read (a .low) (a .high) (a .reads) .1 (a .accepts))
+    where
+      at : judged s level fs ps os .report ≡ accepting n → AcceptsTrace s level n (length os)
+      at e =
+          let l = accepting-level e in
+          ⊎-elim
+          (λ x.
+          let q = judged-level (l .0) (l .1) (refuses-iff s (x .0) (x .1) .1 (x .2)) in
+          absurd (refused-not level fs ps os (x .0) (x .1) (sym (ap (λ (o : Outcome). o .report) q) ∙ e)))
+          (λ x. record { low = l .0; high = l .1; history = x .0; notes = x .1; reads = x .2; accepts = accepted-read (l .0) (l .1) (x .2) .0 e })
+          (one-outcome s .either)
+
+  pub order-trace : {n : ℕ} (a : AcceptsTrace s level n (length os)) → OrderWritten (a .history) level fs ps os (judged s level fs ps os)
+  order-trace a = order-read (a .low) (a .high) (a .reads) (a .accepts)

@@ -1,16 +1,16 @@
 -- A history is accepted exactly if its reads are clean and it has a commit order; the order that is shown is the first one.
-use Prim.Native.Nat.{ℕ, _+_, _<_, _≤_}
-use mathlib.Core.Path.{_≡_, refl, sym, _∙_}
-use mathlib.Core.Bool.{Bool, true, false}
-use mathlib.Core.Logic.{_⊎_, inl, inr, ⊎-elim, _↔_}
+use Prim.Native.Nat.{ℕ, _<_, _≤_}
+use mathlib.Core.Path.{_≡_, refl}
+use mathlib.Core.Bool.{Bool, true}
+use mathlib.Core.Logic.{inl, inr, ⊎-elim, _↔_}
 use mathlib.Core.List.{List, [], _∷_}
 use native.Mathlib.Omega.{arith}
-use lib.ListN.{length, getD}
-use Rattle.base.specs.Base.{_and_, count, those}
+use lib.ListN.{length}
+use Rattle.base.specs.Base.{count, those}
 use Rattle.base.proofs.Tests.{clash, is-false, both, and-left, and-right, split}
 use Rattle.theory.specs.Leads.{Leads, step, then, Listed, isListed}
-use Rattle.theory.specs.Order.{place, Lawful, rest}
-use Rattle.theory.proofs.Leads.{listed-iff, none-listed, listed-none}
+use Rattle.theory.specs.Order.{place, Lawful}
+use Rattle.theory.proofs.Leads.{listed-iff, none-listed}
 use Rattle.theory.proofs.Places.{place-at, place-same}
 use Rattle.theory.proofs.Order.{rest-is-first, lawful-iff, lawful-length, lex-both}
 use Rattle.rules.specs.History.{History, size, committed}
@@ -21,7 +21,7 @@ use Rattle.demand2.specs.Kinds.{AllClean}
 use Rattle.demand2.specs.Axiom.{Member, StrictTotal, Commits, Lists, Before, Shows, FirstShown}
 use Rattle.demand2.proofs.Lists.{not-empty, listed-none as parts-none, those-none, joined-empty}
 use Rattle.demand2.proofs.Kind.{findings-iff}
-use Rattle.demand2.proofs.Pairs.{member, forces}
+use Rattle.demand2.proofs.Pairs.{forces}
 use Rattle.demand2.proofs.Axiom.{obeys-iff}
 
 -- ── listed pairs ──
@@ -116,6 +116,11 @@ module _ {h : History} (ok : LawfulHistory h) {level : ℕ} (low : 1 ≤ level) 
       let l = lawful-iff (forces ok level) in
       (λ e. let o = l .1 (p .0 e) in (o .0, shows-iff (o .0) .1 (o .1)), λ s. p .1 (l .0 (s .0, shows-iff (s .0) .0 (s .1))))
 
+  -- a commit order exists exactly if some list shows one
+  pub commits-iff : ((C : ℕ → ℕ → Type 0) × Commits h level C) ↔ ((o : List ℕ) × Shows h level o)
+  commits-iff =
+      (λ c. no-pairs-iff .0 (pairs-iff ok level .1 (commits-none (c .0) (c .1))), λ s. (Before (s .0), s .1 .commits))
+
   -- the order that is computed is then the first such list, and has each committed transaction once
   pub order-is-first : {o : List ℕ} → Shows h level o → FirstShown h level (order h level)
   unfolding order
@@ -153,10 +158,8 @@ module _ {h : History} (ok : LawfulHistory h) {level : ℕ} (low : 1 ≤ level) 
   -- accepted exactly if every read is clean and there is a commit order
   pub accepted-iff : (isAccepted h level ≡ true) ↔ (AllClean h × ((C : ℕ → ℕ → Type 0) × Commits h level C))
   accepted-iff = (
-    λ e. let a = accepted-shows .0 e in (a .0, (Before (a .1 .0), a .1 .1 .commits)),
-    λ a.
-        accepted-shows .1
-        (a .0, no-pairs-iff ok low high (a .0) .0 (pairs-iff ok level .1 (commits-none ok low high (a .0) (a .1 .0) (a .1 .1)))),
+    λ e. let a = accepted-shows .0 e in (a .0, commits-iff ok low high (a .0) .1 (a .1)),
+    λ a. accepted-shows .1 (a .0, commits-iff ok low high (a .0) .0 (a .1)),
   )
 
   -- and then the order that is computed is the first one

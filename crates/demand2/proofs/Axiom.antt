@@ -1,22 +1,22 @@
 -- A strict total order obeys a level's published axiom exactly if it contains every forced pair.
-use Prim.Native.Nat.{ℕ, _+_, _<_, _≤_}
+use Prim.Native.Nat.{ℕ, _+_, _≤_}
 use mathlib.Core.Path.{_≡_, refl, sym, _∙_}
-use mathlib.Core.Bool.{Bool, true, false}
-use mathlib.Core.Logic.{_⊎_, inl, inr, ⊎-elim, _↔_}
+use mathlib.Core.Bool.{true}
+use mathlib.Core.Logic.{inl, inr, ⊎-elim, _↔_}
 use native.Mathlib.Omega.{arith}
 use lib.Dec.{eqb}
 use borrow.Author.Tests.{eqb-true, eqb-false, eq-eqb}
-use Rattle.base.specs.Base.{_and_, _or_, pick, some}
+use Rattle.base.specs.Base.{_or_, pick}
 use Rattle.base.proofs.Tests.{ifso, both, or-cases, or-left, or-right, pick-on, pick-off}
 use Rattle.base.proofs.Searches.{some-at, some-of}
-use Rattle.rules.specs.History.{History, op, opCount, size, committed}
+use Rattle.rules.specs.History.{History, op, opCount}
 use Rattle.rules.specs.Reads.{wroteBetween, readsFrom}
-use Rattle.rules.specs.Levels.{basic, leads, writesKey, sees, settles, isRival, forced}
+use Rattle.rules.specs.Levels.{writesKey, sees, settles, isRival, forced}
 use Rattle.demand1.specs.Lawful.{LawfulHistory}
 use Rattle.demand2.specs.Kinds.{AllClean}
-use Rattle.demand2.specs.Axiom.{Member, SO, ReadFrom, WR, Writes, initially, later, SoWr, Causal, one, more, Sees, earlier, direct, causal, StrictTotal, Obeys}
+use Rattle.demand2.specs.Axiom.{Writes, initially, later, SoWr, Causal, one, more, Sees, earlier, direct, causal, StrictTotal, Obeys}
 use Rattle.demand2.proofs.Kind.{wrote-at, at-wrote}
-use Rattle.demand2.proofs.Pairs.{source-is, external-reads, reads-external, reads-at, reads-is, so-apart, based-sowr, basic-is, basic-iff, leads-iff, Settles, settles-is, Forced, is-basic, is-rival, forced-at}
+use Rattle.demand2.proofs.Pairs.{source-is, external-reads, reads-external, reads-at, reads-is, so-apart, based-sowr, basic-is, basic-iff, leads-iff, settles-is, Forced, is-basic, is-rival, forced-at}
 
 -- the test for who writes a key is right
 pub writes-iff : (h : History) (t x : ℕ) → (writesKey h t x ≡ true) ↔ Writes h t x

@@ -1,22 +1,22 @@
 -- The kind that is computed is the first of the document's six conditions that fits.
-use Prim.Native.Nat.{ℕ, zero, suc, _+_, _<_, _≤_}
+use Prim.Native.Nat.{ℕ, _+_, _<_, _≤_}
 use mathlib.Core.Path.{_≡_, refl, ap, sym, _∙_}
 use mathlib.Core.Bool.{Bool, true, false, not}
-use mathlib.Core.Logic.{_⊎_, inl, inr, ⊎-elim, _↔_}
+use mathlib.Core.Logic.{inl, inr, ⊎-elim, _↔_}
 use mathlib.Core.List.{List, [], _∷_}
 use native.Mathlib.Omega.{arith}
 use lib.Dec.{ltb, eqb}
-use lib.ListN.{length}
-use borrow.Author.Tests.{eqb-true, eqb-false, eq-eqb, ne-eqb, ltb-true, ltb-false, lt-ltb, le-ltb}
-use Rattle.base.specs.Base.{_and_, _or_, pick, some, first, those, Row, row, firstFit}
-use Rattle.base.proofs.Tests.{known, ifso, clash, is-false, is-true, not-true, not-false, both, and-left, and-right, or-cases, or-left, or-right, pick-on, pick-off, split}
-use Rattle.base.proofs.Searches.{some-at, some-of, first-cases, first-is, Found, those-length, count-zero, count-none}
-use Rattle.rules.specs.History.{History, op, opCount, committed, writesValue, writeOf}
+use borrow.Author.Tests.{eqb-true, eqb-false, eq-eqb, ne-eqb, ltb-true, ltb-false, lt-ltb}
+use Rattle.base.specs.Base.{_and_, _or_, Row, row, firstFit}
+use Rattle.base.proofs.Tests.{ifso, clash, is-false, is-true, not-true, both, and-left, and-right, or-cases, or-left, or-right, pick-on, pick-off, split}
+use Rattle.base.proofs.Searches.{some-at, some-of}
+use Rattle.rules.specs.History.{History, op, opCount, committed, writeOf}
 use Rattle.rules.specs.Reads.{writesAt, wroteBetween, originOf, sourceOf, kindBy, kindOf, isJudged, isFinding}
 use Rattle.rules.specs.Outcome.{findings}
+use Rattle.demand1.proofs.Checks.{write-found, write-known}
 use Rattle.demand2.proofs.Lists.{those-none}
 use Rattle.demand1.specs.Lawful.{IsWrite, LawfulHistory}
-use Rattle.demand2.specs.Kinds.{WriteIn, WriteOf, JudgedRead, WroteBefore, FromOther, Fits, thin-air, aborted, future, not-my-last, not-my-own, intermediate, HasKind, Clean, AllClean}
+use Rattle.demand2.specs.Kinds.{WriteIn, WriteOf, JudgedRead, Fits, thin-air, aborted, future, not-my-last, not-my-own, intermediate, HasKind, Clean, AllClean}
 
 -- ── writes ──
 
@@ -68,31 +68,18 @@ pub record Origin (h : History) (i w u : ℕ) : Type 0 where
   pub only : {u' w' : ℕ} → WriteOf h u' (op h i .key) (op h i .value) w' → (w ≡ w') × (u ≡ u')
   pub none : w ≡ 0 → u ≡ 0
 
--- the test for a write of (x, v) is right
-value-write : (h : History) (x v w : ℕ) → 1 ≤ w → w ≤ opCount h → writesValue h x v w ≡ true → WriteOf h (op h w .tx) x v w
-unfolding writesValue
-value-write h x v w a b e =
-    let f = and-left _ _ e in
-    record {
-      in-it = record { from = a; to = b; is-write = and-right _ _ f; in-tx = refl; of-key = eqb-true _ _ (and-right _ _ e) };
-      of-value = eqb-true _ _ (and-left _ _ f);
-    }
-
-write-value : {h : History} {u x v w : ℕ} → WriteOf h u x v w → writesValue h x v w ≡ true
-unfolding writesValue
-write-value k = both _ _ (both _ _ (eq-eqb _ _ (k .of-value)) (k .in-it .is-write)) (eq-eqb _ _ (k .in-it .of-key))
-
--- none has value 0, and no two have the same key and value
+-- a write of the value, with its transaction and without
 as-write : {h : History} {u x v w : ℕ} → WriteOf h u x v w → IsWrite h x v w
 as-write k =
     let i = k .in-it in
     record { is-op = record { from = i .from; to = i .to }; is-write = i .is-write; of-key = i .of-key; of-value = k .of-value }
 
-not-0 : {h : History} {u x v w : ℕ} → LawfulHistory h → WriteOf h u x v w → v ≡ 0 → ⊥
-not-0 ok k z = ok .not-zero _ _ (as-write (rw z at k))
-
-same-write : {h : History} {u u' x v w w' : ℕ} → LawfulHistory h → WriteOf h u x v w → WriteOf h u' x v w' → w ≡ w'
-same-write ok k l = ok .one-write _ _ _ _ (as-write k) (as-write l)
+write-as : {h : History} {x v w : ℕ} → IsWrite h x v w → WriteOf h (op h w .tx) x v w
+write-as k =
+    record {
+      in-it = record { from = k .is-op .from; to = k .is-op .to; is-write = k .is-write; in-tx = refl; of-key = k .of-key };
+      of-value = k .of-value;
+    }
 
 -- number 0 is no operation's
 op-0 : (h : History) → op h 0 .tx ≡ 0
@@ -100,43 +87,31 @@ unfolding op
 op-0 h = refl
 
 module _ (h : History) (i : ℕ) where
-  -- the write that `originOf` looks for
-  origin-search : (op h i .value ≡ 0 → ⊥) → originOf h i ≡ first 0 1 (opCount h + 1) (writesValue h (op h i .key) (op h i .value))
-  unfolding originOf writeOf
+  -- the write that `originOf` looks for: none has value 0
+  origin-search : (op h i .value ≡ 0 → ⊥) → originOf h i ≡ writeOf h (op h i .key) (op h i .value)
+  unfolding originOf
   origin-search d = pick-off _ _ _ (ne-eqb _ _ d)
 
   pub origin-zero : op h i .value ≡ 0 → originOf h i ≡ 0
   unfolding originOf
   origin-zero z = pick-on _ _ _ (eq-eqb _ _ z)
 
-  origin-there : (originOf h i ≡ 0 → ⊥) → WriteOf h (sourceOf h i) (op h i .key) (op h i .value) (originOf h i)
-  unfolding sourceOf
+  origin-there : (originOf h i ≡ 0 → ⊥) → IsWrite h (op h i .key) (op h i .value) (originOf h i)
   origin-there d =
-      let p : ℕ → Bool = writesValue h (op h i .key) (op h i .value) in
-      ifso (eqb (op h i .value) 0) (λ t. absurd (d (origin-zero (eqb-true _ _ t))))
-      (λ t.
-      let e = origin-search (eqb-false _ _ t) in
-      ⊎-elim (λ z. absurd (d (e ∙ z .0)))
-      (λ g. value-write h _ _ (originOf h i) (omega (arith, e, g .from)) (omega (arith, e, g .to)) (ap p e ∙ g .passes))
-      (first-cases 0 p (opCount h + 1) 1))
+      let e = origin-search (λ z. d (origin-zero z)) in
+      rw e (write-found h _ _ (⊎-elim (λ l. l) (λ g. absurd (d (omega arith))) (split 0 (writeOf h (op h i .key) (op h i .value)))))
 
-  origin-only : LawfulHistory h → {u w : ℕ} → WriteOf h u (op h i .key) (op h i .value) w → originOf h i ≡ w
+  origin-only : LawfulHistory h → {w : ℕ} → IsWrite h (op h i .key) (op h i .value) w → originOf h i ≡ w
   origin-only ok k =
-      origin-search (not-0 ok k)
-      ∙ first-is 0 (writesValue h (op h i .key) (op h i .value)) (opCount h + 1) 1 _
-      (record {
-        from = k .in-it .from;
-        to = omega (arith, k .in-it .to);
-        passes = write-value k;
-        none = λ j a b. is-false _ (λ t. omega (arith, same-write ok (value-write h _ _ j a (omega (arith, k .in-it .to)) t) k));
-      })
+      origin-search (λ z. ok .not-zero _ _ (rw z at k)) ∙ ok .one-write _ _ _ _ (write-found h _ _ (write-known k)) k
 
+  -- it is the only write of the read's key and value
   pub origin : LawfulHistory h → Origin h i (originOf h i) (sourceOf h i)
   unfolding sourceOf
   origin ok =
       record {
-        there = origin-there;
-        only = λ k. let e = origin-only ok k in (e, ap (λ (w : ℕ). op h w .tx) e ∙ k .in-it .in-tx);
+        there = λ d. write-as (origin-there d);
+        only = λ k. let e = origin-only ok (as-write k) in (e, ap (λ (w : ℕ). op h w .tx) e ∙ k .in-it .in-tx);
         none = λ e. ap (λ (w : ℕ). op h w .tx) e ∙ op-0 h;
       }
 
@@ -152,6 +127,7 @@ pub data Decides (F : ℕ → Type 0) : ℕ → ℕ → List Row → Type 0 wher
   end : {n : ℕ} → Decides F n n []
   next : {n e : ℕ} {b : Bool} {rs : List Row} → (b ≡ true) ↔ F n → Decides F (n + 1) e rs → Decides F n e (row b n ∷ rs)
 
+-- a row that fits decides, one that doesn't leaves the rest
 fit-on : (b : Bool) (n : ℕ) (rs : List Row) → b ≡ true → firstFit (row b n ∷ rs) ≡ n
 unfolding firstFit
 fit-on b n rs e = rw e
@@ -160,13 +136,15 @@ fit-off : (b : Bool) (n : ℕ) (rs : List Row) → b ≡ false → firstFit (row
 unfolding firstFit
 fit-off b n rs e = rw e
 
--- past a number of which F does not hold
-firstly-next : {F : ℕ → Type 0} {n e k : ℕ} → (F n → ⊥) → Firstly F (n + 1) e k → Firstly F n e k
-firstly-next {F} {n} d (none z f) =
-    none z (λ l a b. ⊎-elim (λ m. f l (omega arith) b) (λ m. let q : l ≡ n = omega arith in rw q d) (split n l))
-firstly-next {F} {n} d (hit m x f) =
-    hit (omega arith) x (λ l a b. ⊎-elim (λ m. f l (omega arith) b) (λ m. let q : l ≡ n = omega arith in rw q d) (split n l))
+-- what holds of no number past n, nor of n, holds of none from n on
+from-next : (F : ℕ → Type 0) (n : ℕ) → (F n → ⊥) → (l : ℕ) → n ≤ l → (n + 1 ≤ l → F l → ⊥) → F l → ⊥
+from-next F n d l a f = ⊎-elim (λ m. f (omega arith)) (λ m. let q : l ≡ n = omega arith in rw q d) (split n l)
 
+firstly-next : {F : ℕ → Type 0} {n e k : ℕ} → (F n → ⊥) → Firstly F (n + 1) e k → Firstly F n e k
+firstly-next {F} {n} d (none z f) = none z (λ l a b. from-next F n d l a (λ m. f l m b))
+firstly-next {F} {n} d (hit m x f) = hit (omega arith) x (λ l a b. from-next F n d l a (λ c. f l c b))
+
+-- so the number that a table gives is the first of which F holds
 pub decides-first : {F : ℕ → Type 0} {n e : ℕ} {rs : List Row} → Decides F n e rs → Firstly F n e (firstFit rs)
 unfolding firstFit
 decides-first end = none refl (λ l a b. absurd (omega arith))
@@ -184,7 +162,7 @@ module _ (h : History) (i w u : ℕ) where
   abbrev other : Bool
   other = not (eqb w 0) and not (eqb u (op h i .tx))
 
-  -- the tests of `kindBy`
+  -- the tests of `kindBy`, by number
   abbrev test-1 : Bool
   test-1 = not (eqb (op h i .value) 0) and not (not (eqb w 0))
 
@@ -289,6 +267,7 @@ module _ {h : History} {i w u : ℕ} (o : Origin h i w u) (to : i ≤ opCount h)
           let e = o .only (f .0) in
           both _ _ (both _ _ (other-is (f .0) (f .1)) (rw (e .1) (f .2))) (at-wrote (rw (sym (e .1)) at j) (omega (arith, e .0)) (omega (arith, j .to)))
 
+  -- so the kind is the first that fits
   kind-by : Firstly (Fits h i) 1 7 (kindBy h i (op h i .tx) (op h i .key) (op h i .value) w u)
   unfolding kindBy
   kind-by = decides-first (next row-1 (next row-2 (next row-3 (next row-4 (next row-5 (next row-6 end))))))

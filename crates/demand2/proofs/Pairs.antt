@@ -1,29 +1,30 @@
 -- Clean external reads, basic pairs and what they lead to, as the axioms speak of them; forced pairs are of committed transactions.
-use Prim.Native.Nat.{ℕ, zero, suc, _+_, _<_, _≤_}
+use Prim.Native.Nat.{ℕ, _+_, _≤_}
 use mathlib.Core.Path.{_≡_, refl, ap, sym, _∙_}
-use mathlib.Core.Bool.{Bool, true, false, not}
-use mathlib.Core.Logic.{_⊎_, inl, inr, ⊎-elim, _↔_}
+use mathlib.Core.Bool.{true, false, not}
+use mathlib.Core.Logic.{inl, inr, ⊎-elim, _↔_}
 use mathlib.Core.List.{_∷_}
 use native.Mathlib.Omega.{arith}
-use lib.Dec.{ltb, eqb}
-use lib.ListN.{length, getD, List·getD-eq-default}
+use lib.Dec.{eqb}
+use lib.ListN.{List·getD-eq-default}
 use borrow.Author.Tests.{eqb-true, eqb-false, eq-eqb, ne-eqb, ltb-true, lt-ltb}
-use Rattle.base.specs.Base.{_and_, _or_, pick, some}
+use Rattle.base.specs.Base.{_or_, some}
 use Rattle.base.proofs.Tests.{ifso, clash, is-true, not-true, both, and-left, and-right, or-cases, or-left, or-right, split}
 use Rattle.base.proofs.Searches.{some-at, some-of}
-use Rattle.theory.specs.Leads.{Leads, step, then, via}
+use Rattle.theory.specs.Leads.{Leads, step, then}
 use Rattle.theory.specs.Order.{Forces}
 use Rattle.theory.proofs.Leads.{via-leads, leads-via}
 use Rattle.rules.specs.History.{History, Tx, tx, op, opCount, size, committed, zeroth, noTx}
-use Rattle.rules.specs.Reads.{originOf, sourceOf, kindOf, isJudged, isExternal, readsFrom}
+use Rattle.rules.specs.Reads.{originOf, sourceOf, kindOf, isExternal, readsFrom}
 use Rattle.rules.specs.Levels.{isStart, isSession, isRead, basic, leads, writesKey, sees, settles, isRival, forced}
 use Rattle.demand1.specs.Lawful.{LawfulHistory}
 use Rattle.demand2.specs.Kinds.{JudgedRead, thin-air, aborted, Clean, AllClean}
-use Rattle.demand2.specs.Axiom.{Member, SO, from-0, in-session, Source, initial, written, ReadFrom, WR, SoWr, Causal, one, more}
+use Rattle.demand2.specs.Axiom.{Member, SO, from-0, in-session, Source, initial, written, ReadFrom, SoWr, Causal, one, more}
 use Rattle.demand2.proofs.Kind.{origin, origin-zero, judged-iff, clean-iff}
 
 -- ── members ──
 
+-- 0 is committed, and no number past the last transaction's is
 pub committed-0 : (h : History) → committed h 0 ≡ true
 unfolding committed tx
 committed-0 h = refl
@@ -63,7 +64,7 @@ external-is {h} x =
     both _ _ (both _ _ (judged-iff h (x .judged .from) (x .judged .to) .1 (x .judged)) (eq-eqb _ _ (x .kind-0))) (ap not (ne-eqb _ _ (x .other)))
 
 module _ {h : History} (ok : LawfulHistory h) where
-  -- the source of a read is the one that is computed
+  -- the source of a clean read is the one that is computed
   pub source-is : {i t : ℕ} → Source h i t → sourceOf h i ≡ t
   source-is {i} (initial z e) = origin h i ok .none (origin-zero h i z) ∙ sym e
   source-is {i} (written k) = origin h i ok .only k .1
@@ -165,6 +166,7 @@ pub data Based (h : History) (a b : ℕ) : Type 0 where
   by-so : SO h a b → Based h a b
   by-read : {i : ℕ} → CleanRead h a b i → Based h a b
 
+-- it is of two different committed transactions, and in SO ∪ WR
 pub based-members : {h : History} {a b : ℕ} → Based h a b → Member h a × Member h b
 based-members (by-so s) = so-members _ _ _ s
 based-members (by-read r) = (source-member (r .reads) (r .clean), reader-member (r .reads))
@@ -178,6 +180,7 @@ based-sowr (by-so s) = inl s
 based-sowr {h} (by-read {i = i} r) = inr (record { key = op h i .key; by = i; reads = r .reads })
 
 module _ {h : History} (ok : LawfulHistory h) where
+  -- the test for a basic pair is right
   pub basic-at : {a b : ℕ} → basic h a b ≡ true → Based h a b
   unfolding basic isRead
   basic-at {a} {b} e =
@@ -257,6 +260,7 @@ pub data Forced (h : History) (level a b : ℕ) : Type 0 where
   is-rival : {i : ℕ} → Member h a → Settles h level a b i → Forced h level a b
 
 module _ {h : History} (ok : LawfulHistory h) (level : ℕ) where
+  -- the test for a forced pair is right
   pub forced-at : (a b : ℕ) → forced h level a b ≡ true → Forced h level a b
   unfolding forced isRival
   forced-at a b e =
@@ -285,6 +289,7 @@ module _ {h : History} (ok : LawfulHistory h) (level : ℕ) where
   unfolding forced basic
   forced-start b m d = or-left _ _ (or-left _ _ (so-is h 0 b (from-0 refl (omega arith) m)))
 
+  -- so they are such as the theorems on orders ask for
   pub forces : Forces (size h) (committed h) (forced h level)
   forces =
       record {

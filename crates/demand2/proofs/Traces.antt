@@ -1,20 +1,18 @@
 -- For any bytes: a trace is accepted exactly if it is read into a history with clean reads and a commit order, and the first one is written.
 use Prim.Native.Nat.{ℕ, _<_, _≤_}
 use mathlib.Core.Path.{_≡_, refl, ap, sym, _∙_}
-use mathlib.Core.Bool.{true, false}
+use mathlib.Core.Bool.{Bool, true, false}
 use mathlib.Core.Logic.{⊎-elim, _↔_}
 use mathlib.Core.List.{List}
 use native.Mathlib.Omega.{arith}
 use lib.Dec.{ltb}
 use lib.ListN.{length}
 use borrow.Author.Tests.{lt-ltb, le-ltb, ltb-true, ltb-false}
-use Rattle.base.specs.Base.{_and_, pick}
 use Rattle.base.proofs.Tests.{ifso, clash, both, and-left, and-right, pick-on, pick-off}
 use Rattle.rules.specs.Numbers.{over}
-use Rattle.rules.specs.History.{History, size, committed}
+use Rattle.rules.specs.History.{History}
 use Rattle.rules.specs.Reading.{Stretch, Reading, refused, read, reading}
-use Rattle.rules.specs.Outcome.{findings, findingList, pairs, pairList, order, isAccepted, Report, declines, rejects, accepts, declining, rejecting, accepting, Outcome, outcome, acceptance, rejection, judgedRead, isLevel, judged}
-use Rattle.demand1.specs.Lawful.{LawfulHistory}
+use Rattle.rules.specs.Outcome.{findingList, pairList, order, isAccepted, Verdict, declines, rejects, accepts, Report, accepting, Outcome, outcome, acceptance, rejection, judgedRead, isLevel, judged}
 use Rattle.demand1.specs.Rows.{Reads}
 use Rattle.demand1.proofs.Lawful.{lawful-history}
 use Rattle.demand1.proofs.Readings.{refuses-iff, reads-iff, one-outcome}
@@ -23,22 +21,29 @@ use Rattle.demand2.proofs.Accepted.{accepted-shows, order-first, order-
 
 -- ── reports ──
 
--- a refusal and a rejection accept nothing
-declining-not : {k p n : ℕ} → declining k p ≡ accepting n → ⊥
-declining-not e = let f = ap (λ (r : Report). r .verdict) e in let z : _≡_ {A = ℕ} 0 1 = cc in omega arith
+-- a report that accepts has that verdict
+abbrev isAccepting : Verdict → Bool
+isAccepting declines = false
+isAccepting rejects = false
+isAccepting accepts = true
 
-rejecting-not : {k p n : ℕ} → rejecting k p ≡ accepting n → ⊥
-rejecting-not e = let f = ap (λ (r : Report). r .verdict) e in let z : _≡_ {A = ℕ} 0 1 = cc in omega arith
+not-accepting : {r : Report} {n : ℕ} → r ≡ accepting n → isAccepting (r .verdict) ≡ false → ⊥
+not-accepting e f = clash (ap (λ (r : Report). isAccepting (r .verdict)) e) f
+
+-- equal outcomes have one report
+reports : {x y : Outcome} {r : Report} → x ≡ y → x .report ≡ r → y .report ≡ r
+reports e f = sym (ap (λ (x : Outcome). x .report) e) ∙ f
 
 module _ (h : History) (level : ℕ) (fs ps os : List ℕ) where
+  -- a rejection never does
   rejection-not : {n : ℕ} → rejection h level fs ps os .report ≡ accepting n → ⊥
   unfolding rejection
   rejection-not e =
-      ifso (ltb (length fs) (length (findingList h))) (λ t. declining-not (sym (ap (λ (x : Outcome). x .report) (pick-on _ _ _ t)) ∙ e))
+      ifso (ltb (length fs) (length (findingList h))) (λ t. not-accepting (reports (pick-on _ _ _ t) e) refl)
       (λ t.
       ifso (ltb (length ps) (length (pairList h level)))
-      (λ u. declining-not (sym (ap (λ (x : Outcome). x .report) (pick-off _ _ _ t ∙ pick-on _ _ _ u)) ∙ e))
-      (λ u. rejecting-not (sym (ap (λ (x : Outcome). x .report) (pick-off _ _ _ t ∙ pick-off _ _ _ u)) ∙ e)))
+      (λ u. not-accepting (reports (pick-off _ _ _ t ∙ pick-on _ _ _ u) e) refl)
+      (λ u. not-accepting (reports (pick-off _ _ _ t ∙ pick-off _ _ _ u) e) refl))
 
   -- an acceptance, where the order fits; where it does not
   acceptance-room : length (order h level) ≤ length os
@@ -48,7 +53,7 @@ module _ (h : History) (level : ℕ) (fs ps os : List ℕ) where
 
   acceptance-short : {n : ℕ} → length os < length (order h level) → acceptance h level fs ps os .report ≡ accepting n → ⊥
   unfolding acceptance
-  acceptance-short l e = declining-not (sym (ap (λ (x : Outcome). x .report) (pick-on _ _ _ (lt-ltb (length os) (length (order h level)) l))) ∙ e)
+  acceptance-short l e = not-accepting (reports (pick-on _ _ _ (lt-ltb (length os) (length (order h level)) l)) e) refl
 
 -- ── from bytes ──
 
@@ -62,7 +67,7 @@ module _ (level : ℕ) (fs ps os : List ℕ) where
   -- a refused trace is not answered by an acceptance, and a history only if it is accepted
   refused-not : (k p : ℕ) {n : ℕ} → judgedRead (refused k p) level fs ps os .report ≡ accepting n → ⊥
   unfolding judgedRead
-  refused-not k p e = declining-not e
+  refused-not k p e = not-accepting e refl
 
   module _ (h : History) (notes : List Stretch) {n : ℕ} where
     came : judgedRead (read h notes) level fs ps os .report ≡ accepting n → Came h level n (length os)
@@ -70,13 +75,13 @@ module _ (level : ℕ) (fs ps os : List ℕ) where
     came e =
         ifso (isAccepted h level)
         (λ t.
-        let f = sym (ap (λ (x : Outcome). x .report) (pick-on _ _ _ t)) ∙ e in
+        let f = reports (pick-on _ _ _ t) e in
         ifso (ltb (length os) (length (order h level))) (λ u. absurd (acceptance-short h level fs ps os (ltb-true _ _ u) f))
         (λ u.
         let l = ltb-false (length os) (length (order h level)) u in
-        let g = sym (ap (λ (x : Outcome). x .report) (acceptance-room h level fs ps os l)) ∙ f in
+        let g = reports (acceptance-room h level fs ps os l) f in
         record { accepted = t; is-long = ap (λ (x : Report). x .order) g; fits = l }))
-        (λ t. absurd (rejection-not h level fs ps os (sym (ap (λ (x : Outcome). x .report) (pick-off _ _ _ t)) ∙ e)))
+        (λ t. absurd (rejection-not h level fs ps os (reports (pick-off _ _ _ t) e)))
 
     -- and then it always is
     goes : Came h level n (length os) → judgedRead (read h notes) level fs ps os ≡ outcome (accepting n) fs ps (over (order h level) os)
@@ -103,7 +108,7 @@ module _ (s : List ℕ) (level : ℕ) (fs ps os : List ℕ) where
   unfolding judged
   accepting-level e =
       ifso (isLevel level) (λ t. level-iff level .0 t)
-      (λ t. absurd (declining-not (sym (ap (λ (x : Outcome). x .report) (pick-off _ _ _ t)) ∙ e)))
+      (λ t. absurd (not-accepting (reports (pick-off _ _ _ t) e) refl))
 
   module _ (low : 1 ≤ level) (high : level ≤ 3) {h : History} {notes : List Stretch} (r : Reads s h notes) where
     judged-is : judged s level fs ps os ≡ judgedRead (read h notes) level fs ps os
@@ -125,8 +130,8 @@ module _ (s : List ℕ) (level : ℕ) (fs ps os : List ℕ) where
     -- a trace that is read is accepted, with n, exactly if its history is
     pub accepted-read : {n : ℕ} → (judged s level fs ps os .report ≡ accepting n) ↔ Accepts h level n (length os)
     accepted-read = (
-      λ e. came-iff .0 (came level fs ps os h notes (sym (ap (λ (x : Outcome). x .report) judged-is) ∙ e)),
-      λ a. ap (λ (x : Outcome). x .report) (judged-is ∙ goes level fs ps os h notes (came-iff .1 a)),
+      λ e. came-iff .0 (came level fs ps os h notes (reports judged-is e)),
+      λ a. reports (sym (judged-is ∙ goes level fs ps os h notes (came-iff .1 a))) refl,
     )
 
     -- and then its first commit order is written, and nothing else
@@ -152,7 +157,7 @@ module _ (s : List ℕ) (level : ℕ) (fs ps os : List ℕ) where
           ⊎-elim
           (λ x.
           let q = judged-level (l .0) (l .1) (refuses-iff s (x .0) (x .1) .1 (x .2)) in
-          absurd (refused-not level fs ps os (x .0) (x .1) (sym (ap (λ (o : Outcome). o .report) q) ∙ e)))
+          absurd (refused-not level fs ps os (x .0) (x .1) (reports q e)))
           (λ x. record { low = l .0; high = l .1; history = x .0; notes = x .1; reads = x .2; accepts = accepted-read (l .0) (l .1) (x .2) .0 e })
           (one-outcome s .either)
 

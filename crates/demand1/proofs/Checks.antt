@@ -1,19 +1,18 @@
 -- Each test of the reading passes exactly if the document's condition holds, where no earlier check fails.
-use Prim.Native.Nat.{ℕ, suc, _+_, _<_, _≤_}
-use mathlib.Core.Path.{_≡_, refl, ap, sym, _∙_}
-use mathlib.Core.Bool.{Bool, true, false, not, false≢true}
+use Prim.Native.Nat.{ℕ, _+_, _<_, _≤_}
+use mathlib.Core.Path.{_≡_, refl, ap}
+use mathlib.Core.Bool.{true, false, not, false≢true}
 use mathlib.Core.List.{List}
 use mathlib.Core.Logic.{_⊎_, inl, inr, ⊎-elim, _↔_}
 use native.Mathlib.Omega.{arith}
-use lib.Dec.{ltb, leb, eqb}
-use lib.ListN.{length, getD}
+use lib.Dec.{ltb, eqb}
+use lib.ListN.{getD}
 use borrow.Author.Tests.{ltb-true, ltb-false, leb-true, eqb-true, eqb-false, lt-ltb, le-leb, eq-eqb, ne-eqb}
-use Rattle.base.specs.Base.{_and_, _or_, first}
-use Rattle.base.proofs.Tests.{clash, is-false, is-true, not-true, both, and-left, and-right, or-cases, or-left, or-right, split}
-use Rattle.base.proofs.Searches.{Found, first-cases}
+use Rattle.base.proofs.Tests.{clash, is-false, is-true, not-true, both, and-left, and-right, or-cases, or-left, or-right}
+use Rattle.base.proofs.Searches.{first-cases}
 use Rattle.rules.specs.History.{History, op, txCount, opCount, current, writesValue, writeOf}
 use Rattle.rules.specs.Records.{lows, highs, breaks, isUnknown, isMisfit, eventAt}
-use Rattle.rules.specs.Reading.{State, eventIn, misplaced, unlawful, excess, repeats}
+use Rattle.rules.specs.Reading.{State, misplaced, unlawful, excess, repeats}
 use Rattle.demand1.specs.Lawful.{IsOp, IsWrite}
 use Rattle.demand1.specs.Rows.{len, kind, serial, key, value, Inside, Check, lengthField, lengthLow, bytesThere, serialFollows, kindKnown, lengthFits, inPlace, valueLawful, withinLimit, newWrite, rank, WrongLength, open-not-8, read-not-18, write-not-18, close-not-7, end-not-8, note-above-70, Misplaced, open-inside, read-outside, write-outside, close-outside, end-inside, Unlawful, written-0, status-above-1, end-wrong, Excess, open-128th, read-1025th, write-1025th, Repeated, Fails}
 use Rattle.demand1.specs.Tests.{test}

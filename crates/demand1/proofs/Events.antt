@@ -1,17 +1,17 @@
 -- A well-framed record's event, by its fields' offsets.
-use Prim.Native.Nat.{ℕ, zero, suc, _+_, _-_, _*_, _<_, _≤_}
-use mathlib.Core.Path.{_≡_, refl, ap, sym, _∙_}
+use Prim.Native.Nat.{ℕ, zero, suc, _+_, _-_, _<_, _≤_}
+use mathlib.Core.Path.{_≡_, refl, ap}
 use mathlib.Core.List.{List}
-use mathlib.Core.Logic.{_⊎_, inl, inr, ⊎-elim}
+use mathlib.Core.Logic.{inl, inr}
 use native.Mathlib.Omega.{arith}
 use native.Mathlib.Decide.{ℕ-discrete}
-use lib.ListN.{length, getD, take, drop}
+use lib.ListN.{length, drop}
 use lib.Seq.{getD-take, getD-drop}
 use Rattle.base.specs.Base.{pick}
 use Rattle.rules.specs.Numbers.{le, part}
 use Rattle.rules.specs.Records.{eventOf, eventAt, payloadAt}
 use Rattle.rules.specs.Reading.{State}
-use Rattle.rules.specs.declared.Event.the-variants.{Open, Read, Write, Close, End, Note, Other}
+use Rattle.rules.specs.declared.Event.the-variants.{Open, Read, Write, Close, End, Note}
 use Rattle.demand1.specs.Rows.{len, kind, session, key, value, status, endNumber, behind, WrongLength, open-not-8, read-not-18, write-not-18, close-not-7, end-not-8, Check, lengthLow, bytesThere, kindKnown, lengthFits, rank, Fails, Passes}
 
 -- a number in a part is the number in the whole, where it lies within the part

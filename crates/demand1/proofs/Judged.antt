@@ -5,15 +5,13 @@ use mathlib.Core.Bool.{true, false}
 use mathlib.Core.List.{List}
 use mathlib.Core.Logic.{⊎-elim, _↔_}
 use native.Mathlib.Omega.{arith}
-use lib.Dec.{ltb}
 use lib.ListN.{length}
 use borrow.Author.Tests.{ltb-true, lt-ltb, le-ltb}
-use Rattle.base.specs.Base.{_and_, pick}
 use Rattle.base.proofs.Tests.{clash, is-false, both, and-left, and-right, ifso, split, pick-on, pick-off}
 use Rattle.rules.specs.Numbers.{over}
 use Rattle.rules.specs.History.{History}
 use Rattle.rules.specs.Reading.{Reading, refused, read, reading, Stretch}
-use Rattle.rules.specs.Outcome.{findings, pairs, findingList, pairList, order, Verdict, declines, rejects, accepts, Report, declining, rejecting, accepting, Outcome, outcome, isAccepted, acceptance, rejection, judgedRead, isLevel, judged}
+use Rattle.rules.specs.Outcome.{findings, pairs, findingList, pairList, order, declines, rejects, accepts, Report, declining, rejecting, accepting, Outcome, outcome, isAccepted, acceptance, rejection, judgedRead, isLevel, judged}
 use Rattle.demand1.specs.Rows.{Declines, no-level, reading-refused, findings-short, pairs-short, order-short}
 use Rattle.demand1.proofs.Readings.{refuses-iff, reads-iff}
 

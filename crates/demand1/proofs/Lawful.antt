@@ -1,20 +1,18 @@
 -- Every history that a trace is read into is lawful: by induction over the records that pass.
 use Prim.Native.Nat.{ℕ, _+_, _<_, _≤_}
-use mathlib.Core.Path.{_≡_, refl, ap, sym, _∙_}
+use mathlib.Core.Path.{_≡_, refl, sym, _∙_}
 use mathlib.Core.Bool.{true, false}
 use mathlib.Core.List.{List}
 use mathlib.Core.Logic.{_⊎_, inl, inr, ⊎-elim}
 use native.Mathlib.Omega.{arith}
-use lib.ListN.{length}
 use Rattle.base.proofs.Tests.{clash, split}
-use Rattle.rules.specs.History.{History, Op, tx, op, txCount, opCount, empty, current, opened, closed, withOp}
-use Rattle.rules.specs.Records.{eventAt}
-use Rattle.rules.specs.declared.Event.the-variants.{End}
-use Rattle.rules.specs.Reading.{State, begin, after, entered, Stretch}
+use Rattle.rules.specs.History.{History, Op, tx, op, txCount, opCount, empty, opened, closed, withOp}
+use Rattle.rules.specs.Reading.{State, Stretch}
 use Rattle.demand1.specs.Lawful.{IsOp, IsWrite, IsTx, LawfulHistory}
-use Rattle.demand1.specs.Rows.{kind, session, key, value, status, endNumber, Inside, Passes, inPlace, valueLawful, withinLimit, newWrite, open-inside, read-outside, write-outside, close-outside, end-inside, written-0, status-above-1, open-128th, read-1025th, write-1025th, Reaches, start, on, Reads, to-the-end}
-use Rattle.demand1.proofs.Histories.{op-count, op-old, op-new, open-count, open-old, open-new, close-count, close-this, close-other, inside-current, inside-or-not}
-use Rattle.demand1.proofs.Events.{passes-framed, Shape, open-record, read-record, write-record, close-record, end-record, note-record, shape, end-event, same-or, at-least, below}
+use Rattle.demand1.specs.Rows.{session, status, opAt, Inside, Passes, inPlace, valueLawful, withinLimit, newWrite, open-inside, read-outside, write-outside, close-outside, end-inside, written-0, status-above-1, open-128th, read-1025th, write-1025th, Next, after-open, after-read, after-write, after-close, after-note, Reaches, start, on, Reads, to-the-end}
+use Rattle.demand1.proofs.Histories.{op-count, op-old, op-new, open-count, open-old, open-new, close-count, close-this, close-other}
+use Rattle.demand1.proofs.Events.{same-or, at-least, below}
+use Rattle.demand1.proofs.Steps.{inside}
 
 -- ── operations ──
 
@@ -129,10 +127,9 @@ txs-more {h} s r out l =
     }
 
 -- the open one is closed
-txs-close : {h : History} (x : ℕ) → LawfulTxs h → Inside h → x ≤ 1 → LawfulTxs (closed h (current h) x)
+txs-close : {h : History} (x : ℕ) → LawfulTxs h → Inside h → x ≤ 1 → LawfulTxs (closed h (txCount h) x)
 txs-close {h} x r ins l =
-    rw (inside-current h ins)
-    (record {
+    record {
       few-txs = omega (arith, close-count h (txCount h) x, r .few-txs);
       so-far = λ t i.
           let to : t ≤ txCount h = omega (arith, close-count h (txCount h) x, i .to) in
@@ -140,7 +137,7 @@ txs-close {h} x r ins l =
           (λ e. rw (e, close-this h (txCount h) x (ins .0) (omega arith)) (⊎-elim (λ z. inl (omega arith)) (λ z. inr (omega arith)) (split x 1)))
           (λ d. rw (close-other h (txCount h) x t (i .from) to d)
           (⊎-elim (λ o. o) (λ b. absurd (d (b .0))) (r .so-far t (record { from = i .from; to = to })))));
-    })
+    }
 
 -- ── by induction ──
 
@@ -161,62 +158,47 @@ growing-begin =
     }
 
 -- one operation more, in the open transaction
-grown-op : {h : History} (o : Op) → Growing h → Inside h → o .tx ≡ current h → opCount h < 1024 → (o .isWrite ≡ true → o .value ≡ 0 → ⊥)
+grown-op : {h : History} (o : Op) → Growing h → Inside h → o .tx ≡ txCount h → opCount h < 1024 → (o .isWrite ≡ true → o .value ≡ 0 → ⊥)
     → (o .isWrite ≡ true → (i : ℕ) → IsWrite h (o .key) (o .value) i → ⊥) → Growing (withOp h o)
 unfolding withOp
 grown-op {h} o g ins t l z n =
     record {
-      ops = ops-more h o (g .ops) (record { room = l; in-tx = rw (t, inside-current h ins) (record { from = ins .0; to = omega arith }); not-zero = z; new = n });
+      ops = ops-more h o (g .ops) (record { room = l; in-tx = rw t (record { from = ins .0; to = omega arith }); not-zero = z; new = n });
       txs = txs-kept (withOp h o) refl (g .txs);
     }
 
-module _ {s : List ℕ} {st : State} (p : Passes s st) (g : Growing (st .history)) where
-  -- inside a transaction, where the kind may not come outside one
-  inside : ((Inside (st .history) → ⊥) → ⊥) → Inside (st .history)
-  inside d = ⊎-elim (λ i. i) (λ o. absurd (d o)) (inside-or-not (st .history))
-
-  -- a passing record's event leaves the history growing
-  grown : Shape s (st .at) → Growing (after s st .history)
-  unfolding after entered opened closed
-  grown (open-record k e) =
-      rw e
-      (record {
+module _ (s : List ℕ) (st : State) (p : Passes s st) (g : Growing (st .history)) where
+  -- a passing record leaves the history growing
+  grown : {x : State} → Next s st x → Growing (x .history)
+  unfolding opened closed
+  grown (after-open k) =
+      record {
         ops = ops-kept (opened (st .history) (session s (st .at))) refl (omega (arith, open-count (st .history) (session s (st .at)))) (g .ops);
         txs = txs-more (session s (st .at)) (g .txs) (λ i. p inPlace (open-inside k i)) (below _ 127 (λ l. p withinLimit (open-128th k l)));
-      })
-  grown (read-record k e) =
-      rw e
-      (grown-op (record { tx = current (st .history); isWrite = false; key = key s (st .at); value = value s (st .at) }) g
-      (inside (λ o. p inPlace (read-outside k o))) refl (below _ 1024 (λ l. p withinLimit (read-1025th k l))) (λ w. absurd (clash w refl)) (λ w. absurd (clash w refl)))
-  grown (write-record k e) =
-      rw e
-      (grown-op (record { tx = current (st .history); isWrite = true; key = key s (st .at); value = value s (st .at) }) g
-      (inside (λ o. p inPlace (write-outside k o))) refl (below _ 1024 (λ l. p withinLimit (write-1025th k l))) (λ _ z. p valueLawful (written-0 k z))
-      (λ _ i w. p newWrite (record { writes = k; by = i; earlier = w })))
-  grown (close-record k e) =
-      rw e
-      (record {
-        ops = ops-kept (closed (st .history) (current (st .history)) (status s (st .at))) refl (omega (arith, close-count (st .history) (current (st .history)) (status s (st .at)))) (g .ops);
-        txs = txs-close (status s (st .at)) (g .txs) (inside (λ o. p inPlace (close-outside k o))) (at-least _ 1 (λ l. p valueLawful (status-above-1 k l)));
-      })
-  grown (end-record k e) = rw e g
-  grown (note-record k e) = rw e g
+      }
+  grown (after-read k) =
+      grown-op (opAt s (st .at) (st .history) false) g (inside s st p (read-outside k)) refl (below _ 1024 (λ l. p withinLimit (read-1025th k l)))
+      (λ w. absurd (clash w refl)) (λ w. absurd (clash w refl))
+  grown (after-write k) =
+      grown-op (opAt s (st .at) (st .history) true) g (inside s st p (write-outside k)) refl (below _ 1024 (λ l. p withinLimit (write-1025th k l)))
+      (λ _ z. p valueLawful (written-0 k z)) (λ _ i w. p newWrite (record { writes = k; by = i; earlier = w }))
+  grown (after-close k) =
+      let h = st .history in
+      record {
+        ops = ops-kept (closed h (txCount h) (status s (st .at))) refl (omega (arith, close-count h (txCount h) (status s (st .at)))) (g .ops);
+        txs = txs-close (status s (st .at)) (g .txs) (inside s st p (close-outside k)) (at-least _ 1 (λ l. p valueLawful (status-above-1 k l)));
+      }
+  grown (after-note k) = g
 
 -- the history of a state that reading comes to
 growing : {s : List ℕ} {st : State} → Reaches s st → Growing (st .history)
 growing start = growing-begin
-growing (on r p d) = grown p (growing r) (shape (passes-framed p))
-
--- an end record leaves the history as it is
-end-keeps : (s : List ℕ) (st : State) → eventAt s (st .at) ≡ End (endNumber s (st .at)) → after s st .history ≡ st .history
-unfolding after entered
-end-keeps s st e = rw e
+growing {s} (on {st} r p n) = grown s st p (growing r) n
 
 -- a trace that is read gives a lawful history
 pub lawful-history : {s : List ℕ} {h : History} {notes : List Stretch} → Reads s h notes → LawfulHistory h
-lawful-history {s} (to-the-end {st} l r p k e) =
-    rw (end-keeps s st (end-event (passes-framed p) k))
-    (let g = growing r in
+lawful-history (to-the-end l r p k e) =
+    let g = growing r in
     record {
       few-txs = g .txs .few-txs;
       few-ops = g .ops .few-ops;
@@ -224,4 +206,4 @@ lawful-history {s} (to-the-end {st} l r p k e) =
       not-zero = g .ops .not-zero;
       one-write = g .ops .one-write;
       is-over = all-over (g .txs) (λ i. p inPlace (end-inside k i));
-    })
+    }

@@ -1,7 +1,6 @@
 -- A trace is read exactly if its records pass up to an end record that is its last, and refused exactly on the table's rows.
 use Prim.Native.Nat.{ℕ, zero, suc, _+_, _<_, _≤_}
 use mathlib.Core.Path.{_≡_, refl, ap, sym, _∙_}
-use mathlib.Core.Bool.{true, false}
 use mathlib.Core.List.{List}
 use mathlib.Core.Logic.{_⊎_, inl, inr, ⊎-elim, _↔_}
 use native.Mathlib.Omega.{arith}
@@ -10,38 +9,18 @@ use lib.Dec.{ltb}
 use lib.ListN.{length}
 use borrow.Author.Tests.{lt-ltb, le-ltb}
 use Rattle.base.specs.Base.{pick}
-use Rattle.base.proofs.Tests.{clash, split, pick-on, pick-off}
+use Rattle.base.proofs.Tests.{split, pick-on, pick-off}
 use Rattle.rules.specs.History.{History}
-use Rattle.rules.specs.Records.{eventAt}
 use Rattle.rules.specs.Reading.{State, begin, after, eventIn, isEnd, refusalNo, Reading, refused, read, finished, walk, reading, Stretch}
-use Rattle.demand1.specs.Rows.{kind, behind, numberOf, Passes, FirstFailing, Reaches, start, on, Refuses, too-long, at-record, bytes-behind, Reads, to-the-end, OneOutcome}
-use Rattle.demand1.proofs.Events.{Framed, passes-framed, Shape, open-record, read-record, write-record, close-record, end-record, note-record, shape, end-event, same-or}
+use Rattle.demand1.specs.Rows.{kind, behind, numberOf, Passes, Reaches, start, on, Refuses, too-long, at-record, bytes-behind, Reads, to-the-end, OneOutcome}
+use Rattle.demand1.proofs.Events.{same-or}
+use Rattle.demand1.proofs.Steps.{next-is, next-after, next-not-end, end-after, is-end, not-end, after-within}
 use Rattle.demand1.proofs.Refusals.{First, passing, failing, first, number-positive, refusal-none, refusal-row}
 
--- ── one record ──
-
 module _ (s : List ℕ) (st : State) where
-  pub behind-at : after s st .at ≡ behind s (st .at)
+  behind-at : after s st .at ≡ behind s (st .at)
   unfolding after
   behind-at = refl
-
-  -- a passing record has 8 bytes or more, and ends within the trace
-  pub passes-within : Passes s st → (st .at + 8 ≤ after s st .at) × (after s st .at ≤ length s)
-  passes-within p = let f = passes-framed p in (omega (arith, behind-at, f .sized .low), omega (arith, behind-at, f .sized .there))
-
-  -- the end record is the one of kind 5
-  is-end : Passes s st → kind s (st .at) ≡ 5 → isEnd (eventIn s st) ≡ true
-  unfolding isEnd
-  is-end p k = rw (end-event (passes-framed p) k)
-
-  not-end : Shape s (st .at) → (kind s (st .at) ≡ 5 → ⊥) → isEnd (eventIn s st) ≡ false
-  unfolding isEnd
-  not-end (open-record k e) d = rw e
-  not-end (read-record k e) d = rw e
-  not-end (write-record k e) d = rw e
-  not-end (close-record k e) d = rw e
-  not-end (end-record k e) d = absurd (d k)
-  not-end (note-record k e) d = rw e
 
   -- ── one step of the walk ──
 
@@ -59,23 +38,26 @@ module _ (s : List ℕ) (st : State) where
       pick-off (ltb 0 (refusalNo s st)) (refused (refusalNo s st) (st .at)) (next g) (le-ltb 0 (refusalNo s st) (omega (arith, refusal-none s st .1 p)))
 
   walk-end : (g : ℕ) → Passes s st → kind s (st .at) ≡ 5 → walk (suc g) s st ≡ finished s (after s st)
-  walk-end g p k = walk-next g p ∙ pick-on _ (finished s (after s st)) (walk g s (after s st)) (is-end p k)
+  walk-end g p k = walk-next g p ∙ pick-on _ (finished s (after s st)) (walk g s (after s st)) (is-end s st p k)
 
   walk-on : (g : ℕ) → Passes s st → (kind s (st .at) ≡ 5 → ⊥) → walk (suc g) s st ≡ walk g s (after s st)
-  walk-on g p d = walk-next g p ∙ pick-off _ (finished s (after s st)) (walk g s (after s st)) (not-end (shape (passes-framed p)) d)
+  walk-on g p d = walk-next g p ∙ pick-off _ (finished s (after s st)) (walk g s (after s st)) (not-end s st p d)
 
   finished-behind : behind s (st .at) < length s → finished s (after s st) ≡ refused 11 (behind s (st .at))
   unfolding finished after
   finished-behind l = pick-on (ltb (behind s (st .at)) (length s)) _ _ (lt-ltb _ _ l)
 
-  finished-read : behind s (st .at) ≡ length s → finished s (after s st) ≡ read (after s st .history) (after s st .notes)
+  finished-read : Passes s st → kind s (st .at) ≡ 5 → behind s (st .at) ≡ length s → finished s (after s st) ≡ read (st .history) (st .notes)
   unfolding finished
-  finished-read e = pick-off (ltb (after s st .at) (length s)) _ _ (le-ltb (after s st .at) (length s) (omega (arith, behind-at)))
+  finished-read p k e =
+      pick-off (ltb (after s st .at) (length s)) (refused 11 (after s st .at)) (read (after s st .history) (after s st .notes))
+      (le-ltb (after s st .at) (length s) (omega (arith, behind-at)))
+      ∙ rw (end-after s st p k .0, end-after s st p k .1)
 
 -- reading comes to no place past the end
 pub reached-within : {s : List ℕ} {st : State} → Reaches s st → st .at ≤ length s
 reached-within start = omega arith
-reached-within {s} (on {st} r p d) = passes-within s st p .1
+reached-within {s} (on {st} r p n) = rw (next-is s st p n) (after-within s st p .1)
 
 -- ── what the walk says holds ──
 
@@ -90,8 +72,8 @@ module _ (s : List ℕ) (short : length s ≤ 32768) where
   ends-finished {st} r p k =
       ⊎-elim (λ l. rw (finished-behind s st l) (refusing (bytes-behind short r p k l)))
       (λ g.
-      let e : behind s (st .at) ≡ length s = omega (arith, passes-within s st p .1, behind-at s st) in
-      rw (finished-read s st e) (reading-it (to-the-end short r p k e)))
+      let e : behind s (st .at) ≡ length s = omega (arith, after-within s st p .1, behind-at s st) in
+      rw (finished-read s st p k e) (reading-it (to-the-end short r p k e)))
       (split (behind s (st .at)) (length s))
 
   -- the record at a state, where the records behind it are known
@@ -105,7 +87,7 @@ module _ (s : List ℕ) (short : length s ≤ 32768) where
   ends-walk : (g : ℕ) {st : State} → Reaches s st → length s < st .at + g → Ends s (walk g s st)
   ends-walk zero r l = absurd (omega (arith, reached-within r))
   ends-walk (suc g) {st} r l =
-      ends-record g r (λ p d. ends-walk g (on r p d) (omega (arith, passes-within s st p .0))) (first s st) refl
+      ends-record g r (λ p d. ends-walk g (on r p (next-after s st p d)) (omega (arith, after-within s st p .0))) (first s st) refl
 
   -- ── what holds the walk says ──
 
@@ -116,11 +98,15 @@ module _ (s : List ℕ) (short : length s ≤ 32768) where
   -- the reading is what the walk gives from a state that it comes to, with fuel for what is left
   resumed : {st : State} → Reaches s st → (v : Reading) → ((g : ℕ) → length s < st .at + suc g → walk (suc g) s st ≡ v) → reading s ≡ v
   resumed start v f = reading-short ∙ f (length s) (omega arith)
-  resumed (on {st} r p d) v f = resumed r v (λ g l. walk-on s st g p d ∙ later g l)
+  resumed (on {st} {next} r p n) v f = resumed r v (λ g l. walk-on s st g p (next-not-end n) ∙ later g l)
     where
+      e : next ≡ after s st
+      e = next-is s st p n
+
       later : (g : ℕ) → length s < st .at + suc g → walk g s (after s st) ≡ v
-      later zero l = let w = passes-within s st p in absurd (omega (arith, w .0, w .1))
-      later (suc g) l = f g (omega (arith, passes-within s st p .0))
+      later zero l = let w = after-within s st p in absurd (omega (arith, w .0, w .1))
+      later (suc g) l =
+          ap (walk (suc g) s) (sym e) ∙ f g (let a = ap (λ (x : State). x .at) e in omega (arith, after-within s st p .0))
 
 reading-long : (s : List ℕ) → 32768 < length s → reading s ≡ refused 2 32768
 unfolding reading
@@ -138,7 +124,7 @@ refused-is {s} (at-record {st} {c} short r f) =
 refused-is {s} (bytes-behind {st} short r p k l) = resumed s short r _ (λ g _. walk-end s st g p k ∙ finished-behind s st l)
 
 read-is : {s : List ℕ} {h : History} {notes : List Stretch} → Reads s h notes → reading s ≡ read h notes
-read-is {s} (to-the-end {st} short r p k e) = resumed s short r _ (λ g _. walk-end s st g p k ∙ finished-read s st e)
+read-is {s} (to-the-end {st} short r p k e) = resumed s short r _ (λ g _. walk-end s st g p k ∙ finished-read s st p k e)
 
 -- ── the theorems ──
 

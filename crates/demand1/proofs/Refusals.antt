@@ -1,17 +1,17 @@
 -- The number that refuses a record is that of the first check that fails, 0 where none does.
-use Prim.Native.Nat.{ℕ, suc, _+_, _<_, _≤_}
+use Prim.Native.Nat.{ℕ, suc, _<_}
 use mathlib.Core.Path.{_≡_, refl, ap, sym, _∙_}
-use mathlib.Core.Bool.{true, false}
+use mathlib.Core.Bool.{false}
 use mathlib.Core.List.{List, [], _∷_, _++_}
-use mathlib.Core.Logic.{_⊎_, inl, inr, ⊎-elim, _↔_}
+use mathlib.Core.Logic.{⊎-elim, _↔_}
 use native.Mathlib.Omega.{arith}
 use lib.ListN.{getD}
-use Rattle.base.specs.Base.{Row, row, firstFit}
+use Rattle.base.specs.Base.{Row, firstFit}
 use Rattle.base.proofs.Tests.{ifso, clash, split}
 use Rattle.rules.specs.History.{current}
 use Rattle.rules.specs.Records.{frameRows}
 use Rattle.rules.specs.Reading.{State, eventIn, refusalNo, stepRows}
-use Rattle.demand1.specs.Rows.{Check, lengthField, lengthLow, bytesThere, serialFollows, kindKnown, lengthFits, inPlace, valueLawful, withinLimit, newWrite, rank, numberOf, Fails, Passes, FirstFailing}
+use Rattle.demand1.specs.Rows.{Check, lengthField, lengthLow, bytesThere, serialFollows, kindKnown, lengthFits, inPlace, valueLawful, withinLimit, newWrite, rank, numberOf, Passes, FirstFailing}
 use Rattle.demand1.specs.Tests.{test, rowOf}
 use Rattle.demand1.proofs.Events.{Clear}
 use Rattle.demand1.proofs.Checks.{check-row}

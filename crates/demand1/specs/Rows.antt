@@ -1,13 +1,13 @@
 -- Document 01's table of refusals as conditions in its own terms, apart from the functions that compute. The theorems say that the two agree.
-use Prim.Native.Nat.{ℕ, _+_, _<_, _≤_}
+use Prim.Native.Nat.{ℕ, _+_, _-_, _%_, _^_, _<_, _≤_}
 use mathlib.Core.Path.{_≡_}
 use mathlib.Core.Bool.{Bool, true, false}
-use mathlib.Core.List.{List}
+use mathlib.Core.List.{List, [], _∷_, _++_}
 use mathlib.Core.Logic.{_⊎_}
-use lib.ListN.{length, getD}
+use lib.ListN.{length}
 use Rattle.rules.specs.Numbers.{le}
-use Rattle.rules.specs.History.{History, tx, txCount, opCount}
-use Rattle.rules.specs.Reading.{State, begin, after, Stretch}
+use Rattle.rules.specs.History.{History, Op, tx, txCount, opCount, opened, closed, withOp}
+use Rattle.rules.specs.Reading.{State, begin, Stretch}
 use Rattle.rules.specs.Outcome.{isAccepted, findingList, pairList, order}
 use Rattle.demand1.specs.Lawful.{IsWrite}
 
@@ -133,12 +133,34 @@ pub record FirstFailing (s : List ℕ) (st : State) (c : Check) : Type 0 where
   pub fails : Fails s st c
   pub none-before : (d : Check) → rank d < rank c → Fails s st d → ⊥
 
+-- ── what a record leaves ──
+
+-- the next one starts behind it; "Each later serial is its predecessor plus one; after 4,294,967,295 comes 0."
+abbrev pub moved : List ℕ → State → History → List Stretch → State
+moved s st h notes = record { at = behind s (st .at); serial = (serial s (st .at) + 1) % 2 ^ 32; history = h; notes = notes }
+
+-- the operation that a read or a write is: "Transactions do not overlap", so it belongs to the latest opened
+abbrev pub opAt : List ℕ → ℕ → History → Bool → Op
+opAt s at h w = record { tx = txCount h; isWrite = w; key = key s at; value = value s at }
+
+-- a note's text, as a stretch of the trace
+abbrev pub textAt : List ℕ → ℕ → Stretch
+textAt s at = record { start = at + 8; length = len s at - 6 }
+
+-- the state behind the record, which is not the end
+pub data Next (s : List ℕ) (st : State) : State → Type 0 where
+  after-open : kind s (st .at) ≡ 1 → Next s st (moved s st (opened (st .history) (session s (st .at))) (st .notes))
+  after-read : kind s (st .at) ≡ 2 → Next s st (moved s st (withOp (st .history) (opAt s (st .at) (st .history) false)) (st .notes))
+  after-write : kind s (st .at) ≡ 3 → Next s st (moved s st (withOp (st .history) (opAt s (st .at) (st .history) true)) (st .notes))
+  after-close : kind s (st .at) ≡ 4 → Next s st (moved s st (closed (st .history) (txCount (st .history)) (status s (st .at))) (st .notes))
+  after-note : kind s (st .at) ≡ 6 → Next s st (moved s st (st .history) (st .notes ++ (textAt s (st .at) ∷ [])))
+
 -- ── how far reading comes, and how it ends ──
 
 -- the records up to a state pass every check, and none of them is the end
 pub data Reaches (s : List ℕ) : State → Type 0 where
   start : Reaches s begin
-  on : {st : State} → Reaches s st → Passes s st → (kind s (st .at) ≡ 5 → ⊥) → Reaches s (after s st)
+  on : {st next : State} → Reaches s st → Passes s st → Next s st next → Reaches s next
 
 -- row n refuses the trace at place p, and nothing earlier in the document's order does
 pub data Refuses (s : List ℕ) : ℕ → ℕ → Type 0 where
@@ -150,7 +172,7 @@ pub data Refuses (s : List ℕ) : ℕ → ℕ → Type 0 where
 -- the trace is read: the end record is its last
 pub data Reads (s : List ℕ) : History → List Stretch → Type 0 where
   to-the-end : {st : State} → length s ≤ 32768 → Reaches s st → Passes s st → kind s (st .at) ≡ 5 → behind s (st .at) ≡ length s
-      → Reads s (after s st .history) (after s st .notes)
+      → Reads s (st .history) (st .notes)
 
 -- every trace is refused, on one row and at one place, or read, in one way, and never both
 pub record OneOutcome (s : List ℕ) : Type 0 where
@@ -169,3 +191,8 @@ pub data Declines (s : List ℕ) (level f p o : ℕ) : ℕ → ℕ → Type 0 wh
       → length (findingList h) ≤ f → p < length (pairList h level) → Declines s level f p o 13 (length (pairList h level))
   order-short : {h : History} {notes : List Stretch} → 1 ≤ level → level ≤ 3 → Reads s h notes → isAccepted h level ≡ true
       → o < length (order h level) → Declines s level f p o 14 (length (order h level))
+
+-- asking for note k is refused with number n and place p: "it takes 2 to 11 and then 15"
+pub data NoteDeclines (s : List ℕ) (k : ℕ) : ℕ → ℕ → Type 0 where
+  trace-refused : {n at : ℕ} → Refuses s n at → NoteDeclines s k n at
+  no-note : {h : History} {notes : List Stretch} → Reads s h notes → ((1 ≤ k) × (k ≤ length notes) → ⊥) → NoteDeclines s k 15 0

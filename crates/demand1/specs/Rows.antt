@@ -1,14 +1,15 @@
 -- Document 01's table of refusals as conditions in its own terms, apart from the functions that compute. The theorems say that the two agree.
-use Prim.Native.Nat.{ℕ, _+_, _<_, _≤_}
+use Prim.Native.Nat.{ℕ, _+_, _-_, _%_, _^_, _<_, _≤_}
 use mathlib.Core.Path.{_≡_}
 use mathlib.Core.Bool.{Bool, true, false}
-use mathlib.Core.List.{List}
+use mathlib.Core.List.{List, [], _∷_, _++_}
 use mathlib.Core.Logic.{_⊎_}
-use lib.ListN.{length, getD}
+use lib.ListN.{length}
 use Rattle.rules.specs.Numbers.{le}
-use Rattle.rules.specs.History.{History, tx, op, txCount, opCount}
-use Rattle.rules.specs.Reading.{State, begin, after, Stretch}
+use Rattle.rules.specs.History.{History, Op, tx, txCount, opCount, opened, closed, withOp}
+use Rattle.rules.specs.Reading.{State, begin, Stretch}
 use Rattle.rules.specs.Outcome.{isAccepted, findingList, pairList, order}
+use Rattle.demand1.specs.Lawful.{IsWrite}
 
 -- ── a record's fields, by their offsets ──
 
@@ -21,6 +22,9 @@ module _ (s : List ℕ) (at : ℕ) where
 
   abbrev pub serial : ℕ
   serial = le 4 s (at + 4)
+
+  abbrev pub session : ℕ
+  session = le 2 s (at + 8)
 
   abbrev pub key : ℕ
   key = le 4 s (at + 8)
@@ -106,11 +110,7 @@ pub data Excess (k : ℕ) (h : History) : Type 0 where
 pub record Repeated (s : List ℕ) (at : ℕ) (h : History) : Type 0 where
   pub writes : kind s at ≡ 3
   pub by : ℕ
-  pub from : 1 ≤ by
-  pub to : by ≤ opCount h
-  pub is-write : op h by .isWrite ≡ true
-  pub same-key : op h by .key ≡ key s at
-  pub same-value : op h by .value ≡ value s at
+  pub earlier : IsWrite h (key s at) (value s at) by
 
 -- the check fails at the record that a state has come to
 abbrev pub Fails : List ℕ → State → Check → Type 0
@@ -128,25 +128,58 @@ Fails s st newWrite = Repeated s (st .at) (st .history)
 abbrev pub Passes : List ℕ → State → Type 0
 Passes s st = (c : Check) → Fails s st c → ⊥
 
+-- c is the first check that fails
+pub record FirstFailing (s : List ℕ) (st : State) (c : Check) : Type 0 where
+  pub fails : Fails s st c
+  pub none-before : (d : Check) → rank d < rank c → Fails s st d → ⊥
+
+-- ── what a record leaves ──
+
+-- the next one starts behind it; "Each later serial is its predecessor plus one; after 4,294,967,295 comes 0."
+abbrev pub moved : List ℕ → State → History → List Stretch → State
+moved s st h notes = record { at = behind s (st .at); serial = (serial s (st .at) + 1) % 2 ^ 32; history = h; notes = notes }
+
+-- the operation that a read or a write is: "Transactions do not overlap", so it belongs to the latest opened
+abbrev pub opAt : List ℕ → ℕ → History → Bool → Op
+opAt s at h w = record { tx = txCount h; isWrite = w; key = key s at; value = value s at }
+
+-- a note's text, as a stretch of the trace
+abbrev pub textAt : List ℕ → ℕ → Stretch
+textAt s at = record { start = at + 8; length = len s at - 6 }
+
+-- the state behind the record, which is not the end
+pub data Next (s : List ℕ) (st : State) : State → Type 0 where
+  after-open : kind s (st .at) ≡ 1 → Next s st (moved s st (opened (st .history) (session s (st .at))) (st .notes))
+  after-read : kind s (st .at) ≡ 2 → Next s st (moved s st (withOp (st .history) (opAt s (st .at) (st .history) false)) (st .notes))
+  after-write : kind s (st .at) ≡ 3 → Next s st (moved s st (withOp (st .history) (opAt s (st .at) (st .history) true)) (st .notes))
+  after-close : kind s (st .at) ≡ 4 → Next s st (moved s st (closed (st .history) (txCount (st .history)) (status s (st .at))) (st .notes))
+  after-note : kind s (st .at) ≡ 6 → Next s st (moved s st (st .history) (st .notes ++ (textAt s (st .at) ∷ [])))
+
 -- ── how far reading comes, and how it ends ──
 
 -- the records up to a state pass every check, and none of them is the end
 pub data Reaches (s : List ℕ) : State → Type 0 where
   start : Reaches s begin
-  on : {st : State} → Reaches s st → Passes s st → (kind s (st .at) ≡ 5 → ⊥) → Reaches s (after s st)
+  on : {st next : State} → Reaches s st → Passes s st → Next s st next → Reaches s next
 
 -- row n refuses the trace at place p, and nothing earlier in the document's order does
 pub data Refuses (s : List ℕ) : ℕ → ℕ → Type 0 where
   too-long : 32768 < length s → Refuses s 2 32768
-  at-record : {st : State} → length s ≤ 32768 → Reaches s st → (c : Check) → Fails s st c → ((d : Check) → rank d < rank c → Fails s st d → ⊥)
-      → Refuses s (numberOf c) (st .at)
+  at-record : {st : State} {c : Check} → length s ≤ 32768 → Reaches s st → FirstFailing s st c → Refuses s (numberOf c) (st .at)
   bytes-behind : {st : State} → length s ≤ 32768 → Reaches s st → Passes s st → kind s (st .at) ≡ 5 → behind s (st .at) < length s
       → Refuses s 11 (behind s (st .at))
 
 -- the trace is read: the end record is its last
 pub data Reads (s : List ℕ) : History → List Stretch → Type 0 where
   to-the-end : {st : State} → length s ≤ 32768 → Reaches s st → Passes s st → kind s (st .at) ≡ 5 → behind s (st .at) ≡ length s
-      → Reads s (after s st .history) (after s st .notes)
+      → Reads s (st .history) (st .notes)
+
+-- every trace is refused, on one row and at one place, or read, in one way, and never both
+pub record OneOutcome (s : List ℕ) : Type 0 where
+  pub either : ((n : ℕ) × (p : ℕ) × Refuses s n p) ⊎ ((h : History) × (notes : List Stretch) × Reads s h notes)
+  pub not-both : (n p : ℕ) (h : History) (notes : List Stretch) → Refuses s n p → Reads s h notes → ⊥
+  pub one-refusal : (n p m q : ℕ) → Refuses s n p → Refuses s m q → (n ≡ m) × (p ≡ q)
+  pub one-reading : (h g : History) (notes texts : List Stretch) → Reads s h notes → Reads s g texts → (h ≡ g) × (notes ≡ texts)
 
 -- the outcome of judging is a refusal with number n and place p: rows 1 to 14, with buffers of f, p and o bytes
 pub data Declines (s : List ℕ) (level f p o : ℕ) : ℕ → ℕ → Type 0 where
@@ -158,3 +191,8 @@ pub data Declines (s : List ℕ) (level f p o : ℕ) : ℕ → ℕ → Type 0 wh
       → length (findingList h) ≤ f → p < length (pairList h level) → Declines s level f p o 13 (length (pairList h level))
   order-short : {h : History} {notes : List Stretch} → 1 ≤ level → level ≤ 3 → Reads s h notes → isAccepted h level ≡ true
       → o < length (order h level) → Declines s level f p o 14 (length (order h level))
+
+-- asking for note k is refused with number n and place p: "it takes 2 to 11 and then 15"
+pub data NoteDeclines (s : List ℕ) (k : ℕ) : ℕ → ℕ → Type 0 where
+  trace-refused : {n at : ℕ} → Refuses s n at → NoteDeclines s k n at
+  no-note : {h : History} {notes : List Stretch} → Reads s h notes → ((1 ≤ k) × (k ≤ length notes) → ⊥) → NoteDeclines s k 15 0

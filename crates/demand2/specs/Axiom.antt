@@ -1,12 +1,12 @@
 -- The axioms of the three levels as Biswas and Enea published them (OOPSLA 2019), over a history: no forced pair is mentioned here.
-use Prim.Native.Nat.{ℕ, _+_, _<_, _≤_}
+use Prim.Native.Nat.{ℕ, _<_}
 use mathlib.Core.Path.{_≡_}
-use mathlib.Core.Bool.{Bool, true, false}
+use mathlib.Core.Bool.{true}
 use mathlib.Core.List.{List}
 use mathlib.Core.Logic.{_⊎_}
 use lib.ListN.{length, getD}
 use Rattle.theory.specs.Order.{place, Lex}
-use Rattle.rules.specs.History.{History, tx, op, opCount, size, committed}
+use Rattle.rules.specs.History.{History, tx, op, size, committed}
 use Rattle.demand2.specs.Kinds.{WriteIn, WriteOf, JudgedRead}
 
 -- a committed transaction, 0 among them
@@ -19,11 +19,12 @@ pub data SO (h : History) (a b : ℕ) : Type 0 where
   from-0 : a ≡ 0 → 0 < b → Member h b → SO h a b
   in-session : 0 < a → a < b → Member h a → Member h b → tx h a .session ≡ tx h b .session → SO h a b
 
--- read i is a read of x in t3 from another transaction t1: its value is 0 and t1 is 0, or t1 wrote it
+-- t1 is where the value of read i comes from: the value is 0 and t1 is 0, or t1 wrote it
 pub data Source (h : History) (i t1 : ℕ) : Type 0 where
   initial : op h i .value ≡ 0 → t1 ≡ 0 → Source h i t1
   written : {j : ℕ} → WriteOf h t1 (op h i .key) (op h i .value) j → Source h i t1
 
+-- read i, of x in t3, comes from another transaction t1
 pub record ReadFrom (h : History) (t1 t3 x i : ℕ) : Type 0 where
   pub judged : JudgedRead h i
   pub in-tx : op h i .tx ≡ t3
@@ -31,7 +32,7 @@ pub record ReadFrom (h : History) (t1 t3 x i : ℕ) : Type 0 where
   pub source : Source h i t1
   pub other : t1 ≡ t3 → ⊥
 
--- write-read
+-- write-read: some read in b comes from a
 pub record WR (h : History) (a b : ℕ) : Type 0 where
   pub key : ℕ
   pub by : ℕ

@@ -1,7 +1,7 @@
 -- Document 01's six kinds of read as conditions in its own terms, apart from the function that computes the kind.
-use Prim.Native.Nat.{ℕ, _+_, _<_, _≤_}
+use Prim.Native.Nat.{ℕ, _<_, _≤_}
 use mathlib.Core.Path.{_≡_}
-use mathlib.Core.Bool.{Bool, true, false}
+use mathlib.Core.Bool.{true, false}
 use mathlib.Core.Logic.{_⊎_}
 use Rattle.rules.specs.History.{History, op, opCount, committed}
 

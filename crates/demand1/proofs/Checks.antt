@@ -1,0 +1,194 @@
+-- Each test of the reading passes exactly if the document's condition holds, where no earlier check fails.
+use Prim.Native.Nat.{ℕ, _+_, _<_, _≤_}
+use mathlib.Core.Path.{_≡_, refl, ap}
+use mathlib.Core.Bool.{true, false, not, false≢true}
+use mathlib.Core.List.{List}
+use mathlib.Core.Logic.{_⊎_, inl, inr, ⊎-elim, _↔_}
+use native.Mathlib.Omega.{arith}
+use lib.Dec.{ltb, eqb}
+use lib.ListN.{getD}
+use borrow.Author.Tests.{ltb-true, ltb-false, leb-true, eqb-true, eqb-false, lt-ltb, le-leb, eq-eqb, ne-eqb}
+use Rattle.base.proofs.Tests.{clash, is-false, is-true, not-true, both, and-left, and-right, or-cases, or-left, or-right}
+use Rattle.base.proofs.Searches.{first-cases}
+use Rattle.rules.specs.History.{History, op, txCount, opCount, current, writesValue, writeOf}
+use Rattle.rules.specs.Records.{lows, highs, breaks, isUnknown, isMisfit, eventAt}
+use Rattle.rules.specs.Reading.{State, misplaced, unlawful, excess, repeats}
+use Rattle.demand1.specs.Lawful.{IsOp, IsWrite}
+use Rattle.demand1.specs.Rows.{len, kind, serial, key, value, Inside, Check, lengthField, lengthLow, bytesThere, serialFollows, kindKnown, lengthFits, inPlace, valueLawful, withinLimit, newWrite, rank, WrongLength, open-not-8, read-not-18, write-not-18, close-not-7, end-not-8, note-above-70, Misplaced, open-inside, read-outside, write-outside, close-outside, end-inside, Unlawful, written-0, status-above-1, end-wrong, Excess, open-128th, read-1025th, write-1025th, Repeated, Fails}
+use Rattle.demand1.specs.Tests.{test}
+use Rattle.demand1.proofs.Histories.{inside-current, outside-current, current-inside, current-outside}
+use Rattle.demand1.proofs.Events.{Clear, Framed, is-sized, is-framed, Shape, open-record, read-record, write-record, close-record, end-record, note-record, shape, open-event, read-event, write-event, close-event, end-event, by-kind}
+
+-- ── the frame ──
+
+-- row 5
+serial-test : (s : List ℕ) (at e : ℕ) → (breaks s at e ≡ true) ↔ ((0 < at) × (serial s at ≡ e → ⊥))
+unfolding breaks
+serial-test s at e = (
+  λ t. (ltb-true 0 at (and-left _ _ t), eqb-false (serial s at) e (not-true _ (and-right _ _ t))),
+  λ f. both _ _ (lt-ltb 0 at (f .0)) (ap not (ne-eqb (serial s at) e (f .1))),
+)
+
+-- row 6
+kind-test : (k : ℕ) → (isUnknown k ≡ true) ↔ ((k < 1) ⊎ (6 < k))
+unfolding isUnknown
+kind-test k = (
+  λ t. ⊎-elim (λ a. inl (ltb-true k 1 a)) (λ b. inr (ltb-true 6 k b)) (or-cases _ _ t),
+  ⊎-elim (λ a. or-left _ _ (lt-ltb k 1 a)) (λ b. or-right _ _ (lt-ltb 6 k b)),
+)
+
+-- the table's lengths
+misfit : (k n : ℕ) → isMisfit k n ≡ true → (n < getD lows k 0) ⊎ (getD highs k 0 < n)
+unfolding isMisfit
+misfit k n t = ⊎-elim (λ a. inl (ltb-true _ _ a)) (λ b. inr (ltb-true _ _ b)) (or-cases _ _ t)
+
+fit : (k n : ℕ) → isMisfit k n ≡ false → (getD lows k 0 ≤ n) × (n ≤ getD highs k 0)
+unfolding isMisfit
+fit k n t =
+    (ltb-false n (getD lows k 0) (is-false _ (λ a. clash (or-left _ _ a) t)), ltb-false (getD highs k 0) n (is-false _ (λ b. clash (or-right _ _ b) t)))
+
+-- a kind k with one length l
+one-length : (k l n : ℕ) {j : ℕ} → j ≡ k → getD lows k 0 ≡ l → getD highs k 0 ≡ l → (isMisfit j n ≡ true) ↔ (n ≡ l → ⊥)
+one-length k l n e a b =
+    rw e
+    (λ t d. ⊎-elim (λ x. omega arith) (λ x. omega arith) (misfit k n t), λ d. is-true _ (λ t. d (let r = fit k n t in omega (arith, r .0, r .1))))
+
+-- a note
+note-length : (n : ℕ) {j : ℕ} → j ≡ 6 → 6 ≤ n → (isMisfit j n ≡ true) ↔ (70 < n)
+note-length n e l =
+    rw e (λ t. ⊎-elim (λ x. absurd (omega arith)) (λ x. x) (misfit 6 n t), λ d. is-true _ (λ t. let r = fit 6 n t in omega (arith, r .1)))
+
+-- row 4, length for its kind
+length-test : (k n : ℕ) → 1 ≤ k → k ≤ 6 → 6 ≤ n → (isMisfit k n ≡ true) ↔ WrongLength k n
+length-test k n l h m = (to, from)
+  where
+    to : isMisfit k n ≡ true → WrongLength k n
+    to t =
+        by-kind k l h (λ e. open-not-8 e (one-length 1 8 n e refl refl .0 t)) (λ e. read-not-18 e (one-length 2 18 n e refl refl .0 t))
+        (λ e. write-not-18 e (one-length 3 18 n e refl refl .0 t)) (λ e. close-not-7 e (one-length 4 7 n e refl refl .0 t))
+        (λ e. end-not-8 e (one-length 5 8 n e refl refl .0 t)) (λ e. note-above-70 e (note-length n e m .0 t))
+
+    from : WrongLength k n → isMisfit k n ≡ true
+    from (open-not-8 e d) = one-length 1 8 n e refl refl .1 d
+    from (read-not-18 e d) = one-length 2 18 n e refl refl .1 d
+    from (write-not-18 e d) = one-length 3 18 n e refl refl .1 d
+    from (close-not-7 e d) = one-length 4 7 n e refl refl .1 d
+    from (end-not-8 e d) = one-length 5 8 n e refl refl .1 d
+    from (note-above-70 e d) = note-length n e m .1 d
+
+-- ── the event ──
+
+-- inside and outside a transaction
+inside-test : (h : History) → (ltb 0 (current h) ≡ true) ↔ Inside h
+inside-test h = (λ t. current-inside h (ltb-true 0 (current h) t), λ i. lt-ltb 0 (current h) (omega (arith, inside-current h i, i .0)))
+
+outside-test : (h : History) → (eqb (current h) 0 ≡ true) ↔ (Inside h → ⊥)
+outside-test h = (λ t. current-outside h (eqb-true (current h) 0 t), λ o. eq-eqb (current h) 0 (outside-current h o))
+
+-- `writesValue` in parts
+writes-value : (h : History) (x v i : ℕ) → IsOp h i → writesValue h x v i ≡ true → IsWrite h x v i
+unfolding writesValue
+writes-value h x v i o t =
+    record {
+      is-op = o;
+      is-write = and-right _ _ (and-left _ _ t);
+      of-key = eqb-true (op h i .key) x (and-right _ _ t);
+      of-value = eqb-true (op h i .value) v (and-left _ _ (and-left _ _ t));
+    }
+
+value-written : {h : History} {x v i : ℕ} → IsWrite h x v i → writesValue h x v i ≡ true
+unfolding writesValue
+value-written {h} {x} {v} {i} w = both _ _ (both _ _ (eq-eqb (op h i .value) v (w .of-value)) (w .is-write)) (eq-eqb (op h i .key) x (w .of-key))
+
+-- what `writeOf` finds is a write, and there is none where it finds nothing
+pub write-found : (h : History) (x v : ℕ) → 0 < writeOf h x v → IsWrite h x v (writeOf h x v)
+unfolding writeOf
+write-found h x v l =
+    ⊎-elim (λ z. absurd (omega (arith, z .0))) (λ f. writes-value h x v _ (record { from = f .from; to = omega (arith, f .to) }) (f .passes))
+    (first-cases 0 (writesValue h x v) (opCount h + 1) 1)
+
+pub write-known : {h : History} {x v i : ℕ} → IsWrite h x v i → 0 < writeOf h x v
+unfolding writeOf
+write-known {h} {x} {v} {i} w =
+    ⊎-elim (λ z. absurd (clash (value-written w) (z .1 i (w .is-op .from) (omega (arith, w .is-op .to))))) (λ f. omega (arith, f .from))
+    (first-cases 0 (writesValue h x v) (opCount h + 1) 1)
+
+module _ {s : List ℕ} {at : ℕ} (f : Framed s at) (h : History) where
+  -- row 7
+  to-misplaced : Shape s at → misplaced (current h) (eventAt s at) ≡ true → Misplaced (kind s at) h
+  unfolding misplaced
+  to-misplaced (open-record k e) t = open-inside k (inside-test h .0 (rw e at t))
+  to-misplaced (read-record k e) t = read-outside k (outside-test h .0 (rw e at t))
+  to-misplaced (write-record k e) t = write-outside k (outside-test h .0 (rw e at t))
+  to-misplaced (close-record k e) t = close-outside k (outside-test h .0 (rw e at t))
+  to-misplaced (end-record k e) t = end-inside k (inside-test h .0 (rw e at t))
+  to-misplaced (note-record k e) t = absurd (false≢true (rw e at t))
+
+  is-misplaced : Misplaced (kind s at) h → misplaced (current h) (eventAt s at) ≡ true
+  unfolding misplaced
+  is-misplaced (open-inside k i) = rw (open-event f k) (inside-test h .1 i)
+  is-misplaced (read-outside k o) = rw (read-event f k) (outside-test h .1 o)
+  is-misplaced (write-outside k o) = rw (write-event f k) (outside-test h .1 o)
+  is-misplaced (close-outside k o) = rw (close-event f k) (outside-test h .1 o)
+  is-misplaced (end-inside k i) = rw (end-event f k) (inside-test h .1 i)
+
+  -- row 8
+  to-unlawful : Shape s at → unlawful h (eventAt s at) ≡ true → Unlawful s at h
+  unfolding unlawful
+  to-unlawful (open-record k e) t = absurd (false≢true (rw e at t))
+  to-unlawful (read-record k e) t = absurd (false≢true (rw e at t))
+  to-unlawful (write-record k e) t = written-0 k (eqb-true _ 0 (rw e at t))
+  to-unlawful (close-record k e) t = status-above-1 k (ltb-true 1 _ (rw e at t))
+  to-unlawful (end-record k e) t = end-wrong k (eqb-false _ (txCount h) (not-true _ (rw e at t)))
+  to-unlawful (note-record k e) t = absurd (false≢true (rw e at t))
+
+  is-unlawful : Unlawful s at h → unlawful h (eventAt s at) ≡ true
+  unfolding unlawful
+  is-unlawful (written-0 k z) = rw (write-event f k) (eq-eqb _ 0 z)
+  is-unlawful (status-above-1 k l) = rw (close-event f k) (lt-ltb 1 _ l)
+  is-unlawful (end-wrong k d) = rw (end-event f k) (ap not (ne-eqb _ (txCount h) d))
+
+  -- row 9
+  to-excess : Shape s at → excess h (eventAt s at) ≡ true → Excess (kind s at) h
+  unfolding excess
+  to-excess (open-record k e) t = open-128th k (leb-true 127 (txCount h) (rw e at t))
+  to-excess (read-record k e) t = read-1025th k (leb-true 1024 (opCount h) (rw e at t))
+  to-excess (write-record k e) t = write-1025th k (leb-true 1024 (opCount h) (rw e at t))
+  to-excess (close-record k e) t = absurd (false≢true (rw e at t))
+  to-excess (end-record k e) t = absurd (false≢true (rw e at t))
+  to-excess (note-record k e) t = absurd (false≢true (rw e at t))
+
+  is-excess : Excess (kind s at) h → excess h (eventAt s at) ≡ true
+  unfolding excess
+  is-excess (open-128th k l) = rw (open-event f k) (le-leb 127 (txCount h) l)
+  is-excess (read-1025th k l) = rw (read-event f k) (le-leb 1024 (opCount h) l)
+  is-excess (write-1025th k l) = rw (write-event f k) (le-leb 1024 (opCount h) l)
+
+  -- row 10
+  to-repeated : Shape s at → repeats h (eventAt s at) ≡ true → Repeated s at h
+  unfolding repeats
+  to-repeated (open-record k e) t = absurd (false≢true (rw e at t))
+  to-repeated (read-record k e) t = absurd (false≢true (rw e at t))
+  to-repeated (write-record k e) t = record { writes = k; by = writeOf h (key s at) (value s at); earlier = write-found h _ _ (ltb-true 0 _ (rw e at t)) }
+  to-repeated (close-record k e) t = absurd (false≢true (rw e at t))
+  to-repeated (end-record k e) t = absurd (false≢true (rw e at t))
+  to-repeated (note-record k e) t = absurd (false≢true (rw e at t))
+
+  is-repeated : Repeated s at h → repeats h (eventAt s at) ≡ true
+  unfolding repeats
+  is-repeated r = rw (write-event f (r .writes)) (lt-ltb 0 _ (write-known (r .earlier)))
+
+-- ── the ten rows ──
+
+-- a check's test passes exactly if its condition holds, where none before it fails
+pub check-row : (s : List ℕ) (st : State) (c : Check) → Clear s st (rank c) → (test s st c ≡ true) ↔ Fails s st c
+check-row s st lengthField p = (ltb-true _ _, lt-ltb _ _)
+check-row s st lengthLow p = (ltb-true _ _, lt-ltb _ _)
+check-row s st bytesThere p = (ltb-true _ _, lt-ltb _ _)
+check-row s st serialFollows p = serial-test s (st .at) (st .serial)
+check-row s st kindKnown p = kind-test (kind s (st .at))
+check-row s st lengthFits p = let z = is-sized p in length-test (kind s (st .at)) (len s (st .at)) (z .kind-low) (z .kind-high) (z .low)
+check-row s st inPlace p = let f = is-framed p in (to-misplaced f (st .history) (shape f), is-misplaced f (st .history))
+check-row s st valueLawful p = let f = is-framed (λ d l. p d (omega arith)) in (to-unlawful f (st .history) (shape f), is-unlawful f (st .history))
+check-row s st withinLimit p = let f = is-framed (λ d l. p d (omega arith)) in (to-excess f (st .history) (shape f), is-excess f (st .history))
+check-row s st newWrite p = let f = is-framed (λ d l. p d (omega arith)) in (to-repeated f (st .history) (shape f), is-repeated f (st .history))

@@ -1,0 +1,209 @@
+-- Every history that a trace is read into is lawful: by induction over the records that pass.
+use Prim.Native.Nat.{ℕ, _+_, _<_, _≤_}
+use mathlib.Core.Path.{_≡_, refl, sym, _∙_}
+use mathlib.Core.Bool.{true, false}
+use mathlib.Core.List.{List}
+use mathlib.Core.Logic.{_⊎_, inl, inr, ⊎-elim}
+use native.Mathlib.Omega.{arith}
+use Rattle.base.proofs.Tests.{clash, split}
+use Rattle.rules.specs.History.{History, Op, tx, op, txCount, opCount, empty, opened, closed, withOp}
+use Rattle.rules.specs.Reading.{State, Stretch}
+use Rattle.demand1.specs.Lawful.{IsOp, IsWrite, IsTx, LawfulHistory}
+use Rattle.demand1.specs.Rows.{session, status, opAt, Inside, Passes, inPlace, valueLawful, withinLimit, newWrite, open-inside, read-outside, write-outside, close-outside, end-inside, written-0, status-above-1, open-128th, read-1025th, write-1025th, Next, after-open, after-read, after-write, after-close, after-note, Reaches, start, on, Reads, to-the-end}
+use Rattle.demand1.proofs.Histories.{op-count, op-old, op-new, open-count, open-old, open-new, close-count, close-this, close-other}
+use Rattle.demand1.proofs.Events.{same-or, at-least, below}
+use Rattle.demand1.proofs.Steps.{inside}
+
+-- ── operations ──
+
+-- the part of a lawful history that is about operations
+record LawfulOps (h : History) : Type 0 where
+  pub few-ops : opCount h ≤ 1024
+  pub in-tx : (i : ℕ) → IsOp h i → IsTx h (op h i .tx)
+  pub not-zero : (x i : ℕ) → IsWrite h x 0 i → ⊥
+  pub one-write : (x v i j : ℕ) → IsWrite h x v i → IsWrite h x v j → i ≡ j
+
+-- a write of one history is a write of another that has the same operation at its number
+write-in : {g : History} (h : History) {x v i : ℕ} → i ≤ opCount h → op g i ≡ op h i → IsWrite g x v i → IsWrite h x v i
+write-in h l e w =
+    record {
+      is-op = record { from = w .is-op .from; to = l };
+      is-write = rw (← e) (w .is-write);
+      of-key = rw (← e) (w .of-key);
+      of-value = rw (← e) (w .of-value);
+    }
+
+-- a transaction stays one where no transaction goes
+tx-in : {h : History} (g : History) {t : ℕ} → txCount h ≤ txCount g → IsTx h t → IsTx g t
+tx-in g l i = record { from = i .from; to = omega (arith, i .to) }
+
+-- the operations stay and no transaction goes
+ops-kept : {h : History} (g : History) → g .ops ≡ h .ops → txCount h ≤ txCount g → LawfulOps h → LawfulOps g
+unfolding op
+ops-kept {h} g e l r =
+    let same : (i : ℕ) → op g i ≡ op h i = λ i. rw e in
+    let write : (x v i : ℕ) → IsWrite g x v i → IsWrite h x v i = λ x v i w. write-in h (rw e at (w .is-op .to)) (same i) w in
+    record {
+      few-ops = rw e (r .few-ops);
+      in-tx = λ i o. rw (same i) (tx-in g l (r .in-tx i (record { from = o .from; to = rw e at (o .to) })));
+      not-zero = λ x i w. r .not-zero x i (write x 0 i w);
+      one-write = λ x v i j w u. r .one-write x v i j (write x v i w) (write x v j u);
+    }
+
+-- an operation that may be entered
+record Fresh (h : History) (o : Op) : Type 0 where
+  pub room : opCount h < 1024
+  pub in-tx : IsTx h (o .tx)
+  pub not-zero : o .isWrite ≡ true → o .value ≡ 0 → ⊥
+  pub new : o .isWrite ≡ true → (i : ℕ) → IsWrite h (o .key) (o .value) i → ⊥
+
+module _ (h : History) (o : Op) where
+  -- the new operation as a write
+  record NewWrite (x v i : ℕ) : Type 0 where
+    pub last : i ≡ opCount h + 1
+    pub is-write : o .isWrite ≡ true
+    pub of-key : o .key ≡ x
+    pub of-value : o .value ≡ v
+
+  -- an operation is one of the old ones or the new one
+  old-or-new : {i : ℕ} → IsOp (withOp h o) i → ((i ≤ opCount h) × (op (withOp h o) i ≡ op h i)) ⊎ ((i ≡ opCount h + 1) × (op (withOp h o) i ≡ o))
+  old-or-new {i} p =
+      ⊎-elim (λ l. let n : i ≡ opCount h + 1 = omega (arith, op-count h o, p .to) in inr (n, rw n (op-new h o))) (λ g. inl (g, op-old h o i g))
+      (split (opCount h) i)
+
+  write-cases : {x v i : ℕ} → IsWrite (withOp h o) x v i → IsWrite h x v i ⊎ NewWrite x v i
+  write-cases w =
+      ⊎-elim (λ a. inl (write-in h (a .0) (a .1) w))
+      (λ n.
+      inr (record { last = n .0; is-write = rw (n .1) at (w .is-write); of-key = rw (n .1) at (w .of-key); of-value = rw (n .1) at (w .of-value) }))
+      (old-or-new (w .is-op))
+
+  -- a fresh operation leaves them lawful
+  ops-more : LawfulOps h → Fresh h o → LawfulOps (withOp h o)
+  unfolding withOp
+  ops-more r f =
+      record {
+        few-ops = omega (arith, op-count h o, f .room);
+        in-tx = λ i p.
+            ⊎-elim (λ a. rw (a .1) (tx-in (withOp h o) (omega arith) (r .in-tx i (record { from = p .from; to = a .0 }))))
+            (λ n. rw (n .1) (tx-in (withOp h o) (omega arith) (f .in-tx))) (old-or-new p);
+        not-zero = λ x i w. ⊎-elim (λ a. r .not-zero x i a) (λ n. f .not-zero (n .is-write) (n .of-value)) (write-cases w);
+        one-write = λ x v i j w u.
+            ⊎-elim (λ a. ⊎-elim (λ b. r .one-write x v i j a b) (λ n. absurd (repeat n a)) (write-cases u))
+            (λ n. ⊎-elim (λ b. absurd (repeat n b)) (λ m. n .last ∙ sym (m .last)) (write-cases u)) (write-cases w);
+      }
+    where
+      repeat : {x v i j : ℕ} → NewWrite x v i → IsWrite h x v j → ⊥
+      repeat {x} {v} {i} {j} n a = f .new (n .is-write) j (rw (n .of-key, n .of-value) a)
+
+-- ── transactions ──
+
+-- aborted or committed
+abbrev Over : History → ℕ → Type 0
+Over h t = (tx h t .status ≡ 0) ⊎ (tx h t .status ≡ 1)
+
+-- each is over, but for the latest, which may be open
+record LawfulTxs (h : History) : Type 0 where
+  pub few-txs : txCount h ≤ 127
+  pub so-far : (t : ℕ) → IsTx h t → Over h t ⊎ ((t ≡ txCount h) × Inside h)
+
+-- outside a transaction each is over
+all-over : {h : History} → LawfulTxs h → (Inside h → ⊥) → (t : ℕ) → IsTx h t → Over h t
+all-over r out t i = ⊎-elim (λ o. o) (λ l. absurd (out (l .1))) (r .so-far t i)
+
+txs-kept : {h : History} (g : History) → g .txs ≡ h .txs → LawfulTxs h → LawfulTxs g
+unfolding tx
+txs-kept {h} g e r =
+    record { few-txs = rw e (r .few-txs); so-far = λ t i. rw e (r .so-far t (record { from = i .from; to = rw e at (i .to) })) }
+
+-- one more is open
+txs-more : {h : History} (s : ℕ) → LawfulTxs h → (Inside h → ⊥) → txCount h < 127 → LawfulTxs (opened h s)
+txs-more {h} s r out l =
+    record {
+      few-txs = omega (arith, open-count h s);
+      so-far = λ t i.
+          ⊎-elim (λ g. let n : t ≡ txCount h + 1 = omega (arith, open-count h s, i .to) in inr (n ∙ sym (open-count h s), (omega (arith, open-count h s), rw (open-count h s, open-new h s))))
+          (λ o. inl (rw (open-old h s t o) (all-over r out t (record { from = i .from; to = o })))) (split (txCount h) t);
+    }
+
+-- the open one is closed
+txs-close : {h : History} (x : ℕ) → LawfulTxs h → Inside h → x ≤ 1 → LawfulTxs (closed h (txCount h) x)
+txs-close {h} x r ins l =
+    record {
+      few-txs = omega (arith, close-count h (txCount h) x, r .few-txs);
+      so-far = λ t i.
+          let to : t ≤ txCount h = omega (arith, close-count h (txCount h) x, i .to) in
+          inl (same-or t (txCount h)
+          (λ e. rw (e, close-this h (txCount h) x (ins .0) (omega arith)) (⊎-elim (λ z. inl (omega arith)) (λ z. inr (omega arith)) (split x 1)))
+          (λ d. rw (close-other h (txCount h) x t (i .from) to d)
+          (⊎-elim (λ o. o) (λ b. absurd (d (b .0))) (r .so-far t (record { from = i .from; to = to })))));
+    }
+
+-- ── by induction ──
+
+record Growing (h : History) : Type 0 where
+  pub ops : LawfulOps h
+  pub txs : LawfulTxs h
+
+growing-begin : Growing empty
+growing-begin =
+    record {
+      ops = record {
+        few-ops = omega arith;
+        in-tx = λ i o. absurd (omega (arith, o .from, o .to));
+        not-zero = λ x i w. omega (arith, w .is-op .from, w .is-op .to);
+        one-write = λ x v i j w u. absurd (omega (arith, w .is-op .from, w .is-op .to));
+      };
+      txs = record { few-txs = omega arith; so-far = λ t i. absurd (omega (arith, i .from, i .to)) };
+    }
+
+-- one operation more, in the open transaction
+grown-op : {h : History} (o : Op) → Growing h → Inside h → o .tx ≡ txCount h → opCount h < 1024 → (o .isWrite ≡ true → o .value ≡ 0 → ⊥)
+    → (o .isWrite ≡ true → (i : ℕ) → IsWrite h (o .key) (o .value) i → ⊥) → Growing (withOp h o)
+unfolding withOp
+grown-op {h} o g ins t l z n =
+    record {
+      ops = ops-more h o (g .ops) (record { room = l; in-tx = rw t (record { from = ins .0; to = omega arith }); not-zero = z; new = n });
+      txs = txs-kept (withOp h o) refl (g .txs);
+    }
+
+module _ (s : List ℕ) (st : State) (p : Passes s st) (g : Growing (st .history)) where
+  -- a passing record leaves the history growing
+  grown : {x : State} → Next s st x → Growing (x .history)
+  unfolding opened closed
+  grown (after-open k) =
+      record {
+        ops = ops-kept (opened (st .history) (session s (st .at))) refl (omega (arith, open-count (st .history) (session s (st .at)))) (g .ops);
+        txs = txs-more (session s (st .at)) (g .txs) (λ i. p inPlace (open-inside k i)) (below _ 127 (λ l. p withinLimit (open-128th k l)));
+      }
+  grown (after-read k) =
+      grown-op (opAt s (st .at) (st .history) false) g (inside s st p (read-outside k)) refl (below _ 1024 (λ l. p withinLimit (read-1025th k l)))
+      (λ w. absurd (clash w refl)) (λ w. absurd (clash w refl))
+  grown (after-write k) =
+      grown-op (opAt s (st .at) (st .history) true) g (inside s st p (write-outside k)) refl (below _ 1024 (λ l. p withinLimit (write-1025th k l)))
+      (λ _ z. p valueLawful (written-0 k z)) (λ _ i w. p newWrite (record { writes = k; by = i; earlier = w }))
+  grown (after-close k) =
+      let h = st .history in
+      record {
+        ops = ops-kept (closed h (txCount h) (status s (st .at))) refl (omega (arith, close-count h (txCount h) (status s (st .at)))) (g .ops);
+        txs = txs-close (status s (st .at)) (g .txs) (inside s st p (close-outside k)) (at-least _ 1 (λ l. p valueLawful (status-above-1 k l)));
+      }
+  grown (after-note k) = g
+
+-- the history of a state that reading comes to
+growing : {s : List ℕ} {st : State} → Reaches s st → Growing (st .history)
+growing start = growing-begin
+growing {s} (on {st} r p n) = grown s st p (growing r) n
+
+-- a trace that is read gives a lawful history
+pub lawful-history : {s : List ℕ} {h : History} {notes : List Stretch} → Reads s h notes → LawfulHistory h
+lawful-history (to-the-end l r p k e) =
+    let g = growing r in
+    record {
+      few-txs = g .txs .few-txs;
+      few-ops = g .ops .few-ops;
+      in-tx = g .ops .in-tx;
+      not-zero = g .ops .not-zero;
+      one-write = g .ops .one-write;
+      is-over = all-over (g .txs) (λ i. p inPlace (end-inside k i));
+    }

@@ -1,0 +1,6 @@
+pub mod Lists
+pub mod Kind
+pub mod Pairs
+pub mod Axiom
+pub mod Accepted
+pub mod Traces

@@ -44,6 +44,7 @@ pub record Framed (s : List ℕ) (at : ℕ) : Type 0 where
   pub sized : Sized s at
   pub fits : WrongLength (kind s at) (len s at) → ⊥
 
+-- the checks leave it
 pub is-sized : {s : List ℕ} {st : State} → Clear s st 5 → Sized s (st .at)
 is-sized p =
     record {
@@ -87,10 +88,12 @@ pub by-kind : {P : Type 0} (k : ℕ) → 1 ≤ k → k ≤ 6 → (k ≡ 1 → P)
 by-kind k l h p1 p2 p3 p4 p5 p6 =
     same-or k 1 p1 (λ d1. same-or k 2 p2 (λ d2. same-or k 3 p3 (λ d3. same-or k 4 p4 (λ d4. same-or k 5 p5 (λ d5. p6 (omega arith))))))
 
+-- a number that is not another than b
 exactly : (a b : ℕ) → ((a ≡ b → ⊥) → ⊥) → a ≡ b
 exactly a b h = same-or a b (λ e. e) (λ d. absurd (h d))
 
 module _ {s : List ℕ} {at : ℕ} (f : Framed s at) where
+  -- each kind with what its payload says
   pub open-event : kind s at ≡ 1 → eventAt s at ≡ Open (session s at)
   unfolding eventAt eventOf pick
   open-event k = rw k (ap Open (payload f 2 0 8 (exactly (len s at) 8 (λ d. f .fits (open-not-8 k d))) (omega arith)))

@@ -33,6 +33,7 @@ level-test level = (
 module _ (s : List ℕ) (level : ℕ) (fs ps os : List ℕ) where
   -- ── the outcome, case by case ──
 
+  -- rows 1 and 2 to 11
   pub judged-level : 1 ≤ level → level ≤ 3 → judged s level fs ps os ≡ judgedRead (reading s) level fs ps os
   unfolding judged
   judged-level a b = pick-on (isLevel level) _ _ (level-test level .1 (a, b))
@@ -46,6 +47,7 @@ module _ (s : List ℕ) (level : ℕ) (fs ps os : List ℕ) where
   judged-refused n p = refl
 
   module _ (h : History) where
+    -- "no finding and no listed pair", or one
     pub judged-accepted : (notes : List Stretch) → isAccepted h level ≡ true → judgedRead (read h notes) level fs ps os ≡ acceptance h level fs ps os
     unfolding judgedRead
     judged-accepted notes t = pick-on (isAccepted h level) _ _ t
@@ -92,6 +94,7 @@ module _ (s : List ℕ) (level : ℕ) (fs ps os : List ℕ) where
     given : {o : Outcome} → (o .report .verdict ≡ declines → ⊥) → Decided o
 
   module _ (a : 1 ≤ level) (b : level ≤ 3) where
+    -- on acceptance, on rejection, on either or a refusal
     decided-accepted : (h : History) (notes : List Stretch) → reading s ≡ read h notes → isAccepted h level ≡ true → Decided (acceptance h level fs ps os)
     decided-accepted h notes e t =
         ⊎-elim (λ l. rw (acceptance-short h l) (declined (order-short a b (reads-iff s h notes .0 e) t l)))
@@ -111,6 +114,7 @@ module _ (s : List ℕ) (level : ℕ) (fs ps os : List ℕ) where
         ifso (isAccepted h level) (λ t. rw (judged-accepted h notes t) (decided-accepted h notes e t))
         (λ t. rw (judged-rejected h notes t) (decided-rejected h notes e t))
 
+  -- each outcome is borne out
   decided : Decided (judged s level fs ps os)
   decided =
       ifso (isLevel level)

@@ -71,6 +71,7 @@ module _ (h : History) (o : Op) where
       ⊎-elim (λ l. let n : i ≡ opCount h + 1 = omega (arith, op-count h o, p .to) in inr (n, rw n (op-new h o))) (λ g. inl (g, op-old h o i g))
       (split (opCount h) i)
 
+  -- a write is one of the old ones or the new one
   write-cases : {x v i : ℕ} → IsWrite (withOp h o) x v i → IsWrite h x v i ⊎ NewWrite x v i
   write-cases w =
       ⊎-elim (λ a. inl (write-in h (a .0) (a .1) w))
@@ -111,6 +112,7 @@ record LawfulTxs (h : History) : Type 0 where
 all-over : {h : History} → LawfulTxs h → (Inside h → ⊥) → (t : ℕ) → IsTx h t → Over h t
 all-over r out t i = ⊎-elim (λ o. o) (λ l. absurd (out (l .1))) (r .so-far t i)
 
+-- the transactions stay
 txs-kept : {h : History} (g : History) → g .txs ≡ h .txs → LawfulTxs h → LawfulTxs g
 unfolding tx
 txs-kept {h} g e r =
@@ -141,10 +143,12 @@ txs-close {h} x r ins l =
 
 -- ── by induction ──
 
+-- what holds between two records
 record Growing (h : History) : Type 0 where
   pub ops : LawfulOps h
   pub txs : LawfulTxs h
 
+-- before the first record
 growing-begin : Growing empty
 growing-begin =
     record {

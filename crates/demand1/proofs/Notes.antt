@@ -24,6 +24,7 @@ note-test notes k = (
 )
 
 module _ (s : List ℕ) (k : ℕ) where
+  -- the three answers: the trace is refused, the note is handed back, there is no such note
   noted-refused : {n p : ℕ} → reading s ≡ refused n p → noted s k ≡ declined n p
   unfolding noted notedRead
   noted-refused e = rw e

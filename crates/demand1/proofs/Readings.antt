@@ -12,37 +12,43 @@ use Rattle.base.specs.Base.{pick}
 use Rattle.base.proofs.Tests.{split, pick-on, pick-off}
 use Rattle.rules.specs.History.{History}
 use Rattle.rules.specs.Reading.{State, begin, after, eventIn, isEnd, refusalNo, Reading, refused, read, finished, walk, reading, Stretch}
-use Rattle.demand1.specs.Rows.{kind, behind, numberOf, Passes, Reaches, start, on, Refuses, too-long, at-record, bytes-behind, Reads, to-the-end, OneOutcome}
+use Rattle.demand1.specs.Rows.{kind, behind, lengthField, numberOf, Passes, Reaches, start, on, Refuses, too-long, at-record, bytes-behind, Reads, to-the-end, OneOutcome}
 use Rattle.demand1.proofs.Events.{same-or}
 use Rattle.demand1.proofs.Steps.{next-is, next-after, next-not-end, end-after, is-end, not-end, after-within}
 use Rattle.demand1.proofs.Refusals.{First, passing, failing, first, number-positive, refusal-none, refusal-row}
 
 module _ (s : List ℕ) (st : State) where
+  -- the next record starts behind this one
   behind-at : after s st .at ≡ behind s (st .at)
   unfolding after
   behind-at = refl
 
   -- ── one step of the walk ──
 
+  -- where no row refuses
   abbrev next : ℕ → Reading
   next g = pick (isEnd (eventIn s st)) (finished s (after s st)) (walk g s (after s st))
 
+  -- a row refuses
   walk-refused : (g : ℕ) {n : ℕ} → refusalNo s st ≡ n → 0 < n → walk (suc g) s st ≡ refused n (st .at)
   unfolding walk
   walk-refused g {n} e l =
       pick-on (ltb 0 (refusalNo s st)) (refused (refusalNo s st) (st .at)) (next g) (rw e (lt-ltb 0 n l)) ∙ ap (λ (m : ℕ). refused m (st .at)) e
 
+  -- the record passes: what comes then
   walk-next : (g : ℕ) → Passes s st → walk (suc g) s st ≡ next g
   unfolding walk
   walk-next g p =
       pick-off (ltb 0 (refusalNo s st)) (refused (refusalNo s st) (st .at)) (next g) (le-ltb 0 (refusalNo s st) (omega (arith, refusal-none s st .1 p)))
 
+  -- it is the end, or the walk goes on
   walk-end : (g : ℕ) → Passes s st → kind s (st .at) ≡ 5 → walk (suc g) s st ≡ finished s (after s st)
   walk-end g p k = walk-next g p ∙ pick-on _ (finished s (after s st)) (walk g s (after s st)) (is-end s st p k)
 
   walk-on : (g : ℕ) → Passes s st → (kind s (st .at) ≡ 5 → ⊥) → walk (suc g) s st ≡ walk g s (after s st)
   walk-on g p d = walk-next g p ∙ pick-off _ (finished s (after s st)) (walk g s (after s st)) (not-end s st p d)
 
+  -- bytes follow the end, or none
   finished-behind : behind s (st .at) < length s → finished s (after s st) ≡ refused 11 (behind s (st .at))
   unfolding finished after
   finished-behind l = pick-on (ltb (behind s (st .at)) (length s)) _ _ (lt-ltb _ _ l)
@@ -91,6 +97,7 @@ module _ (s : List ℕ) (short : length s ≤ 32768) where
 
   -- ── what holds the walk says ──
 
+  -- a trace that is not too long is walked
   reading-short : reading s ≡ walk (suc (length s)) s begin
   unfolding reading
   reading-short = pick-off (ltb 32768 (length s)) (refused 2 32768) (walk (length s + 1) s begin) (le-ltb 32768 (length s) short) ∙ rw (add-one (length s))
@@ -108,15 +115,18 @@ module _ (s : List ℕ) (short : length s ≤ 32768) where
       later (suc g) l =
           ap (walk (suc g) s) (sym e) ∙ f g (let a = ap (λ (x : State). x .at) e in omega (arith, after-within s st p .0))
 
+-- one that is too long is refused
 reading-long : (s : List ℕ) → 32768 < length s → reading s ≡ refused 2 32768
 unfolding reading
 reading-long s l = pick-on (ltb 32768 (length s)) (refused 2 32768) (walk (length s + 1) s begin) (lt-ltb 32768 (length s) l)
 
+-- each reading is borne out
 reading-ends : (s : List ℕ) → Ends s (reading s)
 reading-ends s =
     ⊎-elim (λ l. rw (reading-long s l) (refusing (too-long l)))
     (λ g. rw (reading-short s g) (ends-walk s g (suc (length s)) start (omega arith))) (split 32768 (length s))
 
+-- each condition is what the reading says
 refused-is : {s : List ℕ} {n p : ℕ} → Refuses s n p → reading s ≡ refused n p
 refused-is {s} (too-long l) = reading-long s l
 refused-is {s} (at-record {st} {c} short r f) =
@@ -145,6 +155,7 @@ module _ (s : List ℕ) where
       of (refusing x) e = let z : _≡_ {A = ℕ} 0 1 = cc in absurd (omega arith)
       of (reading-it {h = g} {notes = texts} x) e = let a : h ≡ g = cc in let b : notes ≡ texts = cc in rw (a, b) x
 
+  -- every trace is refused or read, in one way
   pub one-outcome : OneOutcome s
   one-outcome =
       record {
@@ -157,3 +168,8 @@ module _ (s : List ℕ) where
       some : {r : Reading} → Ends s r → ((n : ℕ) × (p : ℕ) × Refuses s n p) ⊎ ((h : History) × (notes : List Stretch) × Reads s h notes)
       some (refusing {n} {p} x) = inl (n, p, x)
       some (reading-it {h} {notes} x) = inr (h, notes, x)
+
+  -- "An input that ends at a record boundary without an end record gets 3 with the input's length as place."
+  pub boundary-refused : {st : State} → length s ≤ 32768 → Reaches s st → st .at ≡ length s → reading s ≡ refused 3 (length s)
+  boundary-refused {st} l r e =
+      rw (← e) (refused-is (at-record {c = lengthField} l r (record { fails = omega arith; none-before = λ d h f. omega arith })))

@@ -18,49 +18,37 @@ use Rattle.demand1.proofs.Checks.{check-row}
 
 -- ── the order of checks ──
 
+-- the check at a place
 abbrev checkOf : ℕ → Check
 checkOf n =
     getD (lengthField ∷ lengthLow ∷ bytesThere ∷ serialFollows ∷ kindKnown ∷ lengthFits ∷ inPlace ∷ valueLawful ∷ withinLimit ∷ newWrite ∷ []) n lengthField
 
-check-of : (c : Check) → checkOf (rank c) ≡ c
-check-of lengthField = refl
-check-of lengthLow = refl
-check-of bytesThere = refl
-check-of serialFollows = refl
-check-of kindKnown = refl
-check-of lengthFits = refl
-check-of inPlace = refl
-check-of valueLawful = refl
-check-of withinLimit = refl
-check-of newWrite = refl
+-- a check's place in the order, and its number
+record Placed (c : Check) : Type 0 where
+  pub is : checkOf (rank c) ≡ c
+  pub below : rank c < 10
+  pub numbered : 0 < numberOf c
 
+-- each has one
+placed : (c : Check) → Placed c
+placed lengthField = record { is = refl; below = omega arith; numbered = omega arith }
+placed lengthLow = record { is = refl; below = omega arith; numbered = omega arith }
+placed bytesThere = record { is = refl; below = omega arith; numbered = omega arith }
+placed serialFollows = record { is = refl; below = omega arith; numbered = omega arith }
+placed kindKnown = record { is = refl; below = omega arith; numbered = omega arith }
+placed lengthFits = record { is = refl; below = omega arith; numbered = omega arith }
+placed inPlace = record { is = refl; below = omega arith; numbered = omega arith }
+placed valueLawful = record { is = refl; below = omega arith; numbered = omega arith }
+placed withinLimit = record { is = refl; below = omega arith; numbered = omega arith }
+placed newWrite = record { is = refl; below = omega arith; numbered = omega arith }
+
+-- a place has one check
 same-rank : (c d : Check) → rank c ≡ rank d → c ≡ d
-same-rank c d e = sym (check-of c) ∙ ap checkOf e ∙ check-of d
+same-rank c d e = sym (placed c .is) ∙ ap checkOf e ∙ placed d .is
 
--- each has a number
+-- no number is 0
 pub number-positive : (c : Check) → 0 < numberOf c
-number-positive lengthField = omega arith
-number-positive lengthLow = omega arith
-number-positive bytesThere = omega arith
-number-positive serialFollows = omega arith
-number-positive kindKnown = omega arith
-number-positive lengthFits = omega arith
-number-positive inPlace = omega arith
-number-positive valueLawful = omega arith
-number-positive withinLimit = omega arith
-number-positive newWrite = omega arith
-
-rank-below : (c : Check) → rank c < 10
-rank-below lengthField = omega arith
-rank-below lengthLow = omega arith
-rank-below bytesThere = omega arith
-rank-below serialFollows = omega arith
-rank-below kindKnown = omega arith
-rank-below lengthFits = omega arith
-rank-below inPlace = omega arith
-rank-below valueLawful = omega arith
-rank-below withinLimit = omega arith
-rank-below newWrite = omega arith
+number-positive c = placed c .numbered
 
 -- ── the first that fails ──
 
@@ -97,10 +85,12 @@ module _ (s : List ℕ) (st : State) where
         is = ifso (test s st c) (λ t. rw t (failing {c = c} (record { fails = check-row s st c p .0 t; none-before = p }))) (λ t. rw t (k (clear-next c p t) .is));
       }
 
+  -- no row is left
   told-end : Passes s st → Told []
   unfolding firstFit
   told-end p = record { is = passing p }
 
+  -- `refusalNo` tells it
   pub first : First (refusalNo s st)
   unfolding refusalNo frameRows stepRows
   first = rows .is
@@ -116,7 +106,7 @@ module _ (s : List ℕ) (st : State) where
           (λ p6. told-row inPlace p6
           (λ p7. told-row valueLawful p7
           (λ p8. told-row withinLimit p8
-          (λ p9. told-row newWrite p9 (λ q. told-end (λ c. q c (rank-below c))))))))))))
+          (λ p9. told-row newWrite p9 (λ q. told-end (λ c. q c (placed c .below))))))))))))
 
   -- no row refuses a record exactly if it passes every check
   pub refusal-none : (refusalNo s st ≡ 0) ↔ Passes s st

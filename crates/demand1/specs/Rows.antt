@@ -112,7 +112,7 @@ pub record Repeated (s : List ℕ) (at : ℕ) (h : History) : Type 0 where
   pub by : ℕ
   pub earlier : IsWrite h (key s at) (value s at) by
 
--- the check fails at the record that a state has come to
+-- the check fails at the record that a state has come to. Where the trace ends at a record's boundary, "no end record came": no length field is left
 abbrev pub Fails : List ℕ → State → Check → Type 0
 Fails s st lengthField = length s < st .at + 2
 Fails s st lengthLow = len s (st .at) < 6
@@ -144,8 +144,8 @@ abbrev pub opAt : List ℕ → ℕ → History → Bool → Op
 opAt s at h w = record { tx = txCount h; isWrite = w; key = key s at; value = value s at }
 
 -- a note's text, as a stretch of the trace
-abbrev pub textAt : List ℕ → ℕ → Stretch
-textAt s at = record { start = at + 8; length = len s at - 6 }
+abbrev pub noteText : List ℕ → ℕ → Stretch
+noteText s at = record { start = at + 8; length = len s at - 6 }
 
 -- the state behind the record, which is not the end
 pub data Next (s : List ℕ) (st : State) : State → Type 0 where
@@ -153,7 +153,7 @@ pub data Next (s : List ℕ) (st : State) : State → Type 0 where
   after-read : kind s (st .at) ≡ 2 → Next s st (moved s st (withOp (st .history) (opAt s (st .at) (st .history) false)) (st .notes))
   after-write : kind s (st .at) ≡ 3 → Next s st (moved s st (withOp (st .history) (opAt s (st .at) (st .history) true)) (st .notes))
   after-close : kind s (st .at) ≡ 4 → Next s st (moved s st (closed (st .history) (txCount (st .history)) (status s (st .at))) (st .notes))
-  after-note : kind s (st .at) ≡ 6 → Next s st (moved s st (st .history) (st .notes ++ (textAt s (st .at) ∷ [])))
+  after-note : kind s (st .at) ≡ 6 → Next s st (moved s st (st .history) (st .notes ++ (noteText s (st .at) ∷ [])))
 
 -- ── how far reading comes, and how it ends ──
 

@@ -1,6 +1,6 @@
 -- Document 01: "A note is handed back as the stretch of the trace that is its text", and row 15.
 use Prim.Native.Nat.{ℕ, _+_}
-use mathlib.Core.Bool.{Bool}
+use mathlib.Core.Bool.{Bool, true, false}
 use mathlib.Core.List.{List}
 use lib.ListN.{length}
 use lib.Dec.{ltb, leb}
@@ -10,8 +10,9 @@ use Rattle.rules.specs.Reading.{Stretch, Reading, refused, read, reading
 use Rattle.rules.specs.declared.NoteAnswer.{NoteAnswer}
 use Rattle.rules.specs.declared.NoteAnswer.the-variants.{Refused, Text}
 
--- a refusal's number and place, 0 and 0 where there is none; and the stretch, "an empty stretch" on refusal
+-- whether a note is handed back; a refusal's number and place, 0 and 0 where there is none; the stretch, "an empty stretch" on refusal
 pub record Noted : Type 0 where
+  pub isHanded : Bool
   pub no : ℕ
   pub place : ℕ
   pub stretch : Stretch
@@ -20,10 +21,10 @@ abbrev pub nowhere : Stretch
 nowhere = record { start = 0; length = 0 }
 
 abbrev pub declined : ℕ → ℕ → Noted
-declined n p = record { no = n; place = p; stretch = nowhere }
+declined n p = record { isHanded = false; no = n; place = p; stretch = nowhere }
 
 abbrev pub handed : Stretch → Noted
-handed x = record { no = 0; place = 0; stretch = x }
+handed x = record { isHanded = true; no = 0; place = 0; stretch = x }
 
 -- what each case of the answer says
 unfoldable pub told : NoteAnswer → Noted

@@ -150,6 +150,9 @@ module _ (s : List ℕ) (at e : ℕ) where
       let z : firstFit (frameRows s at e) ≤ 0 = ltb-false _ _ t in
       (omega arith, cc))
 
+  pub good-fit : {x : Event} → framing s at e ≡ F.Good x → Fit s at
+  good-fit h = fit (is-good h .0)
+
   -- rows behind those of the framing: where it passed they decide, where not they do not matter
   counted : Counted (frameRows s at e)
   unfolding frameRows Counted

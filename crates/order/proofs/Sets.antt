@@ -1,0 +1,181 @@
+-- Sets in two words.
+use Prim.Native.Nat.{ℕ, _+_, _-_, _*_, _/_, _%_, _^_, _<_, _≤_}
+use mathlib.Core.Path.{_≡_, refl, sym, ap, _∙_}
+use mathlib.Core.Bool.{Bool, true, false, not}
+use mathlib.Core.List.{List}
+use mathlib.Core.Logic.{⊎-elim}
+use native.Mathlib.Omega.{arith}
+use lib.Bits.{bitOr, or-lt}
+use lib.Dec.{eqb, ltb}
+use lib.ListN.{getD}
+use borrow.Author.Tests.{eqb-true, eq-eqb, ne-eqb, lt-ltb, le-ltb}
+use Rattle.base.specs.Base.{_and_, _or_, some, pick}
+use Rattle.base.proofs.Tests.{known, ifso, clash, is-false, not-true, not-false, both, and-left, and-right, and-on, and-no-left, and-no-right, or-cases, or-left, or-right, or-none, or-on, pick-on, pick-off, same-test, split}
+use Rattle.base.proofs.Searches.{some-at, some-of, some-none, none-at}
+use Rattle.bits.specs.Bits.{testBit, bitOf}
+use Rattle.bits.proofs.Tests.{or-off, and-true, same-eqb, below-more}
+use Rattle.bits.proofs.Words.{testBit-zero, testBit-or, testBit-one, word-one}
+use Rattle.order.specs.declared.Words.{Words}
+use Rattle.order.specs.Sets.{inWords, Plus, Empty, Gathered, lacks}
+use Rattle.order.specs.Ordering.{waits, isNext}
+
+-- ── a set's words ──
+
+module _ (w : Words) (a : ℕ) where
+  pub in-low : a < 64 → inWords w a ≡ testBit (w .lo) a
+  unfolding inWords
+  in-low l = pick-on _ _ _ (lt-ltb a 64 l)
+
+  pub in-high : 64 ≤ a → inWords w a ≡ testBit (w .hi) (a - 64)
+  unfolding inWords
+  in-high l = pick-off _ _ _ (le-ltb a 64 l)
+
+-- words without bits are a set without numbers
+pub empty-words : (w : Words) → w .lo ≡ 0 → w .hi ≡ 0 → Empty w
+empty-words w p q =
+    record {
+      is =
+          λ x l.
+          ⊎-elim (λ h. in-low w x h ∙ ap (λ (v : ℕ). testBit v x) p ∙ testBit-zero x)
+          (λ h. in-high w x h ∙ ap (λ (v : ℕ). testBit v (x - 64)) q ∙ testBit-zero (x - 64)) (split x 64);
+    }
+
+-- a word that gets the bit j
+bit-more : (u j k : ℕ) → j < 64 → testBit (bitOr u ((1 * 2 ^ j) % 2 ^ 64)) k ≡ testBit u k or eqb k j
+bit-more u j k h = testBit-or u ((1 * 2 ^ j) % 2 ^ 64) k ∙ ap (λ (b : Bool). testBit u k or b) (testBit-one j k h)
+
+module _ (w : Words) (a : ℕ) (v : Words) where
+  pub plus-low : a < 64 → v .lo ≡ bitOr (w .lo) ((1 * 2 ^ a) % 2 ^ 64) → v .hi ≡ w .hi → Plus w a v
+  plus-low h p q =
+      record {
+        is =
+            λ x l.
+            ⊎-elim (λ m. in-low v x m ∙ ap (λ (u : ℕ). testBit u x) p ∙ bit-more (w .lo) a x h ∙ ap (λ (b : Bool). b or eqb x a) (sym (in-low w x m)))
+            (λ m.
+            in-high v x m ∙ ap (λ (u : ℕ). testBit u (x - 64)) q ∙ sym (in-high w x m)
+            ∙ sym (or-off (inWords w x) _ (ne-eqb x a (λ e. omega arith))))
+            (split x 64);
+      }
+
+  pub plus-high : 64 ≤ a → a < 128 → v .lo ≡ w .lo → v .hi ≡ bitOr (w .hi) ((1 * 2 ^ (a - 64)) % 2 ^ 64) → Plus w a v
+  plus-high h h2 p q =
+      record {
+        is =
+            λ x l.
+            ⊎-elim
+            (λ m.
+            in-low v x m ∙ ap (λ (u : ℕ). testBit u x) p ∙ sym (in-low w x m) ∙ sym (or-off (inWords w x) _ (ne-eqb x a (λ e. omega arith))))
+            (λ m.
+            let s : eqb (x - 64) (a - 64) ≡ eqb x a = same-eqb (x - 64) (a - 64) x a (λ e. omega arith) (λ e. omega arith) in
+            in-high v x m ∙ ap (λ (u : ℕ). testBit u (x - 64)) q ∙ bit-more (w .hi) (a - 64) (x - 64) (omega arith) ∙ rw (s, in-high w x m))
+            (split x 64);
+      }
+
+-- ── for callers: a set gathered number by number ──
+
+module _ (p : ℕ → Bool) where
+  pub gather-start : {w : Words} → Empty w → Gathered p 0 w
+  gather-start e = record { is = λ x l. e .is x l ∙ sym (and-no-left _ _ (le-ltb x 0 (omega arith))) }
+
+  pub gather-hit : {w v : Words} (a : ℕ) → Gathered p a w → p a ≡ true → Plus w a v → Gathered p (a + 1) v
+  gather-hit a g q plus =
+      record {
+        is =
+            λ x l.
+            plus .is x l ∙ ap (λ (b : Bool). b or eqb x a) (g .is x l)
+            ∙ sym (below-more p x a ∙ ap (λ (b : Bool). (ltb x a and p x) or b) (and-true (eqb x a) (p a) q));
+      }
+
+  pub gather-miss : {w : Words} (a : ℕ) → Gathered p a w → p a ≡ false → Gathered p (a + 1) w
+  gather-miss a g q = record { is = λ x l. g .is x l ∙ sym (below-more p x a ∙ or-off _ _ (and-no-right _ _ q)) }
+
+  pub gather-end : {w : Words} (n : ℕ) → n ≤ 128 → Gathered p n w → (x : ℕ) → x < n → inWords w x ≡ p x
+  gather-end n h g x l = g .is x (omega arith) ∙ and-on _ _ (lt-ltb x n l)
+
+-- ── one word within another ──
+
+module _ (u v : ℕ) where
+  -- they differ where u has a bit that v has not
+  covers-no : some 0 64 (lacks u v) ≡ true → bitOr u v ≡ v → ⊥
+  unfolding lacks
+  covers-no s e =
+      let r = some-at (lacks u v) 64 0 s in
+      let k = r .at in
+      clash (sym (ap (λ (w : ℕ). testBit w k) e) ∙ testBit-or u v k ∙ or-left _ _ (and-left _ _ (r .passes))) (not-true _ (and-right _ _ (r .passes)))
+
+  covers-yes : u < 2 ^ 64 → v < 2 ^ 64 → some 0 64 (lacks u v) ≡ false → bitOr u v ≡ v
+  unfolding lacks
+  covers-yes hu hv s =
+      word-one 64 (bitOr u v) v (or-lt 64 u v hu hv) hv
+      (λ k l.
+      testBit-or u v k
+      ∙ ifso (testBit v k) (λ t. or-right _ _ t ∙ sym t)
+      (λ t. or-on _ _ (is-false (testBit u k) (λ q. clash (both _ _ q (ap not t)) (none-at (lacks u v) 64 0 s k (omega arith) l)))))
+
+  pub covers-is : u < 2 ^ 64 → v < 2 ^ 64 → eqb (bitOr u v) v ≡ not (some 0 64 (lacks u v))
+  covers-is hu hv =
+      ⊎-elim (λ t. ne-eqb (bitOr u v) v (covers-no t) ∙ ap not (sym t)) (λ t. eq-eqb (bitOr u v) v (covers-yes hu hv t) ∙ ap not (sym t))
+      (known (some 0 64 (lacks u v)))
+
+-- ── a row within a set ──
+
+module _ (f : List ℕ) (p : Words) (a : ℕ) where
+  low : (k : ℕ) → k < 64 → waits f p a k ≡ lacks (getD f (2 * a) 0) (p .lo) k
+  unfolding waits lacks bitOf
+  low k l =
+      let e : 2 * a + k / 64 ≡ 2 * a = omega arith in
+      let m : k % 64 ≡ k = omega arith in
+      rw (e, m, in-low p k l)
+
+  high : (k : ℕ) → k < 64 → waits f p a (k + 64) ≡ lacks (getD f (2 * a + 1) 0) (p .hi) k
+  unfolding waits lacks bitOf
+  high k l =
+      let e : 2 * a + (k + 64) / 64 ≡ 2 * a + 1 = omega arith in
+      let m : (k + 64) % 64 ≡ k = omega arith in
+      let d : k + 64 - 64 ≡ k = omega arith in
+      rw (e, m, in-high p (k + 64) (omega arith), d)
+
+  -- what row a waits for, word by word
+  waits-words : some 0 128 (waits f p a) ≡ some 0 64 (lacks (getD f (2 * a) 0) (p .lo)) or some 0 64 (lacks (getD f (2 * a + 1) 0) (p .hi))
+  waits-words =
+      same-test _ _
+      (λ s.
+      let r = some-at (waits f p a) 128 0 s in
+      ⊎-elim (λ l. or-left _ _ (some-of _ 64 0 (r .at) (omega arith) l (sym (low (r .at) l) ∙ r .passes)))
+      (λ g.
+      let e : r .at - 64 + 64 ≡ r .at = omega arith in
+      let h : r .at - 64 < 64 = omega (arith, r .to) in
+      or-right _ _ (some-of _ 64 0 (r .at - 64) (omega arith) h (sym (high (r .at - 64) h) ∙ rw e (r .passes))))
+      (split (r .at) 64))
+      (λ s.
+      ⊎-elim
+      (λ t.
+      let r = some-at (lacks (getD f (2 * a) 0) (p .lo)) 64 0 t in
+      some-of (waits f p a) 128 0 (r .at) (omega arith) (omega (arith, r .to)) (low (r .at) (r .to) ∙ r .passes))
+      (λ t.
+      let r = some-at (lacks (getD f (2 * a + 1) 0) (p .hi)) 64 0 t in
+      some-of (waits f p a) 128 0 (r .at + 64) (omega arith) (omega (arith, r .to)) (high (r .at) (r .to) ∙ r .passes))
+      (or-cases _ _ s))
+
+  -- both words are tested, the second where the first is within
+  pub follows-not : {b : Bool} → b ≡ not (some 0 64 (lacks (getD f (2 * a) 0) (p .lo))) → not b ≡ true → false ≡ not (some 0 128 (waits f p a))
+  follows-not e q = ap not (sym (waits-words ∙ or-left _ _ (not-false _ (sym e ∙ not-true _ q))))
+
+  pub follows-is : {b r : Bool} → b ≡ not (some 0 64 (lacks (getD f (2 * a) 0) (p .lo))) → not b ≡ false → r ≡ not (some 0 64 (lacks (getD f (2 * a + 1) 0) (p .hi)))
+      → r ≡ not (some 0 128 (waits f p a))
+  follows-is e q h = h ∙ ap not (sym (waits-words ∙ or-on _ _ (not-true _ (sym e ∙ not-false _ q))))
+
+-- ── what may come next, test by test ──
+
+module _ (f : List ℕ) (m p : Words) (a : ℕ) {b : Bool} where
+  pub no-member : b ≡ inWords m a → not b ≡ true → false ≡ isNext f m p a
+  unfolding isNext
+  no-member e q = sym (and-no-left _ _ (and-no-left _ _ (sym e ∙ not-true _ q)))
+
+  pub is-placed : b ≡ inWords p a → b ≡ true → false ≡ isNext f m p a
+  unfolding isNext
+  is-placed e q = sym (and-no-left _ _ (and-no-right _ _ (ap not (sym e ∙ q))))
+
+  pub by-row : {c r : Bool} → b ≡ inWords m a → not b ≡ false → c ≡ inWords p a → c ≡ false → r ≡ not (some 0 128 (waits f p a)) → r ≡ isNext f m p a
+  unfolding isNext
+  by-row e q g k h = h ∙ sym (and-on _ _ (both _ _ (sym e ∙ not-false _ q) (ap not (sym g ∙ k))))

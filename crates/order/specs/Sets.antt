@@ -1,0 +1,28 @@
+-- Sets of numbers below 128, held in two words.
+use Prim.Native.Nat.{ℕ, _-_, _<_}
+use mathlib.Core.Path.{_≡_}
+use mathlib.Core.Bool.{Bool, false, not}
+use lib.Dec.{ltb, eqb}
+use Rattle.base.specs.Base.{_and_, _or_, pick}
+use Rattle.bits.specs.Bits.{testBit}
+use Rattle.order.specs.declared.Words.{Words}
+
+-- the number a is in w
+unfoldable pub inWords : Words → ℕ → Bool
+inWords w a = pick (ltb a 64) (testBit (w .lo) a) (testBit (w .hi) (a - 64))
+
+-- v is w and the number a
+pub record Plus (w : Words) (a : ℕ) (v : Words) : Type 0 where
+  pub is : (x : ℕ) → x < 128 → inWords v x ≡ inWords w x or eqb x a
+
+-- w has none
+pub record Empty (w : Words) : Type 0 where
+  pub is : (x : ℕ) → x < 128 → inWords w x ≡ false
+
+-- w has the numbers below n that pass p, and no other
+pub record Gathered (p : ℕ → Bool) (n : ℕ) (w : Words) : Type 0 where
+  pub is : (x : ℕ) → x < 128 → inWords w x ≡ ltb x n and p x
+
+-- the word u has the bit k, and v has not
+unfoldable pub lacks : ℕ → ℕ → ℕ → Bool
+lacks u v k = testBit u k and not (testBit v k)

@@ -1,0 +1,120 @@
+-- The first kind that fits, case by case.
+use Prim.Native.Nat.{ℕ, _+_, _<_, _≤_}
+use mathlib.Core.Path.{_≡_, refl, ap, sym}
+use mathlib.Core.Bool.{Bool, true, false}
+use mathlib.Core.List.{List, [], _∷_}
+use mathlib.Core.Logic.{⊎-elim}
+use native.Mathlib.Omega.{arith}
+use native.Mathlib.Decide.{ℕ-discrete}
+use lib.ListN.{List·getD-eq-default}
+use lib.Dec.{ltb, eqb}
+use borrow.Author.Tests.{eq-eqb, ne-eqb, lt-ltb}
+use Rattle.base.specs.Base.{_and_, _or_, pick, Row, row, firstFit}
+use Rattle.base.proofs.Tests.{known, clash, pick-on, pick-off, split}
+use Rattle.base.proofs.Searches.{some-end}
+use Rattle.rules.specs.History.{History, tx, op, txCount, opCount, zeroth, noTx, committed, writeOf}
+use Rattle.rules.specs.Reads.{writesAt, wroteBetween, originOf, sourceOf, kindBy, kindOf}
+use Rattle.table.specs.Table.{historyOf, Held, HasOp}
+use Rattle.table.proofs.Words.{write-less, op-has-tx}
+
+-- past the last transaction none is committed
+pub past-committed : (h : History) (t : ℕ) → txCount h < t → committed h t ≡ false
+unfolding committed tx
+past-committed h t l = rw (List·getD-eq-default (zeroth ∷ h .txs) noTx {n = t} (omega arith))
+
+-- ── where a value comes from ──
+
+module _ (h : History) (i : ℕ) where
+  pub origin-less : originOf h i < opCount h + 1
+  unfolding originOf
+  origin-less =
+      ⊎-elim (λ e. rw (pick-on (eqb (op h i .value) 0) 0 (writeOf h (op h i .key) (op h i .value)) e) (omega arith))
+      (λ e. rw (pick-off (eqb (op h i .value) 0) 0 (writeOf h (op h i .key) (op h i .value)) e) (write-less h (op h i .key) (op h i .value)))
+      (known (eqb (op h i .value) 0))
+
+  -- a value that was written is not 0
+  pub origin-value : (originOf h i ≡ 0 → ⊥) → op h i .value ≡ 0 → ⊥
+  unfolding originOf
+  origin-value n e = n (pick-on _ _ _ (eq-eqb _ _ e))
+
+  -- its transaction is that of the write w
+  pub source-is : (w : ℕ) → w ≡ originOf h i → op h w .tx ≡ sourceOf h i
+  unfolding sourceOf
+  source-is w e = ap (λ (w : ℕ). op h w .tx) e
+
+  pub source-none : originOf h i ≡ 0 → 0 ≡ sourceOf h i
+  unfolding sourceOf op
+  source-none e = sym (ap (λ (w : ℕ). op h w .tx) e)
+
+module _ (h : List ℕ) (i : ℕ) (p : Held h) where
+  -- its write is an operation
+  pub origin-has : (w : ℕ) → w ≡ originOf (historyOf h) i → (w ≡ 0 → ⊥) → HasOp h w
+  origin-has w e n = record { held = p; from = omega (arith, n); to = omega (arith, e, origin-less (historyOf h) i) }
+
+  -- so its transaction is one of the table's, or 0
+  pub source-less : sourceOf (historyOf h) i < txCount (historyOf h) + 1
+  source-less =
+      by (ℕ-discrete (originOf (historyOf h) i) 0)
+    where
+      by : Dec (originOf (historyOf h) i ≡ 0) → sourceOf (historyOf h) i < txCount (historyOf h) + 1
+      by (yes e) = omega (arith, source-none (historyOf h) i e)
+      by (no n) = omega (arith, source-is (historyOf h) i _ refl, op-has-tx h _ (origin-has _ refl n) .to)
+
+-- ── the kinds ──
+
+-- where t wrote between w and i, w comes before i
+between-less : (h : History) (t x a e : ℕ) → wroteBetween h t x a e ≡ true → ltb a e ≡ true
+unfolding wroteBetween
+between-less h t x a e s =
+    ⊎-elim (λ l. lt-ltb a e l) (λ g. absurd (clash s (some-end (writesAt h t x) (a + 1) e (omega arith)))) (split a e)
+
+and-none : (a : Bool) → a and false ≡ false
+unfolding _and_
+and-none true = refl
+and-none false = refl
+
+module _ (h : History) (i t x v : ℕ) where
+  pub kind-thin-air : (u : ℕ) → (v ≡ 0 → ⊥) → 1 ≡ kindBy h i t x v 0 u
+  unfolding kindBy firstFit _and_ _or_
+  kind-thin-air u n = rw (ne-eqb v 0 n)
+
+  pub kind-unwritten : (u : ℕ) (b : Bool) → v ≡ 0 → wroteBetween h t x 0 i ≡ b → pick b 5 0 ≡ kindBy h i t x v 0 u
+  unfolding kindBy firstFit _and_ _or_ pick
+  kind-unwritten u true e q = rw (eq-eqb v 0 e, q)
+  kind-unwritten u false e q = rw (eq-eqb v 0 e, q)
+
+  module _ (w : ℕ) (n : v ≡ 0 → ⊥) (m : w ≡ 0 → ⊥) where
+    pub kind-own : (b d : Bool) → ltb i w ≡ b → wroteBetween h t x w i ≡ d → pick b 3 (pick d 4 0) ≡ kindBy h i t x v w t
+    unfolding kindBy firstFit _and_ _or_ pick
+    kind-own true d p q = rw (ne-eqb v 0 n, ne-eqb w 0 m, eq-eqb t t refl, p)
+    kind-own false true p q = rw (ne-eqb v 0 n, ne-eqb w 0 m, eq-eqb t t refl, p, between-less h t x w i q, q)
+    kind-own false false p q = rw (ne-eqb v 0 n, ne-eqb w 0 m, eq-eqb t t refl, p, q, and-none (ltb w i))
+
+    pub kind-other : (u : ℕ) → (u ≡ t → ⊥) → (a b d : Bool) → committed h u ≡ a → wroteBetween h t x 0 i ≡ b → wroteBetween h u x w (opCount h + 1) ≡ d
+        → pick a (pick b 5 (pick d 6 0)) 2 ≡ kindBy h i t x v w u
+    unfolding kindBy firstFit _and_ _or_ pick
+    kind-other u o false b d p q r = rw (ne-eqb v 0 n, ne-eqb w 0 m, ne-eqb u t o, p)
+    kind-other u o true true d p q r = rw (ne-eqb v 0 n, ne-eqb w 0 m, ne-eqb u t o, p, q)
+    kind-other u o true false true p q r = rw (ne-eqb v 0 n, ne-eqb w 0 m, ne-eqb u t o, p, q, r)
+    kind-other u o true false false p q r = rw (ne-eqb v 0 n, ne-eqb w 0 m, ne-eqb u t o, p, q, r)
+
+-- .. of what the program read of operation i
+pub kind-is : (h : History) (i x v w u : ℕ) → x ≡ op h i .key → v ≡ op h i .value → w ≡ originOf h i → u ≡ sourceOf h i
+    → kindBy h i (op h i .tx) x v w u ≡ kindOf h i
+unfolding kindOf
+kind-is h i x v w u b c e f = rw (b, c, f, e)
+
+-- none is above 6
+fit : (rs : List Row) (b : Bool) (n : ℕ) → n ≤ 6 → firstFit rs ≤ 6 → firstFit (row b n ∷ rs) ≤ 6
+unfolding firstFit
+fit rs true n l f = l
+fit rs false n l f = f
+
+fit-none : firstFit [] ≤ 6
+unfolding firstFit
+fit-none = omega arith
+
+pub kind-le : (h : History) (i : ℕ) → kindOf h i ≤ 6
+unfolding kindOf kindBy
+kind-le h i =
+    fit _ _ 1 (omega arith) (fit _ _ 2 (omega arith) (fit _ _ 3 (omega arith) (fit _ _ 4 (omega arith) (fit _ _ 5 (omega arith) (fit _ _ 6 (omega arith) fit-none)))))

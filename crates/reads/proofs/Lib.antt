@@ -1,0 +1,4 @@
+pub mod Chain
+pub mod Fitting
+pub mod Entries
+pub mod Bytes

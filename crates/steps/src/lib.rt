@@ -1,0 +1,124 @@
+// What an event does to the history in the table h, or the row, 7 to 10, that refuses it.
+ghost use Prim.Native.Nat.{_+_, _≤_};
+ghost use Rattle.rules.specs.History.{current as latest, txCount};
+ghost use Rattle.table.specs.Table.{historyOf, Held, Below};
+ghost use Rattle.steps.specs.Steps.{Took};
+use rules::Event;
+
+// How the reading goes on behind an event: with the next record; the same, behind a note; not at all, the end has come; refused.
+pub enum Next {
+    Go,
+    Text,
+    Done,
+    Refuse(u8),
+}
+
+// "Transactions do not overlap in the trace": the one that is open is the latest; 0 where none is.
+fn current(h: &[u64]) -> usize
+    requires { ⌜ Held (now h) ⌝ }
+    ensures { λ r. ⌜ Below r (latest (historyOf (now (h .entry)))) (txCount (historyOf (now (h .entry))) + 1) ⌝ }
+{
+    let t = table::txs(h);
+    if t == 0 {
+        return 0;
+    }
+    if table::status_of(h, t) != 3 {
+        return 0;
+    }
+    t
+}
+
+// The step of each kind, where t is the open transaction, 0 where there is none.
+
+fn take_open(h: &mut [u64], t: usize, s: u16) -> Next
+    requires { ⌜ Held (now h) ⌝ }
+    ensures { λ r. ⌜ Took r (now (h .exit)) (now (h .entry)) t (Event.Open s) ⌝ }
+{
+    if 0 < t {
+        return Next::Refuse(7);
+    }
+    if 127 <= table::txs(h) {
+        return Next::Refuse(9);
+    }
+    table::put_tx(h, s);
+    Next::Go
+}
+
+fn take_read(h: &mut [u64], t: usize, x: u32, v: u64) -> Next
+    requires { ⌜ Held (now h) × (t ≤ txCount (historyOf (now h))) ⌝ }
+    ensures { λ r. ⌜ Took r (now (h .exit)) (now (h .entry)) t (Event.Read x v) ⌝ }
+{
+    if t == 0 {
+        return Next::Refuse(7);
+    }
+    if 1024 <= table::ops(h) {
+        return Next::Refuse(9);
+    }
+    table::put_read(h, t, x, v);
+    Next::Go
+}
+
+fn take_write(h: &mut [u64], t: usize, x: u32, v: u64) -> Next
+    requires { ⌜ Held (now h) × (t ≤ txCount (historyOf (now h))) ⌝ }
+    ensures { λ r. ⌜ Took r (now (h .exit)) (now (h .entry)) t (Event.Write x v) ⌝ }
+{
+    if t == 0 {
+        return Next::Refuse(7);
+    }
+    // "Value 0 is a key's initial value, so a write may not have it."
+    if v == 0 {
+        return Next::Refuse(8);
+    }
+    if 1024 <= table::ops(h) {
+        return Next::Refuse(9);
+    }
+    if 0 < table::write_of(h, x as u64, v) {
+        return Next::Refuse(10);
+    }
+    table::put_write(h, t, x, v);
+    Next::Go
+}
+
+fn take_close(h: &mut [u64], t: usize, status: u8) -> Next
+    requires { ⌜ Held (now h) × (t ≤ txCount (historyOf (now h))) ⌝ }
+    ensures { λ r. ⌜ Took r (now (h .exit)) (now (h .entry)) t (Event.Close status) ⌝ }
+{
+    if t == 0 {
+        return Next::Refuse(7);
+    }
+    if 1 < status {
+        return Next::Refuse(8);
+    }
+    table::close_tx(h, t, status as u64);
+    Next::Go
+}
+
+fn take_end(h: &[u64], t: usize, n: u16) -> Next
+    requires { ⌜ Held (now h) ⌝ }
+    ensures { λ r. ⌜ Took r (now (h .entry)) (now (h .entry)) t (Event.End n) ⌝ }
+{
+    if 0 < t {
+        return Next::Refuse(7);
+    }
+    if n as usize != table::txs(h) {
+        return Next::Refuse(8);
+    }
+    Next::Done
+}
+
+// The step of any event. A note "has no part in judging".
+pub fn take(event: Event, h: &mut [u64]) -> Next
+    requires { ⌜ Held (now h) ⌝ }
+    ensures { λ r. ⌜ Took r (now (h .exit)) (now (h .entry)) (latest (historyOf (now (h .entry)))) event ⌝ }
+{
+    let t = current(h);
+    match event {
+        Event::Open(s) => take_open(h, t, s),
+        Event::Read(x, v) => take_read(h, t, x, v),
+        Event::Write(x, v) => take_write(h, t, x, v),
+        Event::Close(status) => take_close(h, t, status),
+        Event::End(n) => take_end(h, t, n),
+        Event::Note => Next::Text,
+        Event::Other => Next::Go,
+    }
+}

@@ -1,0 +1,216 @@
+-- The loop over the records: the reading from here on is the whole reading.
+use Prim.Native.Nat.{ℕ, suc, _+_, _-_, _≤_, _<_}
+use mathlib.Core.Path.{_≡_, refl, ap, sym, _∙_}
+use mathlib.Core.Bool.{true, false, false≢true}
+use mathlib.Core.Logic.{⊎-elim}
+use mathlib.Core.List.{List, [], _++_, append-nil}
+use native.Mathlib.Omega.{arith}
+use lib.ListN.{length}
+use lib.Dec.{ltb}
+use borrow.Author.Tests.{lt-ltb, le-ltb}
+use Rattle.base.specs.Base.{pick}
+use Rattle.base.proofs.Tests.{ifso, pick-on, pick-off}
+use Rattle.rules.specs.History.{History, current, empty}
+use Rattle.rules.specs.Records.{nextAt, eventAt}
+use Rattle.rules.specs.Reading.{Stretch, State, refused, read, begin, isEnd, textAt, entered, refusalNo, after, finished, walk, reading}
+use Rattle.rules.specs.declared.Event.{Event}
+use Rattle.rules.specs.declared.Event.the-variants as E
+use Rattle.table.specs.Table.{historyOf, Held, Holds, cleared, Becomes}
+use Rattle.steps.specs.Steps.{put}
+use Rattle.trace.specs.declared.Tally.{Tally}
+use Rattle.trace.specs.declared.Out.{Out}
+use Rattle.trace.specs.declared.Out.the-variants.{Bad}
+use Rattle.trace.specs.declared.Turn.{Turn}
+use Rattle.trace.specs.declared.Turn.the-variants.{More, Stop}
+use Rattle.trace.specs.Turns.{tally, stateAt, noAt, finish, putAt, enteredAt, Turned}
+use Rattle.trace.specs.Trace.{good, answered, recordFrom, recorded, Reads}
+use Rattle.trace.proofs.Tallies.{tally-none, tally-all, one-note}
+use Rattle.trace.proofs.Turning.{fit-at, Onward, Refused, Ended, more-says, stop-says}
+
+-- ── one record of the definitions ──
+
+module _ (f : ℕ) (s g : List ℕ) (at serial : ℕ) (h : History) (notes : List Stretch) where
+  -- the state behind the record
+  abbrev next : State
+  next = after s (stateAt at serial h notes)
+
+  abbrev table : List ℕ
+  table = put g (current h) (eventAt s at)
+
+  module _ (t : ltb 0 (noAt s at serial h) ≡ true) where
+    walk-refused : walk (suc f) s (stateAt at serial h notes) ≡ refused (noAt s at serial h) at
+    unfolding walk noAt refusalNo pick
+    walk-refused = rw t
+
+    record-refused : recordFrom (suc f) s (stateAt at serial h notes) g ≡ g
+    unfolding recordFrom noAt refusalNo pick
+    record-refused = rw t
+
+  module _ (t : ltb 0 (noAt s at serial h) ≡ false) where
+    walk-end : isEnd (eventAt s at) ≡ true → walk (suc f) s (stateAt at serial h notes) ≡ finished s next
+    unfolding walk noAt refusalNo pick
+    walk-end u = rw (t, u)
+
+    record-end : isEnd (eventAt s at) ≡ true → recordFrom (suc f) s (stateAt at serial h notes) g ≡ table
+    unfolding recordFrom noAt refusalNo pick
+    record-end u = rw (t, u)
+
+    walk-on : isEnd (eventAt s at) ≡ false → walk (suc f) s (stateAt at serial h notes) ≡ walk f s next
+    unfolding walk noAt refusalNo pick
+    walk-on u = rw (t, u)
+
+    record-on : isEnd (eventAt s at) ≡ false → recordFrom (suc f) s (stateAt at serial h notes) g ≡ recordFrom f s next table
+    unfolding recordFrom noAt refusalNo pick
+    record-on u = rw (t, u)
+
+-- the end record is no note
+end-text : (s : List ℕ) (at : ℕ) (e : Event) → isEnd e ≡ true → textAt s at e ≡ []
+unfolding isEnd textAt
+end-text s at (E.Open n) u = refl
+end-text s at (E.Read x v) u = refl
+end-text s at (E.Write x v) u = refl
+end-text s at (E.Close x) u = refl
+end-text s at (E.End n) u = refl
+end-text s at E.Note u = absurd (false≢true u)
+end-text s at E.Other u = refl
+
+-- behind the end record
+module _ (s : List ℕ) (k at serial : ℕ) (h : History) (notes : List Stretch) where
+  end-answer : {c : Tally} → c ≡ tally k notes → isEnd (eventAt s at) ≡ true → finish s (nextAt s at) c ≡ answered k (finished s (after s (stateAt at serial h notes)))
+  unfolding finish finished after answered good pick
+  end-answer q u =
+      ifso (ltb (nextAt s at) (length s)) (λ t. rw t)
+      (λ t. rw (t, end-text s at (eventAt s at) u, append-nil notes, q))
+
+  end-history : {x : History} {n : List Stretch} → finished s (after s (stateAt at serial h notes)) ≡ read x n → entered h (current h) (eventAt s at) ≡ x
+  unfolding finished after
+  end-history {x} {n} q =
+      ifso (ltb (nextAt s at) (length s))
+      (λ t.
+      let w : refused 11 (nextAt s at) ≡ read x n = sym (pick-on _ _ _ t) ∙ q in
+      let z : _≡_ {A = ℕ} 0 1 = cc in
+      absurd (omega arith))
+      (λ t.
+      let w : read (entered h (current h) (eventAt s at)) (notes ++ textAt s at (eventAt s at)) ≡ read x n = sym (pick-off _ _ _ t) ∙ q in
+      cc)
+
+-- ── the loop ──
+
+-- the loop has come to `at` with the table g, which was g₁ at first, and to the notes that c tells of
+pub record Going (s : List ℕ) (k : ℕ) (g₁ : List ℕ) (at serial : ℕ) (c : Tally) (g : List ℕ) : Type 0 where
+  pub held : Held g
+  pub within : at ≤ length s
+  pub few : c .notes ≤ at
+  pub notes : List Stretch
+  pub tells : c ≡ tally k notes
+  pub fuel : ℕ
+  pub enough : length s < fuel + at
+  pub whole : reading s ≡ walk fuel s (stateAt at serial (historyOf g) notes)
+  pub words : recordFrom (length s + 1) s begin g₁ ≡ recordFrom fuel s (stateAt at serial (historyOf g) notes) g
+
+pub going-first : (s : List ℕ) (k : ℕ) (g : List ℕ) → Holds g empty → length s ≤ 32768 → Going s k g 0 0 (record { notes = 0; start = 0; length = 0 }) g
+unfolding reading pick
+going-first s k g b l =
+    let t = le-ltb _ _ l in
+    record {
+      held = b .held;
+      within = omega arith;
+      few = omega arith;
+      notes = [];
+      tells = tally-none k;
+      fuel = length s + 1;
+      enough = omega arith;
+      whole = rw (t, b .is);
+      words = rw (b .is);
+    }
+
+-- row 2
+pub too-long : (s : List ℕ) (k : ℕ) (g₀ g : List ℕ) → Becomes g (cleared g₀) empty → 32768 < length s → Reads (Bad 2 32768) g g₀ s k
+unfolding reading recorded answered pick
+too-long s k g₀ g b l =
+    let t = lt-ltb _ _ l in
+    record {
+      is = rw t;
+      words = rw t (b .is);
+      held = b .holds .held;
+      history = λ h notes q. let w : refused 2 32768 ≡ read h notes = rw t at q in let z : _≡_ {A = ℕ} 0 1 = cc in absurd (omega arith);
+    }
+
+-- equal states and tables are read on alike
+along : {X : Type 0} (f : State → List ℕ → X) {a b e d : ℕ} {x y : History} → b ≡ a → d ≡ e → y ≡ x → (n : List Stretch) {l m : List ℕ} → m ≡ l → f (stateAt a e x n) l ≡ f (stateAt b d y n) m
+along f p q u n v = rw (p, q, u, v)
+
+module _ (s : List ℕ) (k : ℕ) (g₁ : List ℕ) (at serial : ℕ) (c : Tally) (g g2 : List ℕ) (y : Going s k g₁ at serial c g) (r : Turn)
+    (t : Turned r g2 g s k at serial c) where
+  abbrev left : ℕ
+  left = y .fuel - 1
+
+  one-more : y .fuel ≡ suc left
+  one-more = omega (arith, y .enough, y .within)
+
+  whole-here : reading s ≡ walk (suc left) s (stateAt at serial (historyOf g) (y .notes))
+  whole-here = y .whole ∙ ap (λ (f : ℕ). walk f s (stateAt at serial (historyOf g) (y .notes))) one-more
+
+  words-here : recordFrom (length s + 1) s begin g₁ ≡ recordFrom (suc left) s (stateAt at serial (historyOf g) (y .notes)) g
+  words-here = y .words ∙ ap (λ (f : ℕ). recordFrom f s (stateAt at serial (historyOf g) (y .notes)) g) one-more
+
+  module _ (g₀ : List ℕ) (w : recorded s g₀ ≡ recordFrom (length s + 1) s begin g₁) where
+    refused-here : {o : Out} → Refused s at serial (historyOf g) o → Reads o g2 g₀ s k
+    unfolding answered putAt pick
+    refused-here x =
+        let v = whole-here ∙ walk-refused left s g at serial (historyOf g) (y .notes) (x .refuses) in
+        record {
+          is = rw v (x .is);
+          words = (rw (x .refuses) at (t .words)) ∙ sym (w ∙ words-here ∙ record-refused left s g at serial (historyOf g) (y .notes) (x .refuses));
+          held = t .held;
+          history = λ h n q. let u = sym v ∙ q in let z : _≡_ {A = ℕ} 0 1 = cc in absurd (omega arith);
+        }
+
+    ended-here : {o : Out} → Ended s at serial c (historyOf g) o → Reads o g2 g₀ s k
+    unfolding putAt enteredAt pick
+    ended-here x =
+        let v = whole-here ∙ walk-end left s g at serial (historyOf g) (y .notes) (x .passes) (x .ends) in
+        record {
+          is = rw v (x .is ∙ end-answer s k at serial (historyOf g) (y .notes) (y .tells) (x .ends));
+          words = (rw (x .passes) at (t .words)) ∙ sym (w ∙ words-here ∙ record-end left s g at serial (historyOf g) (y .notes) (x .passes) (x .ends));
+          held = t .held;
+          history = λ h n q. (rw (x .passes) at (t .history)) ∙ end-history s k at serial (historyOf g) (y .notes) (sym v ∙ q);
+        }
+
+  pub going-stop : {o : Out} → r ≡ Stop o → (g₀ : List ℕ) → g₁ ≡ cleared g₀ → length s ≤ 32768 → Reads o g2 g₀ s k
+  unfolding recorded pick
+  going-stop q g₀ e l =
+      let u = le-ltb _ _ l in
+      let w : recorded s g₀ ≡ recordFrom (length s + 1) s begin g₁ = rw (u, e) in
+      ⊎-elim (refused-here g₀ w) (ended-here g₀ w) (stop-says s k at serial c (historyOf g) (sym (t .is) ∙ q))
+
+  onward : {at2 serial2 : ℕ} {c2 : Tally} → r ≡ More at2 serial2 c2 → Onward s k at serial c (historyOf g) at2 serial2 c2
+  onward q = more-says s k at serial c (historyOf g) (sym (t .is) ∙ q)
+
+  room : {at2 serial2 : ℕ} {c2 : Tally} → r ≡ More at2 serial2 c2 → (at + 8 ≤ at2) × (at2 ≤ length s)
+  room q =
+      let x = onward q in
+      let f = fit-at s at serial (historyOf g) (x .passes) in
+      (rw (x .after-is) (omega (arith, f .six)), rw (x .after-is) (f .room))
+
+  pub going-less : {at2 serial2 : ℕ} {c2 : Tally} → r ≡ More at2 serial2 c2 → length s - at2 < length s - at
+  going-less q = let h = room q in omega (arith, h .0, h .1)
+
+  pub going-more : {at2 serial2 : ℕ} {c2 : Tally} → r ≡ More at2 serial2 c2 → Going s k g₁ at2 serial2 c2 g2
+  unfolding putAt enteredAt pick after
+  going-more {at2} {serial2} {c2} q =
+      let x = onward q in
+      let h = room q in
+      let table-is : g2 ≡ put g (current (historyOf g)) (eventAt s at) = rw (x .passes) at (t .words) in
+      let history-is : historyOf g2 ≡ entered (historyOf g) (current (historyOf g)) (eventAt s at) = rw (x .passes) at (t .history) in
+      record {
+        held = t .held;
+        within = h .1;
+        few = rw (x .tally-is) (omega (arith, one-note k c s at (eventAt s at), y .few, h .0));
+        notes = y .notes ++ textAt s at (eventAt s at);
+        tells = x .tally-is ∙ rw (y .tells) (tally-all k (y .notes) (textAt s at (eventAt s at)));
+        fuel = left;
+        enough = omega (arith, h .0, h .1, y .enough, y .within);
+        whole = whole-here ∙ walk-on left s g at serial (historyOf g) (y .notes) (x .passes) (x .goes) ∙ along (λ st z. walk left s st) (x .after-is) (x .follow-is) history-is _ table-is;
+        words = words-here ∙ record-on left s g at serial (historyOf g) (y .notes) (x .passes) (x .goes) ∙ along (recordFrom left s) (x .after-is) (x .follow-is) history-is _ table-is;
+      }

@@ -1,0 +1,4 @@
+pub mod Tallies
+pub mod Turning
+pub mod Going
+pub mod Answers

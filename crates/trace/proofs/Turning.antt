@@ -1,0 +1,184 @@
+-- One record: from the framing and the step to the turn, and what a turn says.
+use Prim.Native.Nat.{ℕ, _+_, _-_, _≤_, _<_}
+use mathlib.Core.Path.{_≡_, refl, ap, sym, _∙_, subst}
+use mathlib.Core.Bool.{true, false}
+use mathlib.Core.Logic.{_⊎_, inl, inr}
+use mathlib.Core.List.{List, [], _∷_}
+use native.Mathlib.Omega.{arith}
+use lib.Dec.{ltb}
+use borrow.Author.Tests.{ltb-true, ltb-false, lt-ltb}
+use Rattle.base.specs.Base.{pick, firstFit}
+use Rattle.base.proofs.Tests.{ifso, pick-on, pick-off}
+use Rattle.rules.specs.History.{History, current}
+use Rattle.rules.specs.Records.{lenAt, nextAt, nextSerial, eventAt}
+use Rattle.rules.specs.Reading.{isEnd, textAt, stepRows, refusalNo}
+use Rattle.rules.specs.declared.Event.{Event}
+use Rattle.rules.specs.declared.Event.the-variants as E
+use Rattle.frame.specs.Framing.{Fit, framing}
+use Rattle.frame.specs.declared.Framed.{Framed}
+use Rattle.frame.specs.declared.Framed.the-variants as F
+use Rattle.frame.proofs.Rows.{fit-append}
+use Rattle.frame.proofs.Frames.{is-bad, is-good, good-fit, behind}
+use Rattle.table.specs.Table.{historyOf, Held}
+use Rattle.steps.specs.Steps.{goes, stepNo, Took}
+use Rattle.steps.specs.declared.Next.{Next}
+use Rattle.steps.specs.declared.Next.the-variants as N
+use Rattle.trace.specs.declared.Tally.{Tally}
+use Rattle.trace.specs.declared.Out.{Out}
+use Rattle.trace.specs.declared.Out.the-variants.{Bad}
+use Rattle.trace.specs.declared.Turn.{Turn}
+use Rattle.trace.specs.declared.Turn.the-variants.{More, Stop}
+use Rattle.trace.specs.Turns.{counted, countedAll, noAt, finish, turn, putAt, enteredAt, Turned}
+
+-- ── what a step's answer says of its event e, where m is the number of the row that refuses it ──
+
+unfoldable Says : ℕ → Event → Next → Type 0
+Says m e N.Go = (m ≡ 0) × (isEnd e ≡ false) × ((s : List ℕ) (at : ℕ) → textAt s at e ≡ [])
+Says m e N.Text = (m ≡ 0) × (isEnd e ≡ false) × ((s : List ℕ) (at : ℕ) → textAt s at e ≡ record { start = at + 8; length = lenAt s at - 6 } ∷ [])
+Says m e N.Done = (m ≡ 0) × (isEnd e ≡ true)
+Says m e (N.Refuse n) = (m ≡ n) × (0 < n)
+
+passes : (m : ℕ) (e : Event) → m ≡ 0 → Says m e (goes e)
+unfolding Says goes isEnd textAt
+passes m (E.Open n) z = (z, refl, λ s at. refl)
+passes m (E.Read x v) z = (z, refl, λ s at. refl)
+passes m (E.Write x v) z = (z, refl, λ s at. refl)
+passes m (E.Close x) z = (z, refl, λ s at. refl)
+passes m (E.End n) z = (z, refl)
+passes m E.Note z = (z, refl, λ s at. refl)
+passes m E.Other z = (z, refl, λ s at. refl)
+
+says : (m : ℕ) (e : Event) (r : Next) → r ≡ pick (ltb 0 m) (N.Refuse m) (goes e) → Says m e r
+unfolding Says
+says m e r q =
+    subst (Says m e) (sym q)
+    (ifso (ltb 0 m) (λ t. subst (Says m e) (sym (pick-on _ _ _ t)) (refl, ltb-true _ _ t))
+    (λ t. let z : m ≤ 0 = ltb-false _ _ t in subst (Says m e) (sym (pick-off _ _ _ t)) (passes m e (omega arith))))
+
+-- ── from the framing and the step to the turn ──
+
+module _ (s : List ℕ) (at serial : ℕ) (h : History) where
+  no-bad : {n : ℕ} → framing s at serial ≡ F.Bad n → (noAt s at serial h ≡ n) × (0 < n)
+  unfolding noAt refusalNo
+  no-bad q =
+      let b = is-bad s at serial q in
+      (fit-append _ _ (rw (b .0) (b .1)) ∙ b .0, b .1)
+
+  no-good : {e : Event} → framing s at serial ≡ F.Good e → noAt s at serial h ≡ stepNo h (current h) e
+  unfolding noAt refusalNo stepNo
+  no-good q =
+      let b = is-good s at serial q in
+      behind s at serial _ (b .0) ∙ ap (λ (x : Event). firstFit (stepRows h (current h) x)) (b .1)
+
+-- the framing refuses
+pub turned-bad : (s g : List ℕ) (k at serial : ℕ) (c : Tally) {n : ℕ} → framing s at serial ≡ F.Bad n → Held g → Turned (Stop (Bad n at)) g g s k at serial c
+unfolding turn putAt enteredAt pick
+turned-bad s g k at serial c q h =
+    let b = no-bad s at serial (historyOf g) q in
+    let t = lt-ltb _ _ (b .1) in
+    record { is = rw (b .0, t); words = rw (b .0, t); history = rw (b .0, t); held = h }
+
+-- the framing passes, and the step answers
+module _ (s g g2 : List ℕ) (k at serial : ℕ) (c : Tally) (e : Event) (next : Next) (fr : framing s at serial ≡ F.Good e)
+    (took : Took next g2 g (current (historyOf g)) e) where
+  same : eventAt s at ≡ e
+  same = is-good s at serial fr .1
+
+  number : noAt s at serial (historyOf g) ≡ stepNo (historyOf g) (current (historyOf g)) e
+  number = no-good s at serial (historyOf g) fr
+
+  turned : {r : Turn} → r ≡ turn s k at serial c (historyOf g) → Turned r g2 g s k at serial c
+  unfolding putAt enteredAt
+  turned q = record { is = q; words = rw (number, same) (took .words); history = rw (number, same) (took .history); held = took .held }
+
+  told : (r : Next) → next ≡ r → Says (noAt s at serial (historyOf g)) e r
+  told r q = rw number (says (stepNo (historyOf g) (current (historyOf g)) e) e r (sym q ∙ took .is))
+
+  pub turned-refuse : {n : ℕ} → next ≡ N.Refuse n → Turned (Stop (Bad n at)) g2 g s k at serial c
+  unfolding turn pick Says
+  turned-refuse {n} q =
+      let a = told (N.Refuse n) q in
+      turned (rw (a .0, lt-ltb _ _ (a .1)))
+
+  pub turned-done : {o : Out} → next ≡ N.Done → o ≡ finish s (nextAt s at) c → Turned (Stop o) g2 g s k at serial c
+  unfolding turn pick Says
+  turned-done q p =
+      let a = told N.Done q in
+      turned (rw (a .0, same, a .1, p))
+
+  pub turned-go : {after follow : ℕ} → next ≡ N.Go → after ≡ nextAt s at → follow ≡ nextSerial s at → Turned (More after follow c) g2 g s k at serial c
+  unfolding turn pick Says countedAll
+  turned-go q p f =
+      let a = told N.Go q in
+      turned (rw (a .0, same, a .1, a .2 s at, p, f))
+
+  pub turned-text : {after follow : ℕ} {d : Tally} → next ≡ N.Text → after ≡ nextAt s at → follow ≡ nextSerial s at
+      → d ≡ counted k c (record { start = at + 8; length = lenAt s at - 6 }) → Turned (More after follow d) g2 g s k at serial c
+  unfolding turn pick Says countedAll
+  turned-text q p f n =
+      let a = told N.Text q in
+      turned (rw (a .0, same, a .1, a .2 s at, p, f, n))
+
+-- ── what a turn says ──
+
+-- a record that no row refuses lies within the trace
+pub fit-at : (s : List ℕ) (at serial : ℕ) (h : History) → ltb 0 (noAt s at serial h) ≡ false → Fit s at
+fit-at s at serial h t = go (framing s at serial) refl
+  where
+    go : (f : Framed) → framing s at serial ≡ f → Fit s at
+    go (F.Bad n) q = let b = no-bad s at serial h q in let z : noAt s at serial h ≤ 0 = ltb-false _ _ t in absurd (omega (arith, b .0, b .1))
+    go (F.Good e) q = good-fit s at serial q
+
+pub record Onward (s : List ℕ) (k at serial : ℕ) (c : Tally) (h : History) (after follow : ℕ) (d : Tally) : Type 0 where
+  pub passes : ltb 0 (noAt s at serial h) ≡ false
+  pub goes : isEnd (eventAt s at) ≡ false
+  pub after-is : after ≡ nextAt s at
+  pub follow-is : follow ≡ nextSerial s at
+  pub tally-is : d ≡ countedAll k c (textAt s at (eventAt s at))
+
+pub record Refused (s : List ℕ) (at serial : ℕ) (h : History) (o : Out) : Type 0 where
+  pub refuses : ltb 0 (noAt s at serial h) ≡ true
+  pub is : o ≡ Bad (noAt s at serial h) at
+
+pub record Ended (s : List ℕ) (at serial : ℕ) (c : Tally) (h : History) (o : Out) : Type 0 where
+  pub passes : ltb 0 (noAt s at serial h) ≡ false
+  pub ends : isEnd (eventAt s at) ≡ true
+  pub is : o ≡ finish s (nextAt s at) c
+
+module _ (s : List ℕ) (k at serial : ℕ) (c : Tally) (h : History) where
+  pub more-says : {after follow : ℕ} {d : Tally} → turn s k at serial c h ≡ More after follow d → Onward s k at serial c h after follow d
+  unfolding turn
+  more-says {after} {follow} {d} q =
+      ifso (ltb 0 (noAt s at serial h))
+      (λ t.
+      let w : Stop (Bad (noAt s at serial h) at) ≡ More after follow d = sym (pick-on _ _ _ t) ∙ q in
+      let z : _≡_ {A = ℕ} 0 1 = cc in
+      absurd (omega arith))
+      (λ t.
+      let p = sym (pick-off _ _ _ t) ∙ q in
+      ifso (isEnd (eventAt s at))
+      (λ u.
+      let w : Stop (finish s (nextAt s at) c) ≡ More after follow d = sym (pick-on _ _ _ u) ∙ p in
+      let z : _≡_ {A = ℕ} 0 1 = cc in
+      absurd (omega arith))
+      (λ u.
+      let w : More (nextAt s at) (nextSerial s at) (countedAll k c (textAt s at (eventAt s at))) ≡ More after follow d = sym (pick-off _ _ _ u) ∙ p in
+      record { passes = t; goes = u; after-is = cc; follow-is = cc; tally-is = cc }))
+
+  pub stop-says : {o : Out} → turn s k at serial c h ≡ Stop o → Refused s at serial h o ⊎ Ended s at serial c h o
+  unfolding turn
+  stop-says {o} q =
+      ifso (ltb 0 (noAt s at serial h))
+      (λ t.
+      let w : Stop (Bad (noAt s at serial h) at) ≡ Stop o = sym (pick-on _ _ _ t) ∙ q in
+      inl (record { refuses = t; is = cc }))
+      (λ t.
+      let p = sym (pick-off _ _ _ t) ∙ q in
+      ifso (isEnd (eventAt s at))
+      (λ u.
+      let w : Stop (finish s (nextAt s at) c) ≡ Stop o = sym (pick-on _ _ _ u) ∙ p in
+      inr (record { passes = t; ends = u; is = cc }))
+      (λ u.
+      let w : More (nextAt s at) (nextSerial s at) (countedAll k c (textAt s at (eventAt s at))) ≡ Stop o = sym (pick-off _ _ _ u) ∙ p in
+      let z : _≡_ {A = ℕ} 0 1 = cc in
+      absurd (omega arith)))

@@ -1,0 +1,111 @@
+// The whole reading of a trace: its history goes into the table h, and one note, number k, is remembered by its place.
+ghost use Prim.Native.Nat.{_≤_, _<_};
+ghost use mathlib.Core.Path.{_≡_};
+ghost use lib.ListN.{length};
+ghost use Rattle.table.specs.Table.{Held};
+ghost use Rattle.trace.specs.Turns.{counted, finish as finishing, Turned};
+ghost use Rattle.trace.specs.Trace.{Reads};
+use frame::Framed;
+use steps::Next;
+
+// The notes so far: how many, and the first byte and the length of note number k's text, 0 and 0 while it has not come.
+pub struct Tally {
+    pub notes: usize,
+    pub start: usize,
+    pub length: usize,
+}
+
+// The trace was read, with its number of notes and the stretch of note k; or it was refused, with the number of the row and the place.
+pub enum Out {
+    Good(usize, usize, usize),
+    Bad(u8, usize),
+}
+
+// Behind a record: where the next one starts, the serial that has to come, and the notes so far; or the reading is over.
+pub enum Turn {
+    More(usize, u32, Tally),
+    Stop(Out),
+}
+
+// One note more.
+fn count(c: Tally, k: usize, start: usize, length: usize) -> Tally
+    requires { ⌜ c .notes < start ⌝ }
+    ensures { λ r. ⌜ r ≡ counted k c (record { start = start; length = length }) ⌝ }
+{
+    let n = c.notes + 1;
+    if n == k {
+        return Tally {
+            notes: n,
+            start: start,
+            length: length,
+        };
+    }
+    Tally {
+        notes: n,
+        start: c.start,
+        length: c.length,
+    }
+}
+
+// "After the end record, 11": bytes follow it, place the first such byte.
+fn finish(s: &[u8], at: usize, c: Tally) -> Out
+    ensures { λ r. ⌜ r ≡ finishing (now (s .entry)) at c ⌝ }
+{
+    if at < s.len() {
+        return Out::Bad(11, at);
+    }
+    Out::Good(c.notes, c.start, c.length)
+}
+
+// One record, at `at`, where `serial` has to come.
+fn turn_at(s: &[u8], k: usize, at: usize, serial: u32, c: Tally, h: &mut [u64]) -> Turn
+    requires { ⌜ Held (now h) × (at ≤ length (now s)) × (c .notes ≤ at) ⌝ }
+    ensures { λ r. ⌜ Turned r (now (h .exit)) (now (h .entry)) (now (s .entry)) k at serial c ⌝ }
+{
+    let framed = frame::frame_at(s, at, serial);
+    match framed {
+        Framed::Bad(no) => Turn::Stop(Out::Bad(no, at)),
+        Framed::Good(event) => {
+            let next = steps::take(event, h);
+            let len = frame::u16_at(s, at) as usize;
+            let after = at + 2 + len;
+            // "after 4,294,967,295 comes 0"
+            let follow = std::num::wrapping_add_u32(frame::u32_at(s, at + 4), 1);
+            match next {
+                Next::Refuse(no) => Turn::Stop(Out::Bad(no, at)),
+                Next::Done => Turn::Stop(finish(s, after, c)),
+                Next::Go => Turn::More(after, follow, c),
+                Next::Text => Turn::More(after, follow, count(c, k, at + 8, len - 6)),
+            }
+        }
+    }
+}
+
+// The whole trace: row 2, then record by record.
+pub fn read_trace(s: &[u8], k: usize, h: &mut [u64]) -> Out
+    requires { ⌜ length (now h) ≡ 2178 ⌝ }
+    ensures { λ r. ⌜ Reads r (now (h .exit)) (now (h .entry)) (now (s .entry)) k ⌝ }
+{
+    table::clear(h);
+    if 32768 < s.len() {
+        return Out::Bad(2, 32768);
+    }
+    let mut at = 0;
+    let mut serial = 0;
+    let mut c = Tally {
+        notes: 0,
+        start: 0,
+        length: 0,
+    };
+    loop {
+        let turn = turn_at(s, k, at, serial, c, h);
+        match turn {
+            Turn::Stop(out) => return out,
+            Turn::More(after, follow, counted) => {
+                at = after;
+                serial = follow;
+                c = counted;
+            }
+        }
+    }
+}

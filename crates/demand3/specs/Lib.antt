@@ -1,0 +1,4 @@
+pub mod Forced
+pub mod Lists
+pub mod Rejected
+pub mod Judges

@@ -1,0 +1,76 @@
+-- Document 01, "Lists and order": what the two lists of a rejection hold, in its own terms.
+use Prim.Native.Nat.{ℕ, _+_, _*_, _<_}
+use mathlib.Core.Path.{_≡_}
+use mathlib.Core.List.{List, [], _∷_}
+use mathlib.Core.Logic.{_↔_}
+use lib.ListN.{length, getD}
+use Rattle.rules.specs.Numbers.{le}
+use Rattle.rules.specs.History.{History, op}
+use Rattle.rules.specs.Outcome.{Pair}
+use Rattle.demand2.specs.Kinds.{JudgedRead, HasKind, Clean}
+use Rattle.demand3.specs.Forced.{ListedPair, Reasons}
+
+-- ── entries ──
+
+-- x is an entry of the list
+pub data In {A : Type 0} (x : A) : List A → Type 0 where
+  here : {y : A} {l : List A} → x ≡ y → In x (y ∷ l)
+  there : {y : A} {l : List A} → In x l → In x (y ∷ l)
+
+-- each entry comes before all later ones: so the list has each once
+pub data Ascends {A : Type 0} (R : A → A → Type 0) : List A → Type 0 where
+  none : Ascends R []
+  next : {x : A} {l : List A} → ((y : A) → In y l → R x y) → Ascends R l → Ascends R (x ∷ l)
+
+-- an unclean read
+pub record Finding (h : History) (i : ℕ) : Type 0 where
+  pub judged : JudgedRead h i
+  pub unclean : Clean h i → ⊥
+
+-- the findings, "by operation number"
+pub record Findings (h : History) (l : List ℕ) : Type 0 where
+  pub entries : (i : ℕ) → In i l ↔ Finding h i
+  pub ascend : Ascends _<_ l
+
+-- by first and then second
+pub data Before (p q : Pair) : Type 0 where
+  by-first : p .one < q .one → Before p q
+  by-second : p .one ≡ q .one → p .two < q .two → Before p q
+
+-- the listed pairs
+pub record Pairs (h : History) (level : ℕ) (l : List Pair) : Type 0 where
+  pub entries : (p : Pair) → In p l ↔ ListedPair h level (p .one) (p .two)
+  pub ascend : Ascends Before l
+
+-- ── bytes ──
+
+-- the bytes l hold the entries xs, four bytes each; d stands past the end
+pub record Fours {A : Type 0} (At : List ℕ → ℕ → A → Type 0) (d : A) (xs : List A) (l : List ℕ) : Type 0 where
+  pub long : length l ≡ 4 * length xs
+  pub bytes : (k : ℕ) → getD l k 0 < 256
+  pub each : (j : ℕ) → j < length xs → At l j (getD xs j d)
+
+-- "Finding, 4 bytes: transaction, kind, operation number (2 bytes little-endian)": the j-th of l is of read i
+pub record FindingAt (h : History) (l : List ℕ) (j i : ℕ) : Type 0 where
+  pub transaction : getD l (4 * j) 0 ≡ op h i .tx
+  pub kind : HasKind h i (getD l (4 * j + 1) 0)
+  pub number : le 2 l (4 * j + 2) ≡ i
+
+-- "Pair, 4 bytes: first, second, reasons, 0.": the j-th of l is of p
+pub record PairAt (h : History) (level : ℕ) (l : List ℕ) (j : ℕ) (p : Pair) : Type 0 where
+  pub first : getD l (4 * j) 0 ≡ p .one
+  pub second : getD l (4 * j + 1) 0 ≡ p .two
+  pub reasons : Reasons h level (p .one) (p .two) (getD l (4 * j + 2) 0)
+  pub zero : getD l (4 * j + 3) 0 ≡ 0
+
+-- stands past the end of a list of pairs
+abbrev pub noPair : Pair
+noPair = record { one = 0; two = 0 }
+
+-- the list of findings as bytes
+abbrev pub FindingBytes : History → List ℕ → List ℕ → Type 0
+FindingBytes h = Fours (FindingAt h) 0
+
+-- the list of pairs as bytes
+abbrev pub PairBytes : History → ℕ → List Pair → List ℕ → Type 0
+PairBytes h level = Fours (PairAt h level) noPair

@@ -9,7 +9,7 @@ use native.Mathlib.Numerals.{add-one}
 use lib.ListN.{length}
 use lib.Dec.{eqb}
 use borrow.Author.Tests.{lt-ltb}
-use Rattle.base.specs.Base.{_and_, _or_, some}
+use Rattle.base.specs.Base.{_and_, _or_}
 use Rattle.base.proofs.Tests.{ifso, same-test, both, and-left, and-right, and-on, and-no-left, or-cases, or-left, or-right}
 use Rattle.base.proofs.Searches.{some-at, some-of, some-end}
 use Rattle.base.proofs.Chains.{top-hit, top-miss}

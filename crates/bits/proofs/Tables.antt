@@ -1,4 +1,4 @@
--- A table's bits: what each store does to them, and the laws of loops that rewrite a table word by word, or fill it row by row and bit by bit.
+-- A table's bits: what each store does to them, and the laws of loops that rewrite a table word by word or fill it row by row.
 use Prim.Native.Nat.{ℕ, _+_, _*_, _/_, _%_, _^_, _<_, _≤_}
 use mathlib.Core.Path.{_≡_, refl, sym, ap, _∙_}
 use mathlib.Core.Bool.{Bool, true, false, false≢true}
@@ -7,12 +7,12 @@ use mathlib.Core.Logic.{⊎-elim, _↔_}
 use native.Mathlib.Omega.{arith}
 use native.Mathlib.Nat.{mod-lt}
 use lib.Bits.{bitOr}
-use lib.Dec.{eqb, ltb}
+use lib.Dec.{eqb}
 use lib.ListN.{length, getD, set, length-set}
 use lib.Seq.{getD-set-same, getD-set-other, ext-getD}
-use borrow.Author.Tests.{eqb-true, eqb-false, eq-eqb, ne-eqb, lt-ltb, le-ltb}
+use borrow.Author.Tests.{eqb-true, eqb-false, eq-eqb, ne-eqb, le-ltb}
 use Rattle.base.specs.Base.{_and_, _or_}
-use Rattle.base.proofs.Tests.{ifso, split, same-test, both, and-left, and-right, and-on, and-no-left, and-no-right, or-none, or-on, or-assoc}
+use Rattle.base.proofs.Tests.{ifso, split, same-test, both, and-left, and-right, and-on, and-no-left, and-no-right, or-on, or-assoc}
 use Rattle.bits.specs.Bits.{testBit, bitOf, Holds, nothing, either, plusBit, plusRow, plusRows}
 use Rattle.bits.proofs.Tests.{or-off, and-or, same-eqb, below-more}
 use Rattle.bits.proofs.Words.{testBit-zero, testBit-or, testBit-one, word-one}

@@ -1,6 +1,6 @@
 -- Sets in two words.
 use Prim.Native.Nat.{ℕ, _+_, _-_, _*_, _/_, _%_, _^_, _<_, _≤_}
-use mathlib.Core.Path.{_≡_, refl, sym, ap, _∙_}
+use mathlib.Core.Path.{_≡_, sym, ap, _∙_}
 use mathlib.Core.Bool.{Bool, true, false, not}
 use mathlib.Core.List.{List}
 use mathlib.Core.Logic.{⊎-elim}
@@ -8,10 +8,10 @@ use native.Mathlib.Omega.{arith}
 use lib.Bits.{bitOr, or-lt}
 use lib.Dec.{eqb, ltb}
 use lib.ListN.{getD}
-use borrow.Author.Tests.{eqb-true, eq-eqb, ne-eqb, lt-ltb, le-ltb}
-use Rattle.base.specs.Base.{_and_, _or_, some, pick}
-use Rattle.base.proofs.Tests.{known, ifso, clash, is-false, not-true, not-false, both, and-left, and-right, and-on, and-no-left, and-no-right, or-cases, or-left, or-right, or-none, or-on, pick-on, pick-off, same-test, split}
-use Rattle.base.proofs.Searches.{some-at, some-of, some-none, none-at}
+use borrow.Author.Tests.{eq-eqb, ne-eqb, lt-ltb, le-ltb}
+use Rattle.base.specs.Base.{_and_, _or_, some}
+use Rattle.base.proofs.Tests.{known, ifso, clash, is-false, not-true, not-false, both, and-left, and-right, and-on, and-no-left, and-no-right, or-cases, or-left, or-right, or-on, pick-on, pick-off, same-test, split}
+use Rattle.base.proofs.Searches.{some-at, some-of, none-at}
 use Rattle.bits.specs.Bits.{testBit, bitOf}
 use Rattle.bits.proofs.Tests.{or-off, and-true, same-eqb, below-more}
 use Rattle.bits.proofs.Words.{testBit-zero, testBit-or, testBit-one, word-one}

@@ -1,29 +1,24 @@
 -- One place of the order, as the code fills it.
 use Prim.Native.Nat.{ℕ, suc, _+_, _<_, _≤_}
-use mathlib.Core.Path.{_≡_, refl, sym, ap, _∙_}
-use mathlib.Core.Bool.{Bool, true, false, not}
-use mathlib.Core.List.{List, [], _∷_, _++_, append-assoc}
+use mathlib.Core.Path.{_≡_, sym, ap, _∙_}
+use mathlib.Core.Bool.{Bool}
+use mathlib.Core.List.{List, [], _∷_, _++_}
 use native.Mathlib.Omega.{arith}
 use native.Mathlib.Numerals.{add-one}
 use lib.Dec.{eqb}
-use lib.ListN.{length, take, drop, set, length-set}
-use lib.Seq.{take-suc-set, sets-eq}
-use Rattle.base.specs.Base.{_and_, _or_, some, first, count}
-use Rattle.base.proofs.Tests.{is-false, clash, and-left, and-right, both, same-test}
+use lib.ListN.{length, take, set, length-set}
+use lib.Seq.{take-suc-set}
+use Rattle.base.specs.Base.{_or_, some, first, count}
+use Rattle.base.proofs.Tests.{and-left, same-test}
 use Rattle.base.proofs.Searches.{some-at, some-of, first-same}
-use Rattle.base.proofs.Fill.{Appended, appended-none, appended-then}
+use Rattle.base.proofs.Fill.{Appended, appended-none, appended-then, one}
 use Rattle.theory.specs.Order.{mem, misses, ready, unplaced, next, rest}
 use Rattle.theory.proofs.Order.{rest-step, rest-end, unplaced-step, unplaced-all}
 use Rattle.theory.proofs.Places.{mem-append, mem-one}
-use Rattle.bits.specs.Bits.{bitOf, Under}
+use Rattle.bits.specs.Bits.{Under}
 use Rattle.order.specs.declared.Words.{Words}
 use Rattle.order.specs.Sets.{inWords, Plus, Empty}
 use Rattle.order.specs.Ordering.{before, waits, isNext, Orderable}
-
--- one byte
-appended-one : (o : List ℕ) (at x : ℕ) → at < length o → Appended o at (set o at x) (at + 1) (x ∷ [])
-appended-one o at x h =
-    record { end = refl; room = omega arith; is = sets-eq (x ∷ []) o at (omega arith) ∙ append-assoc (take at o) (x ∷ []) (drop (at + 1) o) }
 
 module _ {f : List ℕ} {n : ℕ} {m p : Words} {o : List ℕ} {at : ℕ} (w : Orderable f n m p o at) where
   -- what is missing in p is what is missing among the bytes
@@ -85,7 +80,7 @@ module _ {f : List ℕ} {n : ℕ} {m p : Words} {o : List ℕ} {at : ℕ} (w : O
           let q = next-is e in
           let s : rest n (inWords m) (before f) (take at o) ≡ x ∷ rest n (inWords m) (before f) (take (at + 1) (set o at x)) =
           rw taken (rw q (rest-step n (inWords m) (before f) (take at o) (rw q at l))) in
-          rw s (appended-then (appended-one o at x byte-left) y)
+          rw s (appended-then (one o at x byte-left) y)
 
     -- none is left that may
     pub order-end : n ≤ x → Appended o at o at (rest n (inWords m) (before f) (take at o))

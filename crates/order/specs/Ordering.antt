@@ -4,7 +4,7 @@ use mathlib.Core.Path.{_≡_}
 use mathlib.Core.Bool.{Bool, not}
 use mathlib.Core.List.{List}
 use lib.ListN.{length, take}
-use Rattle.base.specs.Base.{_and_, some, first}
+use Rattle.base.specs.Base.{_and_, some}
 use Rattle.theory.specs.Order.{mem, unplaced}
 use Rattle.bits.specs.Bits.{bitOf, Under}
 use Rattle.order.specs.declared.Words.{Words}

@@ -83,20 +83,20 @@ module _ (h : History) (i t x v : ℕ) where
   kind-unwritten u true e q = rw (eq-eqb v 0 e, q)
   kind-unwritten u false e q = rw (eq-eqb v 0 e, q)
 
-  module _ (w : ℕ) (n : v ≡ 0 → ⊥) (m : w ≡ 0 → ⊥) where
+  module _ (w : ℕ) (n : v ≡ 0 → ⊥) (m : 1 ≤ w) where
     pub kind-own : (b d : Bool) → ltb i w ≡ b → wroteBetween h t x w i ≡ d → pick b 3 (pick d 4 0) ≡ kindBy h i t x v w t
     unfolding kindBy firstFit _and_ _or_ pick
-    kind-own true d p q = rw (ne-eqb v 0 n, ne-eqb w 0 m, eq-eqb t t refl, p)
-    kind-own false true p q = rw (ne-eqb v 0 n, ne-eqb w 0 m, eq-eqb t t refl, p, between-less h t x w i q, q)
-    kind-own false false p q = rw (ne-eqb v 0 n, ne-eqb w 0 m, eq-eqb t t refl, p, q, and-none (ltb w i))
+    kind-own true d p q = rw (ne-eqb v 0 n, ne-eqb w 0 (λ e. omega arith), eq-eqb t t refl, p)
+    kind-own false true p q = rw (ne-eqb v 0 n, ne-eqb w 0 (λ e. omega arith), eq-eqb t t refl, p, between-less h t x w i q, q)
+    kind-own false false p q = rw (ne-eqb v 0 n, ne-eqb w 0 (λ e. omega arith), eq-eqb t t refl, p, q, and-none (ltb w i))
 
     pub kind-other : (u : ℕ) → (u ≡ t → ⊥) → (a b d : Bool) → committed h u ≡ a → wroteBetween h t x 0 i ≡ b → wroteBetween h u x w (opCount h + 1) ≡ d
         → pick a (pick b 5 (pick d 6 0)) 2 ≡ kindBy h i t x v w u
     unfolding kindBy firstFit _and_ _or_ pick
-    kind-other u o false b d p q r = rw (ne-eqb v 0 n, ne-eqb w 0 m, ne-eqb u t o, p)
-    kind-other u o true true d p q r = rw (ne-eqb v 0 n, ne-eqb w 0 m, ne-eqb u t o, p, q)
-    kind-other u o true false true p q r = rw (ne-eqb v 0 n, ne-eqb w 0 m, ne-eqb u t o, p, q, r)
-    kind-other u o true false false p q r = rw (ne-eqb v 0 n, ne-eqb w 0 m, ne-eqb u t o, p, q, r)
+    kind-other u o false b d p q r = rw (ne-eqb v 0 n, ne-eqb w 0 (λ e. omega arith), ne-eqb u t o, p)
+    kind-other u o true true d p q r = rw (ne-eqb v 0 n, ne-eqb w 0 (λ e. omega arith), ne-eqb u t o, p, q)
+    kind-other u o true false true p q r = rw (ne-eqb v 0 n, ne-eqb w 0 (λ e. omega arith), ne-eqb u t o, p, q, r)
+    kind-other u o true false false p q r = rw (ne-eqb v 0 n, ne-eqb w 0 (λ e. omega arith), ne-eqb u t o, p, q, r)
 
 -- .. of what the program read of operation i
 pub kind-is : (h : History) (i x v w u : ℕ) → x ≡ op h i .key → v ≡ op h i .value → w ≡ originOf h i → u ≡ sourceOf h i

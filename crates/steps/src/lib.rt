@@ -1,6 +1,8 @@
 // What an event does to the history in the table h, or the row, 7 to 10, that refuses it.
+ghost use mathlib.Core.Path.{_≡_};
+ghost use lib.Dec.{leb};
 ghost use Prim.Native.Nat.{_+_, _≤_};
-ghost use Rattle.rules.specs.History.{current as latest, txCount};
+ghost use Rattle.rules.specs.History.{current as latest, txCount, opCount};
 ghost use Rattle.table.specs.Table.{historyOf, Held, Below};
 ghost use Rattle.steps.specs.Steps.{Took};
 use rules::Event;
@@ -28,6 +30,14 @@ fn current(h: &[u64]) -> usize
     t
 }
 
+// Row 9: one operation more would be the 1,025th.
+fn is_full(h: &[u64]) -> bool
+    requires { ⌜ Held (now h) ⌝ }
+    ensures { λ r. ⌜ r ≡ leb 1024 (opCount (historyOf (now (h .entry)))) ⌝ }
+{
+    1024 <= table::ops(h)
+}
+
 // The step of each kind, where t is the open transaction, 0 where there is none.
 
 fn take_open(h: &mut [u64], t: usize, s: u16) -> Next
@@ -51,7 +61,7 @@ fn take_read(h: &mut [u64], t: usize, x: u32, v: u64) -> Next
     if t == 0 {
         return Next::Refuse(7);
     }
-    if 1024 <= table::ops(h) {
+    if is_full(h) {
         return Next::Refuse(9);
     }
     table::put_read(h, t, x, v);
@@ -69,7 +79,7 @@ fn take_write(h: &mut [u64], t: usize, x: u32, v: u64) -> Next
     if v == 0 {
         return Next::Refuse(8);
     }
-    if 1024 <= table::ops(h) {
+    if is_full(h) {
         return Next::Refuse(9);
     }
     if 0 < table::write_of(h, x as u64, v) {
@@ -100,7 +110,8 @@ fn take_end(h: &[u64], t: usize, n: u16) -> Next
     if 0 < t {
         return Next::Refuse(7);
     }
-    if n as usize != table::txs(h) {
+    let opened = table::txs(h);
+    if n as usize != opened {
         return Next::Refuse(8);
     }
     Next::Done

@@ -23,11 +23,12 @@ getD-more [] x d (suc i) = rw (eqb·zero-suc i)
 getD-more (y ∷ l) x d zero = rw (eqb·suc-zero (length l))
 getD-more (y ∷ l) x d (suc i) = rw (eqb·suc-suc (length l) i) (getD-more l x d i)
 
-nth-more : (l : List Stretch) (x : Stretch) (k : ℕ) → nth (l ++ (x ∷ [])) k nowhere ≡ pick (eqb (length l + 1) k) x (nth l k nowhere)
+-- .. by number
+pub nth-more : (l : List Stretch) (x : Stretch) (k : ℕ) → nth (l ++ (x ∷ [])) k nowhere ≡ pick (eqb (length l + 1) k) x (nth l k nowhere)
 unfolding nth
 nth-more l x k = rw (add-one (length l)) (getD-more (nowhere ∷ l) x nowhere k)
 
-nth-none : (k : ℕ) → nth [] k nowhere ≡ nowhere
+pub nth-none : (k : ℕ) → nth [] k nowhere ≡ nowhere
 unfolding nth
 nth-none zero = refl
 nth-none (suc k) = refl

@@ -1,4 +1,3 @@
-use native.Mathlib.Omega.{arith}
 use borrow.Author.Needs.{needs}
 use Rattle.bits.proofs.Tables.{holds-self}
 use Rattle.bits.proofs.Rounds.{through-yes, through-no}

@@ -7,6 +7,7 @@ use borrow.Author.Needs.{needs}
 use native.Mathlib.Omega.{arith}
 use mathlib.Core.Path.{_≡_}
 use Prim.Native.Nat.{_+_, _-_, _≤_}
+use lib.ListN.{length}
 use Rattle.reads.proofs.classify.Statement.{statement}
 use Rattle.reads.proofs.classify.Tie as tie
 
@@ -31,7 +32,12 @@ slice-write-k c =
 loop-again : tie.Need-loop-again Inv-loop μ-loop
 unfolding verdictAt
 loop-again c =
-    (omega arith, omega arith, fill-step _ _ _ _ _ (c .before .before .loop .inv .2) (omega arith) (rw (← c .verdict-of .ensures) (one _ _ _ (omega (arith, c .before .before .before .before .before .before .pre .1, c .before .before .before .before .before .before .pre .0 .most, c .before .before .loop .inv .1, appended-length (c .before .before .loop .inv .2 .is))))))
+    let room : c .before .before .loop .i + 1 ≤ length (c .before .before .loop .k) =
+    omega (arith, c .before .before .before .before .before .before .pre .1, c .before .before .before .before .before .before .pre .0 .most, c .before .before .loop .inv .1, appended-length (c .before .before .loop .inv .2 .is)) in (
+      omega arith,
+      omega arith,
+      fill-step _ _ _ _ _ (c .before .before .loop .inv .2) (omega arith) (rw (← c .verdict-of .ensures) (one _ _ _ room)),
+    )
 
 same-length : tie.Need-same-length Inv-loop μ-loop
 same-length c =
@@ -44,4 +50,17 @@ returns c =
     classified _ _ _ (c .before .before .before .before .before .pre .1) (rw e at (fill-end _ _ _ _ _ (c .before .loop .inv .2) (omega (arith, e))))
 
 pub classify-spec : {M : Type 1} → statement M
-classify-spec = tie.close (tie.spec Inv-loop μ-loop (λ c κs. c .before .before .pre .0) loop-holds verdict-of-requires slice-write-k (λ c. search needs) (λ c. omega arith) loop-again same-length returns)
+classify-spec =
+    tie.close
+    (tie.spec
+    Inv-loop
+    μ-loop
+    (λ c κs. c .before .before .pre .0)
+    loop-holds
+    verdict-of-requires
+    slice-write-k
+    (λ c. search needs)
+    (λ c. omega arith)
+    loop-again
+    same-length
+    returns)

@@ -14,7 +14,10 @@ returns c =
 returns-2 : tie.Need-returns-2
 unfolding originOf pick
 returns-2 c =
-    record { is = rw (← c .before .before .before .value-of .ensures, ne-eqb _ _ (c .before .before .if1 .left), ← c .before .key-of .ensures) (c .write-of .ensures .is); below = c .write-of .ensures .below }
+    record {
+      is = rw (← c .before .before .before .value-of .ensures, ne-eqb _ _ (c .before .before .if1 .left), ← c .before .key-of .ensures) (c .write-of .ensures .is);
+      below = c .write-of .ensures .below;
+    }
 
 pub origin-of-spec : {M : Type 1} → statement M
 origin-of-spec = tie.close (tie.spec (λ c κs. search needs) returns (λ c κs. search needs) (λ c κs. search needs) returns-2)

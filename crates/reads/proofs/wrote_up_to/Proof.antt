@@ -31,12 +31,25 @@ prev-op-requires c κs =
     record { held = c .before .before .before .before .before .pre .0; from = omega arith; to = c .before .before .before .loop .inv .0 }
 
 loop-again : tie.Need-loop-again Inv-loop μ-loop
-loop-again c =
-    (omega (arith, c .prev-op .ensures .below, c .before .before .before .before .loop .inv .0), c .before .before .before .before .loop .inv .1 ∙ up-to-miss _ _ _ _ _ (sym (c .before .before .writes-key .ensures) ∙ c .before .if1 .left) (c .prev-op .ensures .is))
+loop-again c = (
+  omega (arith, c .prev-op .ensures .below, c .before .before .before .before .loop .inv .0),
+  c .before .before .before .before .loop .inv .1 ∙ up-to-miss _ _ _ _ _ (sym (c .before .before .writes-key .ensures) ∙ c .before .if1 .left) (c .prev-op .ensures .is),
+)
 
 returns-2 : tie.Need-returns-2 Inv-loop μ-loop
 returns-2 c =
     sym (c .before .loop .inv .1 ∙ up-to-end _ _ _ _ (omega arith))
 
 pub wrote-up-to-spec : {M : Type 1} → statement M
-wrote-up-to-spec = tie.close (tie.spec Inv-loop μ-loop loop-holds writes-key-requires returns prev-op-requires (λ c. omega (arith, c .prev-op .ensures .below)) loop-again returns-2)
+wrote-up-to-spec =
+    tie.close
+    (tie.spec
+    Inv-loop
+    μ-loop
+    loop-holds
+    writes-key-requires
+    returns
+    prev-op-requires
+    (λ c. omega (arith, c .prev-op .ensures .below))
+    loop-again
+    returns-2)

@@ -1,0 +1,52 @@
+-- Asking for a note, from the answer to the whole trace.
+use Prim.Native.Nat.{ℕ, _+_, _≤_}
+use mathlib.Core.Path.{_≡_, ap, sym, _∙_}
+use mathlib.Core.Bool.{true, false}
+use mathlib.Core.List.{List, []}
+use lib.ListN.{length}
+use lib.Dec.{ltb, leb}
+use Rattle.base.specs.Base.{_and_, pick}
+use Rattle.rules.specs.Numbers.{part}
+use Rattle.rules.specs.Notes.{told, isNote, notedRead, noted, bytesOf}
+use Rattle.rules.specs.declared.NoteAnswer.{NoteAnswer}
+use Rattle.rules.specs.declared.NoteAnswer.the-variants.{Refused, Text}
+use Rattle.trace.specs.declared.Out.{Out}
+use Rattle.trace.specs.declared.Out.the-variants.{Good, Bad}
+use Rattle.trace.specs.Trace.{Reads}
+use Rattle.trace.proofs.Answers.{read-bad, read-good}
+use Rattle.notes.proofs.Within.{noted-in}
+
+module _ {r : Out} {g g₀ s : List ℕ} {k : ℕ} (x : Reads r g g₀ s k) where
+  pub asked-refused : {n p : ℕ} → r ≡ Bad n p → told (Refused n p) ≡ noted s k
+  unfolding told noted notedRead
+  asked-refused q = rw (read-bad x q)
+
+  module _ {n a l : ℕ} (q : r ≡ Good n a l) where
+    pub asked-text : ltb 0 k and leb k n ≡ true → told (Text a l) ≡ noted s k
+    unfolding told noted notedRead isNote pick
+    asked-text t =
+        let y = read-good x q in
+        rw (y .is, sym (ap (λ (m : ℕ). ltb 0 k and leb k m) (y .count)) ∙ t, y .stretch)
+
+    pub asked-beyond : ltb 0 k and leb k n ≡ false → told (Refused 15 0) ≡ noted s k
+    unfolding told noted notedRead isNote pick
+    asked-beyond t =
+        let y = read-good x q in
+        rw (y .is, sym (ap (λ (m : ℕ). ltb 0 k and leb k m) (y .count)) ∙ t)
+
+-- ── the bytes of what is handed back ──
+
+module _ (s : List ℕ) (k : ℕ) {r : NoteAnswer} (is : told r ≡ noted s k) where
+  pub none-handed : {n p : ℕ} → r ≡ Refused n p → [] ≡ bytesOf s (noted s k .stretch)
+  unfolding told bytesOf
+  none-handed q = rw (← is, q)
+
+  module _ {a l : ℕ} (q : r ≡ Text a l) where
+    pub text-handed : part a (a + l) s ≡ bytesOf s (noted s k .stretch)
+    unfolding told bytesOf
+    text-handed = rw (← is, q)
+
+    -- it lies within the trace
+    pub text-in : a + l ≤ length s
+    unfolding told
+    text-in = rw (← is, q) at (noted-in s k)

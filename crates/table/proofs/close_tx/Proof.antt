@@ -12,4 +12,14 @@ returns c =
     record { is = refl; holds = close-tx-holds _ _ _ (c .before .pre .0) (c .before .pre .1) }
 
 pub close-tx-spec : {M : Type 1} → statement M
-close-tx-spec = tie.close (tie.spec (λ c. search needs) (λ c. search needs) (λ c. omega (arith, c .slice-known .given (c .before .args .t))) (λ c. omega (arith, c .slice-known .given (c .before .args .t))) (λ c. search needs) (λ c. search needs) (λ c. search needs) returns)
+close-tx-spec =
+    tie.close
+    (tie.spec
+    (λ c. search needs)
+    (λ c. search needs)
+    (λ c. omega (arith, c .slice-known .given (c .before .args .t)))
+    (λ c. omega (arith, c .slice-known .given (c .before .args .t)))
+    (λ c. search needs)
+    (λ c. search needs)
+    (λ c. search needs)
+    returns)

@@ -13,4 +13,28 @@ returns c =
     refl
 
 pub put-op-spec : {M : Type 1} → statement M
-put-op-spec = tie.close (tie.spec (λ c. omega (arith, op-count (c .before .args .h .now), last-small _ _ (c .before .pre .0))) (λ c. omega (arith, op-count (c .before .args .h .now), last-small _ _ (c .before .pre .0))) (λ c. omega (arith, op-count (c .before .args .h .now), last-small _ _ (c .before .pre .0))) (λ c. omega (arith, op-count (c .before .before .args .h .now), last-small _ _ (c .before .before .pre .0))) (λ c. omega (arith, op-count (c .before .before .args .h .now), last-small _ _ (c .before .before .pre .0))) (λ c. omega (arith, op-count (c .before .before .args .h .now), last-small _ _ (c .before .before .pre .0))) (λ c. omega (arith, op-count (c .before .before .args .h .now), last-small _ _ (c .before .before .pre .0))) (λ c. omega (arith, op-count (c .before .before .args .h .now), last-small _ _ (c .before .before .pre .0))) (λ c. omega (arith, op-count (c .before .before .args .h .now), last-small _ _ (c .before .before .pre .0))) (λ c. omega (arith, op-count (c .before .before .args .h .now), last-small _ _ (c .before .before .pre .0))) (λ c. omega (arith, op-count (c .before .before .args .h .now), last-small _ _ (c .before .before .pre .0))) (λ c. omega (arith, op-count (c .before .before .args .h .now), last-small _ _ (c .before .before .pre .0))) (λ c. omega (arith, op-count (c .before .before .args .h .now), last-small _ _ (c .before .before .pre .0))) (λ c. simp length-set (omega (arith, op-count (c .before .before .args .h .now)))) (λ c. omega (arith, op-count (c .before .before .args .h .now), last-small _ _ (c .before .before .pre .0))) (λ c. omega (arith, op-count (c .before .before .args .h .now), last-small _ _ (c .before .before .pre .0))) (λ c. omega (arith, op-count (c .before .before .args .h .now), last-small _ _ (c .before .before .pre .0))) (λ c. simp length-set (omega (arith, op-count (c .before .before .args .h .now)))) (λ c. omega (arith, op-count (c .before .before .args .h .now), last-small _ _ (c .before .before .pre .0))) (λ c. simp length-set (omega (arith, op-count (c .before .before .args .h .now)))) (λ c. search needs) returns)
+put-op-spec =
+    tie.close
+    (tie.spec
+    (λ c. omega (arith, op-count (c .before .args .h .now), last-small _ _ (c .before .pre .0)))
+    (λ c. omega (arith, op-count (c .before .args .h .now), last-small _ _ (c .before .pre .0)))
+    (λ c. omega (arith, op-count (c .before .args .h .now), last-small _ _ (c .before .pre .0)))
+    (λ c. omega (arith, op-count (c .before .before .args .h .now), last-small _ _ (c .before .before .pre .0)))
+    (λ c. omega (arith, op-count (c .before .before .args .h .now), last-small _ _ (c .before .before .pre .0)))
+    (λ c. omega (arith, op-count (c .before .before .args .h .now), last-small _ _ (c .before .before .pre .0)))
+    (λ c. omega (arith, op-count (c .before .before .args .h .now), last-small _ _ (c .before .before .pre .0)))
+    (λ c. omega (arith, op-count (c .before .before .args .h .now), last-small _ _ (c .before .before .pre .0)))
+    (λ c. omega (arith, op-count (c .before .before .args .h .now), last-small _ _ (c .before .before .pre .0)))
+    (λ c. omega (arith, op-count (c .before .before .args .h .now), last-small _ _ (c .before .before .pre .0)))
+    (λ c. omega (arith, op-count (c .before .before .args .h .now), last-small _ _ (c .before .before .pre .0)))
+    (λ c. omega (arith, op-count (c .before .before .args .h .now), last-small _ _ (c .before .before .pre .0)))
+    (λ c. omega (arith, op-count (c .before .before .args .h .now), last-small _ _ (c .before .before .pre .0)))
+    (λ c. simp length-set (omega (arith, op-count (c .before .before .args .h .now))))
+    (λ c. omega (arith, op-count (c .before .before .args .h .now), last-small _ _ (c .before .before .pre .0)))
+    (λ c. omega (arith, op-count (c .before .before .args .h .now), last-small _ _ (c .before .before .pre .0)))
+    (λ c. omega (arith, op-count (c .before .before .args .h .now), last-small _ _ (c .before .before .pre .0)))
+    (λ c. simp length-set (omega (arith, op-count (c .before .before .args .h .now))))
+    (λ c. omega (arith, op-count (c .before .before .args .h .now), last-small _ _ (c .before .before .pre .0)))
+    (λ c. simp length-set (omega (arith, op-count (c .before .before .args .h .now))))
+    (λ c. search needs)
+    returns)

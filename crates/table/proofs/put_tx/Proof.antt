@@ -14,4 +14,16 @@ returns c =
     record { is = refl; holds = put-tx-holds _ (c .before .pre .0) _ (omega arith) (c .before .pre .1) }
 
 pub put-tx-spec : {M : Type 1} → statement M
-put-tx-spec = tie.close (tie.spec (λ c. omega (arith, tx-count (c .before .args .h .now), op-count (c .before .args .h .now))) (λ c. omega (arith, tx-count (c .before .args .h .now), op-count (c .before .args .h .now))) (λ c. omega (arith, tx-count (c .before .args .h .now), op-count (c .before .args .h .now))) (λ c. omega (arith, tx-count (c .before .args .h .now), op-count (c .before .args .h .now))) (λ c. omega (arith, tx-count (c .before .args .h .now), op-count (c .before .args .h .now))) (λ c. omega (arith, tx-count (c .before .args .h .now), op-count (c .before .args .h .now))) (λ c. omega (arith, tx-count (c .before .args .h .now), op-count (c .before .args .h .now))) (λ c. simp length-set (omega arith)) (λ c. search needs) returns)
+put-tx-spec =
+    tie.close
+    (tie.spec
+    (λ c. omega (arith, tx-count (c .before .args .h .now), op-count (c .before .args .h .now)))
+    (λ c. omega (arith, tx-count (c .before .args .h .now), op-count (c .before .args .h .now)))
+    (λ c. omega (arith, tx-count (c .before .args .h .now), op-count (c .before .args .h .now)))
+    (λ c. omega (arith, tx-count (c .before .args .h .now), op-count (c .before .args .h .now)))
+    (λ c. omega (arith, tx-count (c .before .args .h .now), op-count (c .before .args .h .now)))
+    (λ c. omega (arith, tx-count (c .before .args .h .now), op-count (c .before .args .h .now)))
+    (λ c. omega (arith, tx-count (c .before .args .h .now), op-count (c .before .args .h .now)))
+    (λ c. simp length-set (omega arith))
+    (λ c. search needs)
+    returns)

@@ -37,4 +37,16 @@ returns-2 c =
     record { is = sym (c .before .loop .inv .1 ∙ first-end _ _ _ _ (omega arith)); below = omega arith }
 
 pub write-of-spec : {M : Type 1} → statement M
-write-of-spec = tie.close (tie.spec Inv-loop μ-loop (λ c κs. search needs) loop-holds writes-value-requires returns (λ c. search needs) (λ c. search needs) loop-again returns-2)
+write-of-spec =
+    tie.close
+    (tie.spec
+    Inv-loop
+    μ-loop
+    (λ c κs. search needs)
+    loop-holds
+    writes-value-requires
+    returns
+    (λ c. search needs)
+    (λ c. search needs)
+    loop-again
+    returns-2)

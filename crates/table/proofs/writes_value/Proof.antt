@@ -20,7 +20,12 @@ returns-2 c =
 returns-3 : tie.Need-returns-3
 unfolding writesValue _and_
 returns-3 c =
-    rw (← c .before .before .before .before .value-of .ensures, eq-eqb _ _ (c .before .before .before .if1 .left), sym (c .before .before .is-write .ensures) ∙ not-false (c .before .before .is-write .result) (c .before .if2 .left), ← c .key-of .ensures)
+    rw (
+      ← c .before .before .before .before .value-of .ensures,
+      eq-eqb _ _ (c .before .before .before .if1 .left),
+      sym (c .before .before .is-write .ensures) ∙ not-false (c .before .before .is-write .result) (c .before .if2 .left),
+      ← c .key-of .ensures,
+    )
 
 pub writes-value-spec : {M : Type 1} → statement M
 writes-value-spec = tie.close (tie.spec (λ c κs. search needs) returns (λ c κs. search needs) returns-2 (λ c κs. search needs) returns-3)

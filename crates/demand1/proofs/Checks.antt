@@ -8,8 +8,9 @@ use native.Mathlib.Omega.{arith}
 use lib.Dec.{ltb, eqb}
 use lib.ListN.{getD}
 use borrow.Author.Tests.{ltb-true, ltb-false, leb-true, eqb-true, eqb-false, lt-ltb, le-leb, eq-eqb, ne-eqb}
-use Rattle.base.proofs.Tests.{clash, is-false, is-true, not-true, both, and-left, and-right, or-cases, or-left, or-right}
-use Rattle.base.proofs.Searches.{first-cases}
+use Rattle.base.specs.Base.{last}
+use Rattle.base.proofs.Tests.{clash, is-false, is-true, not-true, both, and-left, and-right, or-cases, or-left, or-right, split}
+use Rattle.base.proofs.Chains.{last-passes, last-none}
 use Rattle.rules.specs.History.{History, op, txCount, opCount, current, writesValue, writeOf}
 use Rattle.rules.specs.Records.{lows, highs, breaks, isUnknown, isMisfit, eventAt}
 use Rattle.rules.specs.Reading.{State, misplaced, unlawful, excess, repeats}
@@ -104,14 +105,15 @@ value-written {h} {x} {v} {i} w = both _ _ (both _ _ (eq-eqb (op h i .value) v (
 pub write-found : (h : History) (x v : ℕ) → 0 < writeOf h x v → IsWrite h x v (writeOf h x v)
 unfolding writeOf
 write-found h x v l =
-    ⊎-elim (λ z. absurd (omega (arith, z .0))) (λ f. writes-value h x v _ (record { from = f .from; to = omega (arith, f .to) }) (f .passes))
-    (first-cases 0 (writesValue h x v) (opCount h + 1) 1)
+    let f = last-passes (writesValue h x v) (opCount h + 1) l in
+    writes-value h x v _ (record { from = l; to = omega (arith, f .1) }) (f .0)
 
 pub write-known : {h : History} {x v i : ℕ} → IsWrite h x v i → 0 < writeOf h x v
 unfolding writeOf
 write-known {h} {x} {v} {i} w =
-    ⊎-elim (λ z. absurd (clash (value-written w) (z .1 i (w .is-op .from) (omega (arith, w .is-op .to))))) (λ f. omega (arith, f .from))
-    (first-cases 0 (writesValue h x v) (opCount h + 1) 1)
+    ⊎-elim (λ l. l)
+    (λ g. absurd (clash (value-written w) (last-none (writesValue h x v) (opCount h + 1) i (omega (arith, w .is-op .from)) (omega (arith, w .is-op .to)))))
+    (split 0 (last (writesValue h x v) (opCount h + 1)))
 
 module _ {s : List ℕ} {at : ℕ} (f : Framed s at) (h : History) where
   -- row 7

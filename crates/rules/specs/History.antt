@@ -4,7 +4,7 @@ use mathlib.Core.Bool.{Bool, false}
 use mathlib.Core.List.{List, [], _∷_, _++_}
 use lib.ListN.{length, getD}
 use lib.Dec.{eqb}
-use Rattle.base.specs.Base.{_and_, pick, first, numbered}
+use Rattle.base.specs.Base.{_and_, pick, last, numbered}
 
 -- status 1: committed; 0: aborted; 3: open still
 pub record Tx : Type 0 where
@@ -61,12 +61,13 @@ isOpen h t = eqb (tx h t .status) 3
 unfoldable pub current : History → ℕ
 current h = pick (isOpen h (txCount h)) (txCount h) 0
 
--- operation i is a write of the value v to the key x; the number of the first such, 0 where no write has (x, v)
+-- operation i is a write of the value v to the key x; the number of the last such, 0 where no write has (x, v). Row 10 lets in one at most, so that the last
+-- is the only one
 unfoldable pub writesValue : History → ℕ → ℕ → ℕ → Bool
 writesValue h x v i = eqb (op h i .value) v and op h i .isWrite and eqb (op h i .key) x
 
 unfoldable pub writeOf : History → ℕ → ℕ → ℕ
-writeOf h x v = first 0 1 (opCount h + 1) (writesValue h x v)
+writeOf h x v = last (writesValue h x v) (opCount h + 1)
 
 -- ── how a history grows ──
 

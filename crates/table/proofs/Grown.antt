@@ -1,24 +1,24 @@
--- The operations of a grown history, and each transaction's last and previous ones.
+-- The operations of a grown history, and the last and previous ones of each transaction and each bucket.
 use Prim.Native.Nat.{ℕ, _+_, _≤_, _<_}
-use mathlib.Core.Path.{_≡_, refl, ap, _∙_}
-use mathlib.Core.Bool.{Bool}
+use mathlib.Core.Path.{_≡_, refl, ap, sym, _∙_}
+use mathlib.Core.Bool.{Bool, true, false}
 use mathlib.Core.Logic.{⊎-elim}
-use mathlib.Core.List.{[], _∷_}
+use mathlib.Core.List.{List, [], _∷_}
 use native.Mathlib.Omega.{arith}
 use native.Mathlib.Numerals.{add-one}
 use lib.ListN.{length-append, List·getD-append}
 use lib.Seq.{getD-at}
 use lib.Dec.{eqb}
-use borrow.Author.Tests.{eq-eqb, ne-eqb}
-use Rattle.base.specs.Base.{last}
-use Rattle.base.proofs.Tests.{split}
+use borrow.Author.Tests.{ne-eqb}
+use Rattle.base.specs.Base.{_and_, last}
+use Rattle.base.proofs.Tests.{split, ifso}
 use Rattle.base.proofs.Chains.{last-passes, last-is, last-hit, last-miss, last-same}
-use Rattle.rules.specs.History.{History, Op, op, opCount, noOp, opened, closed, withOp}
-use Rattle.table.specs.Table.{ofTx, lastBelow, lastOf, prevOf}
+use Rattle.rules.specs.History.{History, Tx, Op, op, opCount, noOp, withOp}
+use Rattle.table.specs.Table.{ofTx, lastBelow, lastOf, prevOf, bucketOf, inBucket, headOf, linkOf}
 
 -- ── bounds ──
 
-last-less : (p : ℕ → Bool) (n : ℕ) → 1 ≤ n → last p n < n
+pub last-less : (p : ℕ → Bool) (n : ℕ) → 1 ≤ n → last p n < n
 last-less p n a = ⊎-elim (λ z. last-passes p n z .1) (λ z. omega arith) (split 0 (last p n))
 
 pub last-of-less : (h : History) (t : ℕ) → lastOf h t < opCount h + 1
@@ -29,39 +29,60 @@ pub prev-of-less : (h : History) (i : ℕ) → 1 ≤ i → prevOf h i < i
 unfolding prevOf lastBelow
 prev-of-less h i a = last-less (ofTx h (op h i .tx)) i a
 
--- ── a transaction opens, or closes: no operation changes ──
+pub head-of-less : (h : History) (b : ℕ) → headOf h b < opCount h + 1
+unfolding headOf
+head-of-less h b = last-less (inBucket h b) (opCount h + 1) (omega arith)
 
-module _ (h : History) where
-  pub opened-last : (s t : ℕ) → lastOf (opened h s) t ≡ lastOf h t
-  unfolding lastOf lastBelow ofTx op opened
-  opened-last s t = refl
+pub link-of-less : (h : History) (i : ℕ) → 1 ≤ i → linkOf h i < i
+unfolding linkOf
+link-of-less h i a = last-less (inBucket h (bucketOf (op h i .key) (op h i .value))) i a
 
-  pub opened-prev : (s i : ℕ) → prevOf (opened h s) i ≡ prevOf h i
-  unfolding prevOf lastBelow ofTx op opened
-  opened-prev s i = refl
+pub bucket-low : (x v : ℕ) → bucketOf x v < 128
+unfolding bucketOf
+bucket-low x v = omega arith
 
-  pub opened-op : (s i : ℕ) → op (opened h s) i ≡ op h i
-  unfolding op opened
-  opened-op s i = refl
+-- ── other transactions, as where one opens or closes: no operation changes ──
 
-  pub closed-last : (t x u : ℕ) → lastOf (closed h t x) u ≡ lastOf h u
-  unfolding lastOf lastBelow ofTx op closed
-  closed-last t x u = refl
+module _ (h : History) (a : List Tx) where
+  abbrev pub retold : History
+  retold = record { txs = a; ops = h .ops }
 
-  pub closed-prev : (t x i : ℕ) → prevOf (closed h t x) i ≡ prevOf h i
-  unfolding prevOf lastBelow ofTx op closed
-  closed-prev t x i = refl
+  pub retold-op : (i : ℕ) → op retold i ≡ op h i
+  unfolding op
+  retold-op i = refl
 
-  pub closed-op : (t x i : ℕ) → op (closed h t x) i ≡ op h i
-  unfolding op closed
-  closed-op t x i = refl
+  pub retold-last : (t : ℕ) → lastOf retold t ≡ lastOf h t
+  unfolding lastOf lastBelow ofTx op
+  retold-last t = refl
 
-  -- a transaction that no operation has
-  pub last-of-none : (t : ℕ) → ((i : ℕ) → 1 ≤ i → i ≤ opCount h → op h i .tx ≡ t → ⊥) → lastOf h t ≡ 0
-  unfolding lastOf lastBelow ofTx
-  last-of-none t n = last-is (ofTx h t) (opCount h + 1) 0 (λ z. absurd (omega arith)) (λ i a b. ne-eqb _ _ (n i a (omega arith)))
+  pub retold-prev : (i : ℕ) → prevOf retold i ≡ prevOf h i
+  unfolding prevOf lastBelow ofTx op
+  retold-prev i = refl
+
+  pub retold-head : (b : ℕ) → headOf retold b ≡ headOf h b
+  unfolding headOf inBucket op
+  retold-head b = refl
+
+  pub retold-link : (i : ℕ) → linkOf retold i ≡ linkOf h i
+  unfolding linkOf inBucket op
+  retold-link i = refl
+
+-- a transaction that no operation has
+pub last-of-none : (h : History) (t : ℕ) → ((i : ℕ) → 1 ≤ i → i ≤ opCount h → op h i .tx ≡ t → ⊥) → lastOf h t ≡ 0
+unfolding lastOf lastBelow ofTx
+last-of-none h t n = last-is (ofTx h t) (opCount h + 1) 0 (λ z. absurd (omega arith)) (λ i a b. ne-eqb _ _ (n i a (omega arith)))
 
 -- ── one operation more ──
+
+-- the operations of the class c: those of a transaction, or those of a bucket
+abbrev pub among : (Op → Bool) → History → ℕ → Bool
+among c h i = c (op h i)
+
+abbrev pub byTx : ℕ → Op → Bool
+byTx t o = eqb (o .tx) t
+
+abbrev pub byBucket : ℕ → Op → Bool
+byBucket b o = o .isWrite and eqb (bucketOf (o .key) (o .value)) b
 
 module _ (h : History) (o : Op) where
   pub with-op-count : opCount (withOp h o) ≡ opCount h + 1
@@ -76,26 +97,25 @@ module _ (h : History) (o : Op) where
   unfolding withOp op
   with-op-new = rw (add-one (opCount h)) (getD-at (h .ops) o [] noOp (opCount h) refl)
 
-  pub with-op-below : (t n : ℕ) → n ≤ opCount h + 1 → lastBelow (withOp h o) t n ≡ lastBelow h t n
-  unfolding lastBelow ofTx
-  with-op-below t n l = last-same (ofTx (withOp h o) t) (ofTx h t) n (λ i m. ap (λ (p : Op). eqb (p .tx) t) (with-op-old i (omega arith)))
+  -- the last of a class below the new one
+  with-op-below : (c : Op → Bool) (n : ℕ) → n ≤ opCount h + 1 → last (among c (withOp h o)) n ≡ last (among c h) n
+  with-op-below c n l = last-same (among c (withOp h o)) (among c h) n (λ i m. ap c (with-op-old i (omega arith)))
 
-  -- it is its transaction's last; the others keep theirs
-  pub with-op-last : lastOf (withOp h o) (o .tx) ≡ opCount h + 1
-  unfolding lastOf lastBelow ofTx
-  with-op-last = rw with-op-count (last-hit (ofTx (withOp h o) (o .tx)) (opCount h + 1) (ap (λ (p : Op). eqb (p .tx) (o .tx)) with-op-new ∙ eq-eqb (o .tx) (o .tx) refl))
+  -- a table kept the number a of the class's last operation: it has to keep the new one's where that is of the class, else what it kept
+  pub with-op-last : (c : Op → Bool) {a b : ℕ} → a ≡ last (among c h) (opCount h + 1) → (c o ≡ true → b ≡ opCount h + 1) → (c o ≡ false → b ≡ a)
+      → b ≡ last (among c (withOp h o)) (opCount (withOp h o) + 1)
+  with-op-last c {a} {b} e hit miss =
+      rw with-op-count
+      (ifso (c o) (λ t. hit t ∙ sym (last-hit (among c (withOp h o)) (opCount h + 1) (ap c with-op-new ∙ t)))
+      (λ t. miss t ∙ e ∙ sym (last-miss (among c (withOp h o)) (opCount h + 1) (ap c with-op-new ∙ t) ∙ with-op-below c (opCount h + 1) (omega arith))))
 
-  pub with-op-last-other : (t : ℕ) → (o .tx ≡ t → ⊥) → lastOf (withOp h o) t ≡ lastOf h t
-  unfolding lastOf lastBelow ofTx
-  with-op-last-other t n =
-      rw with-op-count (last-miss (ofTx (withOp h o) t) (opCount h + 1) (ap (λ (p : Op). eqb (p .tx) t) with-op-new ∙ ne-eqb _ _ n))
-      ∙ with-op-below t (opCount h + 1) (omega arith)
-
-  -- its previous one is what was the last
-  pub with-op-prev : prevOf (withOp h o) (opCount h + 1) ≡ lastOf h (o .tx)
-  unfolding prevOf lastOf
-  with-op-prev = ap (λ (p : Op). lastBelow (withOp h o) (p .tx) (opCount h + 1)) with-op-new ∙ with-op-below (o .tx) (opCount h + 1) (omega arith)
-
-  pub with-op-prev-old : (i : ℕ) → i ≤ opCount h → prevOf (withOp h o) i ≡ prevOf h i
-  unfolding prevOf
-  with-op-prev-old i l = ap (λ (p : Op). lastBelow (withOp h o) (p .tx) i) (with-op-old i l) ∙ with-op-below (op h i .tx) i (omega arith)
+  -- .. and with each operation, whose class is c of it, that of the one before it: with the new one, what was the class's last
+  pub with-op-prev : (c : Op → Op → Bool) (i : ℕ) {b : ℕ} → i ≤ opCount h + 1 → (i ≤ opCount h → b ≡ last (among (c (op h i)) h) i)
+      → (i ≡ opCount h + 1 → b ≡ last (among (c o) h) (opCount h + 1)) → b ≡ last (among (c (op (withOp h o) i)) (withOp h o)) i
+  with-op-prev c i {b} l old new =
+      ⊎-elim
+      (λ m. old (omega arith) ∙ sym (ap (λ (p : Op). last (among (c p) (withOp h o)) i) (with-op-old i (omega arith)) ∙ with-op-below (c (op h i)) i l))
+      (λ m.
+      let e : i ≡ opCount h + 1 = omega arith in
+      new e ∙ sym (rw e (ap (λ (p : Op). last (among (c p) (withOp h o)) (opCount h + 1)) with-op-new ∙ with-op-below (c o) (opCount h + 1) (omega arith))))
+      (split i (opCount h + 1))

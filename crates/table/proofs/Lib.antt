@@ -1,3 +1,4 @@
 pub mod Grown
 pub mod Words
 pub mod Stores
+pub mod Walks

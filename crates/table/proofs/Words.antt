@@ -2,14 +2,12 @@
 use Prim.Native.Nat.{ℕ, _+_, _/_, _%_, _≤_, _<_}
 use mathlib.Core.Path.{_≡_, ap, sym}
 use mathlib.Core.List.{List}
-use mathlib.Core.Logic.{⊎-elim}
 use native.Mathlib.Omega.{arith}
 use lib.ListN.{getD}
 use Rattle.base.proofs.Numbered.{numbered-length, numbered-at}
-use Rattle.base.proofs.Searches.{first-cases}
 use Rattle.rules.specs.History.{History, Op, tx, op, txCount, opCount, zeroth, noTx, noOp, writesValue, writeOf}
-use Rattle.table.specs.Table.{txAt, opAt, historyOf, lastAt, prevAt, lastOf, prevOf, Held, HasTx, HasOp, Below}
-use Rattle.table.proofs.Grown.{last-of-less, prev-of-less}
+use Rattle.table.specs.Table.{txAt, opAt, historyOf, lastAt, prevAt, headAt, linkAt, lastOf, prevOf, headOf, linkOf, Held, HasTx, HasOp, HasWrite, Below}
+use Rattle.table.proofs.Grown.{last-less, last-of-less, prev-of-less, head-of-less, link-of-less}
 
 pub tx-count : (h : List ℕ) → txCount (historyOf h) ≡ getD h 0 0 % 128
 unfolding historyOf
@@ -51,10 +49,26 @@ module _ (h : List ℕ) (i : ℕ) (p : HasOp h i) where
   pub op-has-tx : HasTx h (op (historyOf h) i .tx)
   op-has-tx = let r = p .held .txs-in i (p .from) (p .to) in record { held = p .held; from = r .0; to = r .1 }
 
+module _ (h : List ℕ) (b : ℕ) (p : Held h) (l : b < 128) where
+  pub head-is-kept : Below (headAt h b) (headOf (historyOf h) b) (opCount (historyOf h) + 1)
+  head-is-kept =
+      let e = p .heads b l in
+      record { is = e; below = omega (arith, e, head-of-less (historyOf h) b) }
+
+  -- so a write's word has room for it
+  pub head-small : getD h (2178 + b) 0 ≤ 1024
+  unfolding headAt
+  head-small = omega (arith, head-is-kept .below, p .most)
+
+pub link-is-kept : (h : List ℕ) (i : ℕ) → HasWrite h i → Below (linkAt h i) (linkOf (historyOf h) i) i
+link-is-kept h i p =
+    let e = p .there .held .links i (p .there .from) (p .there .to) (p .writes) in
+    record { is = e; below = omega (arith, e, link-of-less (historyOf h) i (p .there .from)) }
+
 -- the write that a search finds lies within the table
 pub write-less : (h : History) (x v : ℕ) → writeOf h x v < opCount h + 1
 unfolding writeOf
-write-less h x v = ⊎-elim (λ z. omega (arith, z .0)) (λ r. r .to) (first-cases 0 (writesValue h x v) (opCount h + 1) 1)
+write-less h x v = last-less (writesValue h x v) (opCount h + 1) (omega arith)
 
 pub write-has : (h : List ℕ) (x v w : ℕ) → Held h → w ≡ writeOf (historyOf h) x v → (w ≡ 0 → ⊥) → HasOp h w
 write-has h x v w p e n = record { held = p; from = omega (arith, n); to = omega (arith, e, write-less (historyOf h) x v) }

@@ -1,19 +1,26 @@
--- How one lent table of 2,178 words holds a history. Above this crate nobody sees a word.
+-- How one lent table of 2,306 words holds a history. Above this crate nobody sees a word.
 --
 --   word 0         the number of transactions + 128 * the number of operations
 --   word t         transaction t: status + 4 * session + 2^18 * the number of its last operation
 --   word 128 + 2 i operation i: its transaction + 128 for a write + 256 * key + 2^40 * the number of the same transaction's previous operation
+--                  + 2^51 * the number of the same bucket's previous write, where i is a write
 --   word 129 + 2 i operation i: its value
+--   word 2178 + b  the number of bucket b's last write
 --
--- So the operations of one transaction are reached from its last one backwards, without a look at any other's.
-use Prim.Native.Nat.{ℕ, _+_, _*_, _/_, _%_, _≤_, _<_}
+-- So the operations of one transaction are reached from its last one backwards, without a look at any other's. A write falls into one of 128 buckets by its
+-- key and its value, so that a write of a value to a key is looked for among those of one bucket only.
+use Prim.Native.Nat.{ℕ, zero, suc, _+_, _*_, _/_, _%_, _≤_, _<_}
 use mathlib.Core.Path.{_≡_}
-use mathlib.Core.Bool.{Bool}
+use mathlib.Core.Bool.{Bool, true}
 use mathlib.Core.List.{List}
 use lib.ListN.{length, getD, set}
 use lib.Dec.{eqb}
-use Rattle.base.specs.Base.{pick, last, numbered}
+use Rattle.base.specs.Base.{_and_, pick, last, numbered}
 use Rattle.rules.specs.History.{Tx, Op, History, op, txCount, opCount}
+
+-- how many words a table has
+abbrev pub tableWords : ℕ
+tableWords = 2306
 
 -- ── what the words say ──
 
@@ -30,12 +37,19 @@ opAt h i = opOf (getD h (128 + 2 * i) 0) (getD h (129 + 2 * i) 0)
 unfoldable pub historyOf : List ℕ → History
 historyOf h = record { txs = numbered (getD h 0 0 % 128) (txAt h); ops = numbered (getD h 0 0 / 128) (opAt h) }
 
--- the number kept with transaction t, and with operation i
+-- the numbers kept: with transaction t, of its last operation; with operation i, of the one before it; with bucket b, of its last write; with write i, of
+-- the one before it in its bucket
 unfoldable pub lastAt : List ℕ → ℕ → ℕ
 lastAt h t = getD h t 0 / 262144
 
 unfoldable pub prevAt : List ℕ → ℕ → ℕ
-prevAt h i = getD h (128 + 2 * i) 0 / 1099511627776
+prevAt h i = getD h (128 + 2 * i) 0 / 1099511627776 % 2048
+
+unfoldable pub headAt : List ℕ → ℕ → ℕ
+headAt h b = getD h (2178 + b) 0
+
+unfoldable pub linkAt : List ℕ → ℕ → ℕ
+linkAt h i = getD h (128 + 2 * i) 0 / 2251799813685248
 
 -- ── a transaction's operations ──
 
@@ -54,18 +68,37 @@ lastOf h t = lastBelow h t (opCount h + 1)
 unfoldable pub prevOf : History → ℕ → ℕ
 prevOf h i = lastBelow h (op h i .tx) i
 
+-- ── a bucket's writes ──
+
+-- the bucket of a write of v to x
+unfoldable pub bucketOf : ℕ → ℕ → ℕ
+bucketOf x v = (x + v) % 128
+
+-- operation i is a write of bucket b
+unfoldable pub inBucket : History → ℕ → ℕ → Bool
+inBucket h b i = op h i .isWrite and eqb (bucketOf (op h i .key) (op h i .value)) b
+
+-- the last such of all, 0 where there is none; the one before write i in the same bucket
+unfoldable pub headOf : History → ℕ → ℕ
+headOf h b = last (inBucket h b) (opCount h + 1)
+
+unfoldable pub linkOf : History → ℕ → ℕ
+linkOf h i = last (inBucket h (bucketOf (op h i .key) (op h i .value))) i
+
 -- ── tables in good order ──
 
 -- every number that the table keeps is the one that its history gives
 pub record Held (h : List ℕ) : Type 0 where
-  pub room : length h ≡ 2178
+  pub room : length h ≡ tableWords
   pub few : txCount (historyOf h) ≤ 127
   pub most : opCount (historyOf h) ≤ 1024
   pub txs-in : (i : ℕ) → 1 ≤ i → i ≤ opCount (historyOf h) → (1 ≤ op (historyOf h) i .tx) × (op (historyOf h) i .tx ≤ txCount (historyOf h))
   pub lasts : (t : ℕ) → 1 ≤ t → t ≤ txCount (historyOf h) → lastAt h t ≡ lastOf (historyOf h) t
   pub prevs : (i : ℕ) → 1 ≤ i → i ≤ opCount (historyOf h) → prevAt h i ≡ prevOf (historyOf h) i
+  pub heads : (b : ℕ) → b < 128 → headAt h b ≡ headOf (historyOf h) b
+  pub links : (i : ℕ) → 1 ≤ i → i ≤ opCount (historyOf h) → op (historyOf h) i .isWrite ≡ true → linkAt h i ≡ linkOf (historyOf h) i
 
--- .. that have a transaction t; an operation i
+-- .. that have a transaction t; an operation i, or a write i
 pub record HasTx (h : List ℕ) (t : ℕ) : Type 0 where
   pub held : Held h
   pub from : 1 ≤ t
@@ -76,6 +109,10 @@ pub record HasOp (h : List ℕ) (i : ℕ) : Type 0 where
   pub from : 1 ≤ i
   pub to : i ≤ opCount (historyOf h)
 
+pub record HasWrite (h : List ℕ) (i : ℕ) : Type 0 where
+  pub there : HasOp h i
+  pub writes : op (historyOf h) i .isWrite ≡ true
+
 -- .. that hold x
 pub record Holds (h : List ℕ) (x : History) : Type 0 where
   pub held : Held h
@@ -83,9 +120,14 @@ pub record Holds (h : List ℕ) (x : History) : Type 0 where
 
 -- ── the stores ──
 
--- no transaction and no operation: the count decides, so no other word has to change
+-- the first n buckets have no write
+unfoldable pub noHeads : ℕ → List ℕ → List ℕ
+noHeads zero h = h
+noHeads (suc n) h = set (noHeads n h) (2178 + n) 0
+
+-- no transaction and no operation: the count decides, so besides the buckets no other word has to change
 unfoldable pub cleared : List ℕ → List ℕ
-cleared h = set h 0 0
+cleared h = noHeads 128 (set h 0 0)
 
 -- one transaction more, which is open (status 3) and has no operation
 unfoldable pub putTx : List ℕ → ℕ → List ℕ
@@ -104,9 +146,17 @@ putWords h t w v =
     0
     (getD h 0 0 + 128)
 
--- .. which is o
+-- .. which is the read o; the write o, with which is kept what its bucket's word was, and whose own number is stored there
+unfoldable pub putRead : List ℕ → Op → List ℕ
+putRead h o = putWords h (o .tx) (o .tx + 256 * o .key) (o .value)
+
+unfoldable pub putWrite : List ℕ → Op → List ℕ
+putWrite h o =
+    let b = 2178 + bucketOf (o .key) (o .value) in
+    set (putWords h (o .tx) (o .tx + 128 + 256 * o .key + 2251799813685248 * getD h b 0) (o .value)) b (getD h 0 0 / 128 + 1)
+
 unfoldable pub putOp : List ℕ → Op → List ℕ
-putOp h o = putWords h (o .tx) (o .tx + pick (o .isWrite) 128 0 + 256 * o .key) (o .value)
+putOp h o = pick (o .isWrite) (putWrite h o) (putRead h o)
 
 -- ── what functions answer ──
 

@@ -3,7 +3,7 @@ ghost use Prim.Native.Nat.{_+_, _<_};
 ghost use lib.ListN.{length};
 ghost use mathlib.Core.Bool.{true, false};
 ghost use Rattle.rules.specs.History.{tx, op, txCount, opCount, empty, opened, closed, withOp, writesValue, writeOf};
-ghost use Rattle.table.specs.Table.{historyOf, lastOf, prevOf, Held, HasTx, HasOp, Below, Becomes, cleared, putTx, closeTx, putWords, putOp};
+ghost use Rattle.table.specs.Table.{tableWords, historyOf, lastOf, prevOf, bucketOf, headOf, linkOf, Held, HasTx, HasOp, HasWrite, Below, Becomes, cleared, putTx, closeTx, putWords, putOp};
 
 // The number of transactions; of operations.
 pub fn txs(h: &[u64]) -> usize
@@ -77,7 +77,30 @@ pub fn prev_op(h: &[u64], i: usize) -> usize
     requires { ⌜ HasOp (now h) i ⌝ }
     ensures { λ r. ⌜ Below r (prevOf (historyOf (now (h .entry))) i) i ⌝ }
 {
-    (h[128 + 2 * i] / 1099511627776) as usize
+    (h[128 + 2 * i] / 1099511627776 % 2048) as usize
+}
+
+// The bucket that a write of v to x falls into. x + v itself might not fit into a word.
+fn bucket_of(x: u64, v: u64) -> usize
+    ensures { λ r. ⌜ Below r (bucketOf x v) 128 ⌝ }
+{
+    ((x % 128 + v % 128) % 128) as usize
+}
+
+// The number of the last write of bucket b, 0 where it has none.
+fn head_of(h: &[u64], b: usize) -> usize
+    requires { ⌜ Held (now h) × (b < 128) ⌝ }
+    ensures { λ r. ⌜ Below r (headOf (historyOf (now (h .entry))) b) (opCount (historyOf (now (h .entry))) + 1) ⌝ }
+{
+    h[2178 + b] as usize
+}
+
+// The number of the write before write i in the same bucket, 0 where there is none.
+fn link_of(h: &[u64], i: usize) -> usize
+    requires { ⌜ HasWrite (now h) i ⌝ }
+    ensures { λ r. ⌜ Below r (linkOf (historyOf (now (h .entry))) i) i ⌝ }
+{
+    (h[128 + 2 * i] / 2251799813685248) as usize
 }
 
 // Whether operation i is a write of v to x. Values are tested first: few operations share one.
@@ -94,28 +117,32 @@ fn writes_value(h: &[u64], x: u64, v: u64, i: usize) -> bool
     key_of(h, i) == x
 }
 
-// The number of the first write of v to x, 0 where no write has them.
+// The number of the last write of v to x, 0 where no write has them: only the writes of one bucket are looked at, from its last one down.
 pub fn write_of(h: &[u64], x: u64, v: u64) -> usize
     requires { ⌜ Held (now h) ⌝ }
     ensures { λ r. ⌜ Below r (writeOf (historyOf (now (h .entry))) x v) (opCount (historyOf (now (h .entry))) + 1) ⌝ }
 {
-    let n = ops(h);
-    let mut i = 1;
-    while i <= n {
+    let mut i = head_of(h, bucket_of(x, v));
+    while 0 < i {
         if writes_value(h, x, v, i) {
             return i;
         }
-        i += 1;
+        i = link_of(h, i);
     }
     0
 }
 
-// No transaction and no operation.
+// No transaction and no operation. A search starts at its bucket's word, so those are cleared too.
 pub fn clear(h: &mut [u64])
-    requires { ⌜ length (now h) ≡ 2178 ⌝ }
+    requires { ⌜ length (now h) ≡ tableWords ⌝ }
     ensures { λ r. ⌜ Becomes (now (h .exit)) (cleared (now (h .entry))) empty ⌝ }
 {
     h[0] = 0;
+    let mut b = 0;
+    while b < 128 {
+        h[2178 + b] = 0;
+        b += 1;
+    }
 }
 
 // One transaction more, of session s, which is open.
@@ -138,7 +165,7 @@ pub fn close_tx(h: &mut [u64], t: usize, x: u64)
     h[t] = 4 * s + x;
 }
 
-// One operation more of transaction t: it reads v from the key k; it writes v to the key k.
+// One operation more of transaction t: it reads v from the key k; it writes v to the key k, and is its bucket's last write from now on.
 pub fn put_read(h: &mut [u64], t: usize, k: u32, v: u64)
     requires { ⌜ HasTx (now h) t × (opCount (historyOf (now h)) < 1024) ⌝ }
     ensures { λ r. ⌜ Becomes (now (h .exit)) (putOp (now (h .entry)) (record { tx = t; isWrite = false; key = k; value = v })) (withOp (historyOf (now (h .entry))) (record { tx = t; isWrite = false; key = k; value = v })) ⌝ }
@@ -150,12 +177,17 @@ pub fn put_write(h: &mut [u64], t: usize, k: u32, v: u64)
     requires { ⌜ HasTx (now h) t × (opCount (historyOf (now h)) < 1024) ⌝ }
     ensures { λ r. ⌜ Becomes (now (h .exit)) (putOp (now (h .entry)) (record { tx = t; isWrite = true; key = k; value = v })) (withOp (historyOf (now (h .entry))) (record { tx = t; isWrite = true; key = k; value = v })) ⌝ }
 {
-    put_op(h, t, t as u64 + 128 + 256 * (k as u64), v);
+    let b = 2178 + bucket_of(k as u64, v);
+    let i = h[0] / 128 + 1;
+    let q = h[b];
+    let w = t as u64 + 128 + 256 * (k as u64);
+    put_op(h, t, w + 2251799813685248 * q, v);
+    h[b] = i;
 }
 
 // One operation more of transaction t, whose first word is w besides the number of the operation before it. That is t's last, which the new one now is.
 fn put_op(h: &mut [u64], t: usize, w: u64, v: u64)
-    requires { ⌜ HasTx (now h) t × (opCount (historyOf (now h)) < 1024) × (w < 1099511627776) ⌝ }
+    requires { ⌜ HasTx (now h) t × (opCount (historyOf (now h)) < 1024) × (w < 4611686018427387904) ⌝ }
     ensures { λ r. ⌜ now (h .exit) ≡ putWords (now (h .entry)) t w v ⌝ }
 {
     let n = h[0];

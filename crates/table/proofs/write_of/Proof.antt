@@ -1,52 +1,41 @@
-use Rattle.base.specs.Base.{first}
-use Rattle.base.proofs.Searches.{first-hit, first-miss, first-end}
-use Rattle.rules.specs.History.{writesValue, writeOf, opCount}
+use Rattle.table.proofs.Walks.{Walk, walk-start, walk-hit, walk-miss, walk-end, walk-has}
 use Rattle.table.specs.Table.{historyOf}
 use borrow.Author.Needs.{needs}
 use native.Mathlib.Omega.{arith}
-use mathlib.Core.Path.{_≡_, refl, sym, _∙_}
-use Prim.Native.Nat.{_+_, _-_, _≤_}
+use mathlib.Core.Path.{sym, _∙_}
 use Rattle.table.proofs.write_of.Statement.{statement}
 use Rattle.table.proofs.write_of.Tie as tie
 
 abbrev Inv-loop : tie.InvT-loop
-Inv-loop h x v n i₀ i = (1 ≤ i) × (writeOf (historyOf h) x v ≡ first 0 i (opCount (historyOf h) + 1) (writesValue (historyOf h) x v))
+Inv-loop h x v i₀ i = Walk (historyOf h) x v i
 
 abbrev μ-loop : tie.MeasureT-loop
-μ-loop h x v n i₀ i = n + 1 - i
+μ-loop h x v i₀ i = i
 
 loop-holds : tie.Need-loop-holds Inv-loop μ-loop
-unfolding writeOf
-loop-holds c =
-    (omega arith, refl)
+loop-holds c = walk-start _ _ _ _ (c .head-of .ensures .is ∙ rw (c .before .bucket-of .ensures .is))
 
 writes-value-requires : tie.Need-writes-value-requires Inv-loop μ-loop
-writes-value-requires c κs =
-    record { held = c .before .before .before .before .pre; from = c .before .loop .inv .0; to = omega arith }
+writes-value-requires c κs = walk-has _ _ _ _ (c .before .before .before .before .before .pre) (c .before .loop .inv) (c .loop-test .taken) .there
 
 returns : tie.Need-returns Inv-loop μ-loop
 returns c =
-    record { is = sym (c .before .before .before .loop .inv .1 ∙ first-hit _ _ _ _ (omega arith) (sym (c .before .writes-value .ensures) ∙ c .if1 .taken)); below = omega arith }
+    let l = c .before .before .before .loop in
+    record { is = sym (walk-hit _ _ _ (l .inv) (sym (c .before .writes-value .ensures) ∙ c .if1 .taken)); below = omega (arith, l .inv .within) }
+
+link-of-requires : tie.Need-link-of-requires Inv-loop μ-loop
+link-of-requires c κs = walk-has _ _ _ _ (c .before .before .before .before .before .before .before .pre) (c .before .before .before .loop .inv) (c .before .before .loop-test .taken)
 
 loop-again : tie.Need-loop-again Inv-loop μ-loop
 loop-again c =
-    (omega arith, c .before .before .before .loop .inv .1 ∙ first-miss _ _ _ _ (omega arith) (sym (c .before .writes-value .ensures) ∙ c .if1 .left))
+    let b = c .before .before .before in
+    walk-miss _ _ _ (b .before .loop .inv) _ (b .loop-test .taken) (sym (c .before .before .writes-value .ensures) ∙ c .before .if1 .left) (c .link-of .ensures .is)
 
 returns-2 : tie.Need-returns-2 Inv-loop μ-loop
-returns-2 c =
-    record { is = sym (c .before .loop .inv .1 ∙ first-end _ _ _ _ (omega arith)); below = omega arith }
+returns-2 c = record { is = sym (walk-end _ _ _ (c .before .loop .inv) (c .loop-test .left)); below = omega arith }
 
 pub write-of-spec : {M : Type 1} → statement M
 write-of-spec =
     tie.close
-    (tie.spec
-    Inv-loop
-    μ-loop
-    (λ c κs. search needs)
-    loop-holds
-    writes-value-requires
-    returns
-    (λ c. search needs)
-    (λ c. search needs)
-    loop-again
-    returns-2)
+    (tie.spec Inv-loop μ-loop (λ c κs. search needs) (λ c κs. (c .before .before .pre, c .bucket-of .ensures .below)) loop-holds writes-value-requires returns link-of-requires
+    (λ c. c .link-of .ensures .below) loop-again returns-2)

@@ -37,5 +37,15 @@ returns-2 c = record { is = sym (walk-end _ _ _ (c .before .loop .inv) (c .loop-
 pub write-of-spec : {M : Type 1} → statement M
 write-of-spec =
     tie.close
-    (tie.spec Inv-loop μ-loop (λ c κs. search needs) (λ c κs. (c .before .before .pre, c .bucket-of .ensures .below)) loop-holds writes-value-requires returns link-of-requires
-    (λ c. c .link-of .ensures .below) loop-again returns-2)
+    (tie.spec
+    Inv-loop
+    μ-loop
+    (λ c κs. search needs)
+    (λ c κs. (c .before .before .pre, c .bucket-of .ensures .below))
+    loop-holds
+    writes-value-requires
+    returns
+    link-of-requires
+    (λ c. c .link-of .ensures .below)
+    loop-again
+    returns-2)

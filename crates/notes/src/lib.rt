@@ -20,7 +20,7 @@ fn is_there(k: usize, notes: usize) -> bool
 pub fn note_answer(s: &[u8], k: usize) -> NoteAnswer
     ensures { λ r. ⌜ told r ≡ noted (now (s .entry)) k ⌝ }
 {
-    let mut h = [0u64; 2178];
+    let mut h = [0u64; 2306];
     let out = trace::read_trace(s, k, &mut h);
     match out {
         Out::Bad(no, place) => NoteAnswer::Refused(no, place),

@@ -3,7 +3,7 @@ use Prim.Native.Nat.{ℕ, _+_, _-_, _*_, _/_, _%_, _^_, _<_, _≤_}
 use mathlib.Core.Path.{_≡_, sym, ap, _∙_}
 use mathlib.Core.Bool.{Bool, true, false, not}
 use mathlib.Core.List.{List}
-use mathlib.Core.Logic.{⊎-elim}
+use mathlib.Core.Logic.{_⊎_, ⊎-elim}
 use native.Mathlib.Omega.{arith}
 use lib.Bits.{bitOr, or-lt}
 use lib.Dec.{eqb, ltb}
@@ -16,7 +16,7 @@ use Rattle.bits.specs.Bits.{testBit, bitOf}
 use Rattle.bits.proofs.Tests.{or-off, and-true, same-eqb, below-more}
 use Rattle.bits.proofs.Words.{testBit-zero, testBit-or, testBit-one, word-one}
 use Rattle.order.specs.declared.Words.{Words}
-use Rattle.order.specs.Sets.{inWords, Plus, Empty, Gathered, lacks}
+use Rattle.order.specs.Sets.{inWords, Plus, Given, Empty, Gathered, lacks}
 use Rattle.order.specs.Ordering.{waits, isNext}
 
 -- ── a set's words ──
@@ -40,36 +40,39 @@ empty-words w p q =
           (λ h. in-high w x h ∙ ap (λ (v : ℕ). testBit v (x - 64)) q ∙ testBit-zero (x - 64)) (split x 64);
     }
 
--- a word that gets the bit j
-bit-more : (u j k : ℕ) → j < 64 → testBit (bitOr u ((1 * 2 ^ j) % 2 ^ 64)) k ≡ testBit u k or eqb k j
-bit-more u j k h = testBit-or u ((1 * 2 ^ j) % 2 ^ 64) k ∙ ap (λ (b : Bool). testBit u k or b) (testBit-one j k h)
+-- ── a set that gets a number, word by word ──
 
-module _ (w : Words) (a : ℕ) (v : Words) where
-  pub plus-low : a < 64 → v .lo ≡ bitOr (w .lo) ((1 * 2 ^ a) % 2 ^ 64) → v .hi ≡ w .hi → Plus w a v
-  plus-low h p q =
+module _ (b u a : ℕ) where
+  -- bit j stands for it
+  pub given-bit : (j : ℕ) → b + j ≡ a → j < 64 → Given b u a (bitOr u ((1 * 2 ^ j) % 2 ^ 64))
+  given-bit j e h =
       record {
         is =
-            λ x l.
-            ⊎-elim (λ m. in-low v x m ∙ ap (λ (u : ℕ). testBit u x) p ∙ bit-more (w .lo) a x h ∙ ap (λ (b : Bool). b or eqb x a) (sym (in-low w x m)))
-            (λ m.
-            in-high v x m ∙ ap (λ (u : ℕ). testBit u (x - 64)) q ∙ sym (in-high w x m)
-            ∙ sym (or-off (inWords w x) _ (ne-eqb x a (λ e. omega arith))))
-            (split x 64);
+            λ k m.
+            testBit-or u ((1 * 2 ^ j) % 2 ^ 64) k
+            ∙ ap (λ (t : Bool). testBit u k or t) (testBit-one j k h ∙ same-eqb k j (b + k) a (λ q. omega (arith, e)) (λ q. omega (arith, e)));
       }
 
-  pub plus-high : 64 ≤ a → a < 128 → v .lo ≡ w .lo → v .hi ≡ bitOr (w .hi) ((1 * 2 ^ (a - 64)) % 2 ^ 64) → Plus w a v
-  plus-high h h2 p q =
-      record {
-        is =
-            λ x l.
-            ⊎-elim
-            (λ m.
-            in-low v x m ∙ ap (λ (u : ℕ). testBit u x) p ∙ sym (in-low w x m) ∙ sym (or-off (inWords w x) _ (ne-eqb x a (λ e. omega arith))))
-            (λ m.
-            let s : eqb (x - 64) (a - 64) ≡ eqb x a = same-eqb (x - 64) (a - 64) x a (λ e. omega arith) (λ e. omega arith) in
-            in-high v x m ∙ ap (λ (u : ℕ). testBit u (x - 64)) q ∙ bit-more (w .hi) (a - 64) (x - 64) (omega arith) ∙ rw (s, in-high w x m))
-            (split x 64);
-      }
+  -- it is a number of the other word
+  pub given-not : (a < b) ⊎ (b + 64 ≤ a) → Given b u a u
+  given-not d =
+      record { is = λ k m. sym (or-off (testBit u k) _ (ne-eqb (b + k) a (λ e. ⊎-elim (λ l. omega arith) (λ l. omega arith) d))) }
+
+pub plus-words : (w : Words) (a : ℕ) (v : Words) → Given 0 (w .lo) a (v .lo) → Given 64 (w .hi) a (v .hi) → Plus w a v
+plus-words w a v p q =
+    record {
+      is =
+          λ x l.
+          ⊎-elim
+          (λ m.
+          let e : 0 + x ≡ x = omega arith in
+          in-low v x m ∙ p .is x m ∙ ap (λ (y : ℕ). testBit (w .lo) x or eqb y a) e ∙ ap (λ (t : Bool). t or eqb x a) (sym (in-low w x m)))
+          (λ m.
+          let e : 64 + (x - 64) ≡ x = omega arith in
+          in-high v x m ∙ q .is (x - 64) (omega arith) ∙ ap (λ (y : ℕ). testBit (w .hi) (x - 64) or eqb y a) e
+          ∙ ap (λ (t : Bool). t or eqb x a) (sym (in-high w x m)))
+          (split x 64);
+    }
 
 -- ── for callers: a set gathered number by number ──
 

@@ -11,8 +11,8 @@ use Rattle.order.specs.declared.Words.{Words}
 use Rattle.order.specs.Sets.{inWords}
 
 -- a comes before b
-unfoldable pub before : List ℕ → ℕ → ℕ → Bool
-before f a b = bitOf f b a
+unfoldable pub standsBefore : List ℕ → ℕ → ℕ → Bool
+standsBefore f a b = bitOf f b a
 
 -- row a of the table has b, and p has not
 unfoldable pub waits : List ℕ → Words → ℕ → ℕ → Bool
@@ -26,4 +26,5 @@ isNext f m p a = inWords m a and not (inWords p a) and not (some 0 128 (waits f 
 pub record Orderable (f : List ℕ) (n : ℕ) (m p : Words) (o : List ℕ) (at : ℕ) : Type 0 where
   pub table : Under n f
   pub placed : (x : ℕ) → x < 128 → inWords p x ≡ mem x (take at o)
-  pub room : at + unplaced n (inWords m) (take at o) ≤ length o
+  pub whole : length o ≡ 128
+  pub room : at + unplaced n (inWords m) (take at o) ≤ 128

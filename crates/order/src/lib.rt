@@ -4,12 +4,12 @@ ghost use mathlib.Core.List.{[]};
 ghost use mathlib.Core.Bool.{not};
 ghost use Prim.Native.Nat.{_≤_, _<_};
 ghost use lib.ListN.{length, take};
-ghost use Rattle.base.specs.Base.{some, first, count};
+ghost use Rattle.base.specs.Base.{some, first};
 ghost use Rattle.base.proofs.Fill.{Appended};
 ghost use Rattle.theory.specs.Order.{rest};
 ghost use Rattle.bits.specs.Bits.{Under};
-ghost use Rattle.order.specs.Sets.{inWords, Plus, Empty, lacks};
-ghost use Rattle.order.specs.Ordering.{before, waits, isNext, Orderable};
+ghost use Rattle.order.specs.Sets.{words, inWords, Plus, Empty, Given, lacks};
+ghost use Rattle.order.specs.Ordering.{standsBefore, waits, isNext, Orderable};
 
 // A set of numbers below 128.
 pub struct Words {
@@ -24,16 +24,21 @@ pub fn none() -> Words
     Words { lo: 0, hi: 0 }
 }
 
-// Whether a is in w.
-pub fn has(w: Words, a: usize) -> bool
-    requires { ⌜ a < 128 ⌝ }
-    ensures { λ r. ⌜ r ≡ inWords w a ⌝ }
+// Within this crate a set is two plain words, `mlo` and `mhi` for the members, `plo` and `phi` for those placed. A struct would be handed over by the address of a local, which the recursion could then not leave behind: with plain words it is a jump, in one frame.
+
+// The low word with a in it, if a is one of its numbers.
+fn low_with(lo: u64, a: usize) -> u64
+    ensures { λ r. ⌜ Given 0 lo a r ⌝ }
 {
-    if a < 64 {
-        (w.lo >> a) % 2 == 1
-    } else {
-        (w.hi >> (a - 64)) % 2 == 1
-    }
+    if a < 64 { lo | (1u64 << a) } else { lo }
+}
+
+// The high word with a in it, if a is one of its numbers.
+fn high_with(hi: u64, a: usize) -> u64
+    requires { ⌜ a < 128 ⌝ }
+    ensures { λ r. ⌜ Given 64 hi a r ⌝ }
+{
+    if a < 64 { hi } else { hi | (1u64 << (a - 64)) }
 }
 
 // The set w with a in it.
@@ -41,16 +46,21 @@ pub fn with(w: Words, a: usize) -> Words
     requires { ⌜ a < 128 ⌝ }
     ensures { λ r. ⌜ Plus w a r ⌝ }
 {
+    Words {
+        lo: low_with(w.lo, a),
+        hi: high_with(w.hi, a),
+    }
+}
+
+// Whether a is in the set.
+fn has(lo: u64, hi: u64, a: usize) -> bool
+    requires { ⌜ a < 128 ⌝ }
+    ensures { λ r. ⌜ r ≡ inWords (words lo hi) a ⌝ }
+{
     if a < 64 {
-        Words {
-            lo: w.lo | (1u64 << a),
-            hi: w.hi,
-        }
+        (lo >> a) % 2 == 1
     } else {
-        Words {
-            lo: w.lo,
-            hi: w.hi | (1u64 << (a - 64)),
-        }
+        (hi >> (a - 64)) % 2 == 1
     }
 }
 
@@ -61,39 +71,39 @@ fn covers(u: u64, v: u64) -> bool
     u | v == v
 }
 
-// Whether no number of row a is missing in `placed`.
-fn follows(f: &[u64], placed: Words, a: usize) -> bool
-    requires { ⌜ (length (now f) ≡ 256) × (a < 128) ⌝ }
-    ensures { λ r. ⌜ r ≡ not (some 0 128 (waits (now (f .entry)) placed a)) ⌝ }
+// Whether no number of row a is missing among those placed.
+fn follows(f: &[u64; 256], plo: u64, phi: u64, a: usize) -> bool
+    requires { ⌜ a < 128 ⌝ }
+    ensures { λ r. ⌜ r ≡ not (some 0 128 (waits (now (f .entry)) (words plo phi) a)) ⌝ }
 {
-    if !covers(f[2 * a], placed.lo) {
+    if !covers(f[2 * a], plo) {
         return false;
     }
-    covers(f[2 * a + 1], placed.hi)
+    covers(f[2 * a + 1], phi)
 }
 
 // Whether a may come next.
-fn is_next(f: &[u64], members: Words, placed: Words, a: usize) -> bool
-    requires { ⌜ (length (now f) ≡ 256) × (a < 128) ⌝ }
-    ensures { λ r. ⌜ r ≡ isNext (now (f .entry)) members placed a ⌝ }
+fn is_next(f: &[u64; 256], mlo: u64, mhi: u64, plo: u64, phi: u64, a: usize) -> bool
+    requires { ⌜ a < 128 ⌝ }
+    ensures { λ r. ⌜ r ≡ isNext (now (f .entry)) (words mlo mhi) (words plo phi) a ⌝ }
 {
-    if !has(members, a) {
+    if !has(mlo, mhi, a) {
         return false;
     }
-    if has(placed, a) {
+    if has(plo, phi, a) {
         return false;
     }
-    follows(f, placed, a)
+    follows(f, plo, phi, a)
 }
 
 // The smallest that may come next, or n.
-fn next(f: &[u64], n: usize, members: Words, placed: Words) -> usize
-    requires { ⌜ (length (now f) ≡ 256) × (n ≤ 128) ⌝ }
-    ensures { λ r. ⌜ r ≡ first n 0 n (isNext (now (f .entry)) members placed) ⌝ }
+fn next(f: &[u64; 256], n: usize, mlo: u64, mhi: u64, plo: u64, phi: u64) -> usize
+    requires { ⌜ n ≤ 128 ⌝ }
+    ensures { λ r. ⌜ r ≡ first n 0 n (isNext (now (f .entry)) (words mlo mhi) (words plo phi)) ⌝ }
 {
     let mut a = 0;
     while a < n {
-        if is_next(f, members, placed, a) {
+        if is_next(f, mlo, mhi, plo, phi, a) {
             return a;
         }
         a += 1;
@@ -102,25 +112,34 @@ fn next(f: &[u64], n: usize, members: Words, placed: Words) -> usize
 }
 
 // The rest of the order, from `at` on, after those placed. Answers where it ends.
-fn order(f: &[u64], n: usize, members: Words, placed: Words, out: &mut [u8], at: usize) -> usize
-    requires { ⌜ Orderable (now f) n members placed (now out) at ⌝ }
-    ensures { λ r. ⌜ Appended (now (out .entry)) at (now (out .exit)) r (rest n (inWords members) (before (now (f .entry))) (take at (now (out .entry)))) ⌝ }
+fn order(
+    f: &[u64; 256],
+    n: usize,
+    mlo: u64,
+    mhi: u64,
+    plo: u64,
+    phi: u64,
+    out: &mut [u8; 128],
+    at: usize,
+) -> usize
+    requires { ⌜ Orderable (now f) n (words mlo mhi) (words plo phi) (now out) at ⌝ }
+    ensures { λ r. ⌜ Appended (now (out .entry)) at (now (out .exit)) r (rest n (inWords (words mlo mhi)) (standsBefore (now (f .entry))) (take at (now (out .entry)))) ⌝ }
 {
-    let a = next(f, n, members, placed);
+    let a = next(f, n, mlo, mhi, plo, phi);
     if a < n {
         out[at] = a as u8;
-        let more = with(placed, a);
-        order(f, n, members, more, out, at + 1)
+        let lo = low_with(plo, a);
+        let hi = high_with(phi, a);
+        order(f, n, mlo, mhi, lo, hi, out, at + 1)
     } else {
         at
     }
 }
 
 // The whole order.
-pub fn order_all(f: &[u64], n: usize, members: Words, out: &mut [u8]) -> usize
-    requires { ⌜ Under n (now f) × (count 0 n (inWords members) ≤ length (now out)) ⌝ }
-    ensures { λ r. ⌜ Appended (now (out .entry)) 0 (now (out .exit)) r (rest n (inWords members) (before (now (f .entry))) []) ⌝ }
+pub fn order_all(f: &[u64; 256], n: usize, members: Words, out: &mut [u8; 128]) -> usize
+    requires { ⌜ Under n (now f) × (length (now out) ≡ 128) ⌝ }
+    ensures { λ r. ⌜ Appended (now (out .entry)) 0 (now (out .exit)) r (rest n (inWords members) (standsBefore (now (f .entry))) []) ⌝ }
 {
-    let placed = none();
-    order(f, n, members, placed, out, 0)
+    order(f, n, members.lo, members.hi, 0, 0, out, 0)
 }

@@ -7,11 +7,11 @@ use Rattle.order.proofs.has.Tie as tie
 
 returns : tie.Need-returns
 unfolding testBit
-returns c = sym (in-low _ _ (c .before .if1 .taken))
+returns c = sym (in-low _ _ (c .if1 .taken))
 
 returns-2 : tie.Need-returns-2
 unfolding testBit
-returns-2 c = sym (in-high _ _ (c .before .if1 .left))
+returns-2 c = sym (in-high _ _ (c .if1 .left))
 
 pub has-spec : {M : Type 1} → statement M
 has-spec = tie.close (tie.spec (λ c. search needs) (λ c. search needs) returns returns-2)

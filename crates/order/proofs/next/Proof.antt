@@ -3,16 +3,17 @@ use mathlib.Core.Path.{_≡_, refl, sym, _∙_}
 use native.Mathlib.Omega.{arith}
 use Rattle.base.specs.Base.{first}
 use Rattle.base.proofs.Searches.{first-hit, first-miss, first-end}
+use Rattle.order.specs.Sets.{words}
 use Rattle.order.specs.Ordering.{isNext}
 use Rattle.order.proofs.next.Statement.{statement}
 use Rattle.order.proofs.next.Tie as tie
 
 -- the whole search is the search from a on
 abbrev Inv-loop : tie.InvT-loop
-Inv-loop f n members placed a₀ a = first n 0 n (isNext f members placed) ≡ first n a n (isNext f members placed)
+Inv-loop f n mlo mhi plo phi a₀ a = first n 0 n (isNext f (words mlo mhi) (words plo phi)) ≡ first n a n (isNext f (words mlo mhi) (words plo phi))
 
 abbrev μ-loop : tie.MeasureT-loop
-μ-loop f n members placed a₀ a = n - a
+μ-loop f n mlo mhi plo phi a₀ a = n - a
 
 returns : tie.Need-returns Inv-loop μ-loop
 returns c =

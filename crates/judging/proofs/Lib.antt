@@ -1,0 +1,5 @@
+pub mod Cases
+pub mod Order
+pub mod Lists
+pub mod Forced
+pub mod Call

@@ -1,0 +1,87 @@
+-- The lists that are written are the definition's.
+use Prim.Native.Nat.{ℕ, _+_, _*_, _<_, _≤_}
+use mathlib.Core.Path.{_≡_, ap, sym, _∙_}
+use mathlib.Core.List.{List}
+use mathlib.Core.Logic.{⊎-elim}
+use native.Mathlib.Omega.{arith}
+use lib.ListN.{length}
+use Rattle.base.proofs.Tests.{split}
+use Rattle.base.proofs.Fill.{Appended}
+use Rattle.rules.specs.History.{History, txCount}
+use Rattle.rules.specs.Outcome.{findings, findingList, pairs, pairList, reported}
+use Rattle.rules.specs.declared.Answer.{Answer}
+use Rattle.rules.specs.declared.Answer.the-variants.{Refused, Rejected}
+use Rattle.table.specs.Table.{historyOf}
+use Rattle.lists.specs.Lists.{pairCount, pairsIn, Judging}
+use Rattle.lists.proofs.Findings.{findings-four}
+use Rattle.lists.proofs.Levels.{pairs-four, told-pairs, told-count}
+use Rattle.judging.specs.Judging.{Counted, Accepts, Rejects, Decides}
+use Rattle.judging.proofs.Cases.{appended-over, rejection-short, rejection-short-pairs, rejection-fits, read-accepted, read-found, read-listed}
+
+-- x: the number of transactions
+pub counted : {h f c : List ℕ} {x fs ps : ℕ} → x ≡ txCount (historyOf h) → (fs ≡ length (findings (historyOf h))) × (fs ≤ 1024)
+    → (ps ≡ pairCount f c (x + 1)) × (ps ≤ 16384) → Counted h f c fs ps
+counted {f = f} {c = c} e a b =
+    record { found = a .0; found-few = a .1; listed = b .0 ∙ ap (λ (n : ℕ). pairCount f c (n + 1)) e; listed-few = b .1 }
+
+module _ {h k f c v : List ℕ} {fs ps : ℕ} (n : Counted h f c fs ps) (level : ℕ) (j : Judging h k f c v level) where
+  abbrev H : History
+  H = historyOf h
+
+  -- both counts, and the lists' lengths
+  pairs-count : ps ≡ length (pairs H level)
+  pairs-count = n .listed ∙ told-count j
+
+  findings-bytes : 4 * fs ≡ length (findingList H)
+  findings-bytes = omega (arith, n .found, findings-four H)
+
+  pairs-bytes : 4 * ps ≡ length (pairList H level)
+  pairs-bytes = omega (arith, pairs-count, pairs-four H level)
+
+  -- ── rejection, with buffers fo and po ──
+
+  module _ (fo po : List ℕ) where
+    pub reject-findings : length fo < 4 * fs → Rejects H level fo po fo po (Refused 12 (4 * fs))
+    unfolding reported
+    reject-findings l = record { is = λ o. rw findings-bytes (sym (rejection-short H level fo po o (omega (arith, findings-bytes)))) }
+
+    module _ (l : 4 * fs ≤ length fo) where
+      pub reject-pairs : length po < 4 * ps → Rejects H level fo po fo po (Refused 13 (4 * ps))
+      unfolding reported
+      reject-pairs m =
+          record {
+            is =
+                λ o.
+                rw pairs-bytes
+                (sym (rejection-short-pairs H level fo po o (omega (arith, findings-bytes)) (omega (arith, pairs-bytes))));
+          }
+
+      pub reject-fits : 4 * ps ≤ length po → {fo2 po2 : List ℕ} {a b : ℕ} → Appended fo 0 fo2 a (findingList H) → Appended po 0 po2 b (pairsIn H f c v)
+          → Rejects H level fo po fo2 po2 (Rejected fs ps)
+      unfolding reported
+      reject-fits m x y =
+          record {
+            is =
+                λ o.
+                rw (n .found, pairs-count, appended-over x, appended-over (rw (told-pairs j) at y))
+                (sym (rejection-fits H level fo po o (omega (arith, findings-bytes)) (omega (arith, pairs-bytes))));
+          }
+
+  -- ── "Accepted: no finding and no listed pair" ──
+
+  module _ {fo po oo : List ℕ} {r : Answer} where
+    pub decide-accepts : fs + ps ≡ 0 → {oo2 : List ℕ} → Accepts H level oo oo2 r → Decides H level fo po oo fo po oo2 r
+    decide-accepts e a =
+        record {
+          is = λ notes. a .is fo po ∙ sym (read-accepted H level fo po oo notes (omega (arith, n .found)) (omega (arith, pairs-count)));
+        }
+
+    pub decide-rejects : (fs + ps ≡ 0 → ⊥) → {fo2 po2 : List ℕ} → Rejects H level fo po fo2 po2 r → Decides H level fo po oo fo2 po2 oo r
+    decide-rejects e a =
+        record {
+          is =
+              λ notes.
+              a .is oo
+              ∙ ⊎-elim (λ l. sym (read-found H level fo po oo notes (omega (arith, n .found))))
+              (λ l. sym (read-listed H level fo po oo notes (omega (arith, e, pairs-count)))) (split 0 fs);
+        }

@@ -1,0 +1,64 @@
+-- The order that is worked out is the definition's.
+use Prim.Native.Nat.{ℕ, _+_, _<_, _≤_}
+use mathlib.Core.Path.{_≡_, ap, sym, _∙_}
+use mathlib.Core.List.{List, [], _∷_, _++_}
+use native.Mathlib.Omega.{arith}
+use native.Mathlib.Numerals.{add-one}
+use lib.ListN.{length, getD, take, set}
+use lib.Seq.{take-suc}
+use Rattle.base.proofs.Fill.{Appended, one, appended-then, appended-front}
+use Rattle.theory.specs.Order.{rest}
+use Rattle.theory.proofs.Same.{rest-same}
+use Rattle.rules.specs.History.{History, txCount, size, committed}
+use Rattle.rules.specs.Levels.{forced}
+use Rattle.rules.specs.Outcome.{order, reported}
+use Rattle.rules.specs.declared.Answer.the-variants.{Refused, Accepted}
+use Rattle.table.specs.Table.{historyOf, Held}
+use Rattle.bits.specs.Bits.{Holds}
+use Rattle.pairs.specs.Pairs.{before}
+use Rattle.order.specs.declared.Words.{Words}
+use Rattle.order.specs.Sets.{inWords, Gathered}
+use Rattle.order.specs.Ordering.{standsBefore}
+use Rattle.order.proofs.Sets.{gather-end}
+use Rattle.judging.specs.Judging.{Accepts}
+use Rattle.judging.proofs.Cases.{appended-over, acceptance-short, acceptance-fits}
+
+-- ── a front that is copied byte by byte ──
+
+pub front-more : (s : List ℕ) {o b : List ℕ} (i : ℕ) → i < length s → i < length b → Appended o 0 b i (take i s)
+    → Appended o 0 (set b i (getD s i 0)) (i + 1) (take (i + 1) s)
+front-more s {o} {b} i hs hb x =
+    let e : take (i + 1) s ≡ take i s ++ (getD s i 0 ∷ []) = ap (λ (n : ℕ). take n s) (add-one i) ∙ take-suc s i 0 hs in
+    rw e (appended-then x (one b i (getD s i 0) hb))
+
+-- ── the order ──
+
+-- x: the number of transactions
+module _ {h : List ℕ} {x : ℕ} (p : Held h) (e : x ≡ txCount (historyOf h)) (m : Words) where
+  module _ {f : List ℕ} (g : Gathered (committed (historyOf h)) (size (historyOf h)) m) (level : ℕ) (w : Holds f (before (forced (historyOf h) level))) where
+    order-is : rest (x + 1) (inWords m) (standsBefore f) [] ≡ order (historyOf h) level
+    unfolding order standsBefore before
+    order-is =
+        rw e
+        (rest-same (size (historyOf h)) (standsBefore f) (forced (historyOf h) level)
+        (λ a b l k. w .is b a (omega (arith, p .few)) (omega (arith, p .few)))
+        (inWords m) (committed (historyOf h)) (gather-end (committed (historyOf h)) (size (historyOf h)) (omega (arith, p .few)) g) [])
+
+    -- .. which stands in the first n bytes of b
+    module _ {a b : List ℕ} {n : ℕ} (s : Appended a 0 b n (rest (x + 1) (inWords m) (standsBefore f) [])) (o : List ℕ) where
+      as-long : n ≡ length (order (historyOf h) level)
+      as-long = omega (arith, s .end, ap length order-is)
+
+      pub accept-short : length o < n → Accepts (historyOf h) level o o (Refused 14 n)
+      unfolding reported
+      accept-short l = record { is = λ fs ps. rw as-long (sym (acceptance-short (historyOf h) level fs ps o (omega (arith, as-long)))) }
+
+      pub accept-fits : n ≤ length o → {o2 : List ℕ} → Appended o 0 o2 n (take n b) → Accepts (historyOf h) level o o2 (Accepted n)
+      unfolding reported
+      accept-fits l {o2} y =
+          let shown : take n b ≡ order (historyOf h) level = appended-front s ∙ order-is in
+          record {
+            is =
+                λ fs ps.
+                rw (appended-over (rw shown at y), as-long) (sym (acceptance-fits (historyOf h) level fs ps o (omega (arith, as-long))));
+          }

@@ -1,0 +1,48 @@
+-- What each part of the call answers, and what it leaves in the buffers that it may write.
+use Prim.Native.Nat.{ℕ, _≤_}
+use mathlib.Core.Path.{_≡_}
+use mathlib.Core.List.{List}
+use lib.ListN.{length}
+use Rattle.theory.specs.Leads.{via}
+use Rattle.rules.specs.History.{History, size}
+use Rattle.rules.specs.Reading.{Stretch, read}
+use Rattle.rules.specs.Outcome.{findings, reported, outcome, acceptance, rejection, judgedRead}
+use Rattle.rules.specs.declared.Answer.{Answer}
+use Rattle.table.specs.Table.{historyOf}
+use Rattle.bits.specs.Bits.{bitOf, Holds}
+use Rattle.pairs.specs.Pairs.{Ready}
+use Rattle.lists.specs.Lists.{pairCount}
+
+-- ── what is worked out ──
+
+-- s was made of the table f of pairs of numbers below n: at level 3 what leads to what through them, else the same pairs
+pub record Known (level n : ℕ) (f s : List ℕ) : Type 0 where
+  pub closed : level ≡ 3 → Holds s (via (bitOf f) n)
+  pub same : (level ≡ 3 → ⊥) → s ≡ f
+
+-- the history's table h, what is to be known of its operations, k, and a level
+pub record AtLevel (h k : List ℕ) (level : ℕ) : Type 0 where
+  pub ready : Ready h k
+  pub from : 1 ≤ level
+  pub to : level ≤ 3
+
+-- how many findings and how many listed pairs there are, in tables of forced pairs, f, and of what leads to what through them, c
+pub record Counted (h f c : List ℕ) (fs ps : ℕ) : Type 0 where
+  pub found : fs ≡ length (findings (historyOf h))
+  pub found-few : fs ≤ 1024
+  pub listed : ps ≡ pairCount f c (size (historyOf h))
+  pub listed-few : ps ≤ 16384
+
+-- ── what is answered ──
+
+-- on acceptance: the answer r, and the order's buffer o, which became o2; the lists' buffers stay, whatever they hold
+pub record Accepts (h : History) (level : ℕ) (o o2 : List ℕ) (r : Answer) : Type 0 where
+  pub is : (f p : List ℕ) → outcome (reported r) f p o2 ≡ acceptance h level f p o
+
+-- on rejection: the answer r, and the lists' buffers f and p, which became f2 and p2; the order's buffer stays
+pub record Rejects (h : History) (level : ℕ) (f p f2 p2 : List ℕ) (r : Answer) : Type 0 where
+  pub is : (o : List ℕ) → outcome (reported r) f2 p2 o ≡ rejection h level f p o
+
+-- on either, of a trace that was read
+pub record Decides (h : History) (level : ℕ) (f p o f2 p2 o2 : List ℕ) (r : Answer) : Type 0 where
+  pub is : (notes : List Stretch) → outcome (reported r) f2 p2 o2 ≡ judgedRead (read h notes) level f p o

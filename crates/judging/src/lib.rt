@@ -1,0 +1,223 @@
+// The judge: a trace, a level and three lent buffers in; the answer out, and the buffers as the definition's outcome says.
+ghost use mathlib.Core.Path.{_≡_};
+ghost use Prim.Native.Nat.{ℕ, _+_, _≤_, _<_};
+ghost use lib.ListN.{length, take};
+ghost use Rattle.base.proofs.Fill.{Appended};
+ghost use Rattle.theory.specs.Leads.{via};
+ghost use Rattle.rules.specs.History.{size, committed};
+ghost use Rattle.rules.specs.Levels.{basic, isRival, forced};
+ghost use Rattle.rules.specs.Outcome.{reported, outcome, judged};
+ghost use Rattle.table.specs.Table.{historyOf, Held};
+ghost use Rattle.bits.specs.Bits.{bitOf, Holds, Under};
+ghost use Rattle.order.specs.Sets.{Gathered};
+ghost use Rattle.pairs.specs.Pairs.{before};
+ghost use Rattle.lists.specs.Lists.{Listing, Judging};
+ghost use Rattle.judging.specs.Judging.{Known, AtLevel, Counted, Accepts, Rejects, Decides};
+use order::Words;
+use rules::Answer;
+use trace::Out;
+
+// The words of a history's table.
+const WORDS: usize = 2306;
+
+// ── who takes part ──
+
+// "Only committed transactions take part": w has those below t; t gets into it, where it is one.
+fn enter(h: &[u64], w: Words, t: usize) -> Words
+    requires { ⌜ Held (now h) × (t < 128) × Gathered (committed (historyOf (now h))) t w ⌝ }
+    ensures { λ r. ⌜ Gathered (committed (historyOf (now (h .entry)))) (t + 1) r ⌝ }
+{
+    if reads::is_committed(h, t) {
+        return order::with(w, t);
+    }
+    w
+}
+
+// The committed transactions, 0 among them.
+fn members(h: &[u64]) -> Words
+    requires { ⌜ Held (now h) ⌝ }
+    ensures { λ r. ⌜ Gathered (committed (historyOf (now (h .entry)))) (size (historyOf (now (h .entry)))) r ⌝ }
+{
+    let n = table::txs(h);
+    let mut w = order::none();
+    let mut t = 0;
+    while t <= n {
+        w = enter(h, w, t);
+        t += 1;
+    }
+    w
+}
+
+// ── acceptance ──
+
+// The first n bytes of `from` at the front of `to`.
+fn copy(from: &[u8], n: usize, to: &mut [u8])
+    requires { ⌜ (n ≤ length (now from)) × (n ≤ length (now to)) ⌝ }
+    ensures { λ r. ⌜ Appended (now (to .entry)) 0 (now (to .exit)) n (take n (now (from .entry))) ⌝ }
+{
+    let mut i = 0;
+    while i < n {
+        to[i] = from[i];
+        i += 1;
+    }
+}
+
+// The order is worked out beside the caller's buffer, so that one that is too short is not touched: "on acceptance only, 14".
+fn accept(h: &[u64], f: &[u64; 256], out: &mut [u8]) -> Answer
+    requires { ⌜ Held (now h) × Under (size (historyOf (now h))) (now f) ⌝ }
+    ensures { λ r. ⌜ ((level : ℕ) → Holds (now (f .entry)) (before (forced (historyOf (now (h .entry))) level)) → Accepts (historyOf (now (h .entry))) level (now (out .entry)) (now (out .exit)) r) ⌝ }
+{
+    let mut shown = [0u8; 128];
+    let n = order::order_all(f, table::txs(h) + 1, members(h), &mut shown);
+    if out.len() < n {
+        return Answer::Refused(14, n);
+    }
+    copy(&shown, n, out);
+    Answer::Accepted(n)
+}
+
+// ── rejection ──
+
+// Both counts come before the first byte is written: "on rejection only, 12 and 13".
+fn reject(
+    h: &[u64],
+    k: &[u8],
+    f: &[u64],
+    c: &[u64],
+    v: &[u64],
+    fs: usize,
+    ps: usize,
+    findings: &mut [u8],
+    pairs: &mut [u8],
+) -> Answer
+    requires { ⌜ Listing (now h) (now k) (now f) (now c) (now v) × Counted (now h) (now f) (now c) fs ps ⌝ }
+    ensures { λ r. ⌜ ((level : ℕ) → Judging (now (h .entry)) (now (k .entry)) (now (f .entry)) (now (c .entry)) (now (v .entry)) level → Rejects (historyOf (now (h .entry))) level (now (findings .entry)) (now (pairs .entry)) (now (findings .exit)) (now (pairs .exit)) r) ⌝ }
+{
+    if findings.len() < 4 * fs {
+        return Answer::Refused(12, 4 * fs);
+    }
+    if pairs.len() < 4 * ps {
+        return Answer::Refused(13, 4 * ps);
+    }
+    lists::put_findings(h, k, findings);
+    lists::put_pairs(h, k, f, c, v, pairs);
+    Answer::Rejected(fs, ps)
+}
+
+// ── deciding ──
+
+// "Accepted: no finding and no listed pair"
+fn decide(
+    h: &[u64],
+    k: &[u8],
+    f: &[u64; 256],
+    c: &[u64],
+    v: &[u64],
+    findings: &mut [u8],
+    pairs: &mut [u8],
+    order: &mut [u8],
+) -> Answer
+    requires { ⌜ Listing (now h) (now k) (now f) (now c) (now v) × Under (size (historyOf (now h))) (now f) ⌝ }
+    ensures { λ r. ⌜ ((level : ℕ) → Judging (now (h .entry)) (now (k .entry)) (now (f .entry)) (now (c .entry)) (now (v .entry)) level → Decides (historyOf (now (h .entry))) level (now (findings .entry)) (now (pairs .entry)) (now (order .entry)) (now (findings .exit)) (now (pairs .exit)) (now (order .exit)) r) ⌝ }
+{
+    let fs = lists::count_findings(h, k);
+    let ps = lists::count_pairs(f, c, table::txs(h) + 1);
+    if fs + ps == 0 {
+        return accept(h, f, order);
+    }
+    reject(h, k, f, c, v, fs, ps, findings, pairs)
+}
+
+// ── what a level forces ──
+// Row b of a table has the bits of what stands before b. w: scratch
+
+// What leads to what through the pairs of f goes into s.
+fn lead(f: &[u64], s: &mut [u64], w: &mut [u64], n: usize)
+    requires { ⌜ Under n (now f) × (length (now s) ≡ 256) × (length (now w) ≡ 256) ⌝ }
+    ensures { λ r. ⌜ Holds (now (s .exit)) (via (bitOf (now (f .entry))) n) × (now (w .exit) ≡ now (s .exit)) ⌝ }
+{
+    bits::copy(f, s);
+    bits::close(s, w, n);
+}
+
+// What the level asks of a rival goes into s, of basic pairs f. Levels 1 and 2: "(t2, t3) is a basic pair", which a read from t2 makes it too. Level 3: "t2
+// leads to t3 through one or more basic pairs".
+fn know(level: u8, f: &[u64], s: &mut [u64], w: &mut [u64], n: usize)
+    requires { ⌜ Under n (now f) × (length (now s) ≡ 256) × (length (now w) ≡ 256) ⌝ }
+    ensures { λ r. ⌜ Known level n (now (f .entry)) (now (s .exit)) ⌝ }
+{
+    if level == 3 {
+        lead(f, s, w, n);
+    } else {
+        bits::copy(f, s);
+    }
+}
+
+// The pairs of rivals go into v, of basic pairs f.
+fn oppose(h: &[u64], k: &[u8], level: u8, f: &[u64], s: &mut [u64], v: &mut [u64], w: &mut [u64])
+    requires { ⌜ AtLevel (now h) (now k) level × Holds (now f) (before (basic (historyOf (now h)))) × (length (now s) ≡ 256) × (length (now v) ≡ 256) × (length (now w) ≡ 256) ⌝ }
+    ensures { λ r. ⌜ Holds (now (v .exit)) (before (isRival (historyOf (now (h .entry))) level)) ⌝ }
+{
+    know(level, f, s, w, table::txs(h) + 1);
+    rivals::fill_rivals(h, k, s, v, level);
+}
+
+// f: forced pairs; v: rivals; s: what leads to what through forced pairs
+fn force(h: &[u64], k: &[u8], level: u8, f: &mut [u64], s: &mut [u64], v: &mut [u64], w: &mut [u64])
+    requires { ⌜ AtLevel (now h) (now k) level × (length (now f) ≡ 256) × (length (now s) ≡ 256) × (length (now v) ≡ 256) × (length (now w) ≡ 256) ⌝ }
+    ensures { λ r. ⌜ Judging (now (h .entry)) (now (k .entry)) (now (f .exit)) (now (s .exit)) (now (v .exit)) level × (now (w .exit) ≡ now (s .exit)) ⌝ }
+{
+    let n = table::txs(h) + 1;
+    pairs::fill_basic(h, k, f);
+    oppose(h, k, level, f, s, v, w);
+    bits::join(v, f);
+    lead(f, s, w, n);
+}
+
+// ── the call ──
+
+// A trace that was read.
+fn judge_history(
+    h: &[u64],
+    level: u8,
+    findings: &mut [u8],
+    pairs: &mut [u8],
+    order: &mut [u8],
+) -> Answer
+    requires { ⌜ Held (now h) × (1 ≤ level) × (level ≤ 3) ⌝ }
+    ensures { λ r. ⌜ Decides (historyOf (now (h .entry))) level (now (findings .entry)) (now (pairs .entry)) (now (order .entry)) (now (findings .exit)) (now (pairs .exit)) (now (order .exit)) r ⌝ }
+{
+    let mut k = [0u8; 1025];
+    reads::classify(h, &mut k);
+    let mut f = [0u64; 256];
+    let mut s = [0u64; 256];
+    let mut v = [0u64; 256];
+    let mut w = [0u64; 256];
+    force(h, &k, level, &mut f, &mut s, &mut v, &mut w);
+    decide(h, &k, &f, &s, &v, findings, pairs, order)
+}
+
+// Judges the trace at a level: 1 read committed, 2 read atomicity, 3 transactional causal consistency. What each answer means, and what each buffer then
+// holds, is the outcome that the definition gives these bytes, this level and these buffers. "Order: 1, 2, then record by record."
+pub fn judge(
+    trace: &[u8],
+    level: u8,
+    findings: &mut [u8],
+    pairs: &mut [u8],
+    order: &mut [u8],
+) -> Answer
+    ensures { λ r. ⌜ outcome (reported r) (now (findings .exit)) (now (pairs .exit)) (now (order .exit)) ≡ judged (now (trace .entry)) level (now (findings .entry)) (now (pairs .entry)) (now (order .entry)) ⌝ }
+{
+    if level < 1 {
+        return Answer::Refused(1, 0);
+    }
+    if 3 < level {
+        return Answer::Refused(1, 0);
+    }
+    let mut h = [0u64; WORDS];
+    let read = trace::read_trace(trace, 0, &mut h);
+    match read {
+        Out::Bad(no, place) => Answer::Refused(no, place),
+        Out::Good(_, _, _) => judge_history(&h, level, findings, pairs, order),
+    }
+}

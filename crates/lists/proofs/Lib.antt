@@ -1,0 +1,4 @@
+pub mod Listings
+pub mod Findings
+pub mod Pairs
+pub mod Levels

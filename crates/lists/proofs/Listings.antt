@@ -1,0 +1,73 @@
+-- Lists of those that pass, place by place.
+use Prim.Native.Nat.{ℕ, _+_, _*_, _<_, _≤_}
+use mathlib.Core.Path.{_≡_, refl, ap, sym, _∙_}
+use mathlib.Core.Bool.{Bool, true, false, not}
+use mathlib.Core.List.{List, [], _∷_}
+use native.Mathlib.Omega.{arith}
+use lib.ListN.{length, length-append}
+use Rattle.base.specs.Base.{pick, listed, those}
+use Rattle.base.proofs.Tests.{not-true, not-false, pick-on, pick-off}
+use Rattle.base.proofs.Searches.{downward, listed-step, listed-end}
+use Rattle.base.proofs.Fill.{Appended, appended-none, Sizing, size-step}
+use Rattle.lists.specs.Lists.{entryAt}
+
+-- ── a test that the program asked, of which r came back ──
+
+module _ (r : Bool) {b : Bool} (e : r ≡ b) where
+  pub asked-no : not r ≡ true → b ≡ false
+  asked-no t = sym e ∙ not-true r t
+
+  pub asked-yes : not r ≡ false → b ≡ true
+  asked-yes t = sym e ∙ not-false r t
+
+  -- what is listed only where it passes: left out; put in; there is room for it
+  module _ (xs : List ℕ) where
+    pub left-out : not r ≡ true → {o : List ℕ} {at : ℕ} → at ≤ length o → Appended o at o at (pick b xs [])
+    left-out t {o} {at} l = rw (pick-off b xs [] (asked-no t)) (appended-none o at l)
+
+    pub put-in : not r ≡ false → {o u : List ℕ} {at to : ℕ} → Appended o at u to xs → Appended o at u to (pick b xs [])
+    put-in t x = rw (pick-on b xs [] (asked-yes t)) x
+
+    pub room-for : not r ≡ false → (at n : ℕ) → at + length (pick b xs []) ≤ n → at + length xs ≤ n
+    room-for t at n l = rw (pick-on b xs [] (asked-yes t)) at l
+
+-- ── how long a list is ──
+
+pub those-listed : (a e : ℕ) (p : ℕ → Bool) → those a e p ≡ listed a e (entryAt p)
+unfolding those entryAt
+those-listed a e p = refl
+
+-- a choice between a list and none
+pub pick-length : {A : Type 0} (b : Bool) (x : List A) → length (pick b x []) ≡ pick b (length x) 0
+unfolding pick
+pick-length true x = refl
+pick-length false x = refl
+
+pub pick-four : (b : Bool) → pick b 4 0 ≡ 4 * pick b 1 0
+unfolding pick
+pick-four true = refl
+pick-four false = refl
+
+pub entry-length : (p : ℕ → Bool) (i : ℕ) → length (entryAt p i) ≡ pick (p i) 1 0
+unfolding entryAt
+entry-length p i = pick-length (p i) (i ∷ [])
+
+-- a count that has come to j goes on by w, which tells whether j passes
+pub count-on : (p : ℕ → Bool) (a e : ℕ) {j n w : ℕ} {r : Bool} → Sizing (entryAt p) a e j n → j < e → w ≡ pick r 1 0 → r ≡ p j
+    → Sizing (entryAt p) a e (j + 1) (n + w)
+count-on p a e {j} {n} {w} {r} s l q t = rw (q ∙ ap (λ (b : Bool). pick b 1 0) t ∙ sym (entry-length p j)) (size-step (entryAt p) a e s l)
+
+-- where each place of one list is four times as long as the same place of another, so is the whole
+pub four-times : {A B : Type 0} (f : ℕ → List A) (g : ℕ → List B) (e j : ℕ) → ((i : ℕ) → length (f i) ≡ 4 * length (g i))
+    → length (listed j e f) ≡ 4 * length (listed j e g)
+four-times f g e j h =
+    downward (λ j. length (listed j e f) ≡ 4 * length (listed j e g)) e (λ j k. rw (listed-end f j e k, listed-end g j e k))
+    (λ j l ih.
+    rw (listed-step f j e l, listed-step g j e l) (omega (arith, ih, h j, length-append (f j) (listed (j + 1) e f), length-append (g j) (listed (j + 1) e g))))
+    j
+
+-- nothing at any place
+pub listed-none : {A : Type 0} (f : ℕ → List A) (e j : ℕ) → ((i : ℕ) → j ≤ i → i < e → f i ≡ []) → listed j e f ≡ []
+listed-none f e =
+    downward (λ j. ((i : ℕ) → j ≤ i → i < e → f i ≡ []) → listed j e f ≡ []) e (λ j k h. listed-end f j e k)
+    (λ j l ih h. listed-step f j e l ∙ rw (h j (omega arith) l) (ih (λ i a b. h i (omega arith) b)))

@@ -1,0 +1,55 @@
+-- The listed pairs, place by place, as the tables tell them.
+use Prim.Native.Nat.{ℕ, _+_, _*_, _<_, _≤_}
+use mathlib.Core.Path.{_≡_, ap, sym, _∙_}
+use mathlib.Core.Bool.{false}
+use mathlib.Core.List.{List, [], _∷_}
+use native.Mathlib.Omega.{arith}
+use lib.ListN.{length}
+use Rattle.base.specs.Base.{listed}
+use Rattle.base.proofs.Tests.{clash, is-false, pick-off}
+use Rattle.base.proofs.Fill.{Appended, appended-none}
+use Rattle.rules.specs.History.{History, txCount, size}
+use Rattle.bits.specs.Bits.{bitOf}
+use Rattle.lists.specs.Lists.{entryAt, isIn, secondsOf, pairCount, reasonsIn, pairAt, rowAt, pairsIn, Tables, Cell}
+use Rattle.lists.proofs.Listings.{those-listed, listed-none, pick-length, pick-four, entry-length, four-times}
+
+module _ {f c : List ℕ} {n : ℕ} (t : Tables f c n) {a : ℕ} (l : a < n) where
+  pub cell : {b : ℕ} → b < n → Cell f c a b
+  cell m = record { forced-room = t .forced-room; leads-room = t .leads-room; one = omega (arith, t .few); two = omega (arith, t .few) }
+
+  -- a row that is left out has no pair
+  row-none : bitOf c a a ≡ false → (b : ℕ) → b < n → isIn f c a b ≡ false
+  row-none e b m = is-false (isIn f c a b) (λ s. clash (t .loops a b l m s) e)
+
+  pub seconds-none : bitOf c a a ≡ false → 0 ≡ length (secondsOf f c n a)
+  unfolding secondsOf entryAt
+  seconds-none e = sym (ap length (those-listed 0 n (isIn f c a) ∙ listed-none (entryAt (isIn f c a)) n 0 (λ b u v. pick-off _ _ _ (row-none e b v))))
+
+module _ (h : History) (f c v : List ℕ) where
+  pub row-left-out : Tables f c (size h) → (a : ℕ) → a < size h → bitOf c a a ≡ false → (o : List ℕ) (at : ℕ) → at ≤ length o
+      → Appended o at o at (rowAt h f c v a)
+  unfolding rowAt pairAt
+  row-left-out t a l e o at m = rw (listed-none (pairAt h f c v a) (size h) 0 (λ b x y. pick-off _ _ _ (row-none t l e b y))) (appended-none o at m)
+
+  pair-four : (a b : ℕ) → length (pairAt h f c v a b) ≡ 4 * length (entryAt (isIn f c a) b)
+  unfolding pairAt
+  pair-four a b = rw (pick-length (isIn f c a b) (a ∷ b ∷ reasonsIn h v a b ∷ 0 ∷ []), entry-length (isIn f c a) b) (pick-four (isIn f c a b))
+
+  row-four : (a : ℕ) → length (rowAt h f c v a) ≡ 4 * length (secondsOf f c (size h) a)
+  unfolding rowAt secondsOf
+  row-four a = rw (those-listed 0 (size h) (isIn f c a)) (four-times (pairAt h f c v a) (entryAt (isIn f c a)) (size h) 0 (pair-four a))
+
+  -- "Pair, 4 bytes"
+  pub pairs-in-four : length (pairsIn h f c v) ≡ 4 * pairCount f c (size h)
+  unfolding pairsIn pairCount
+  pairs-in-four = four-times (rowAt h f c v) (secondsOf f c (size h)) (size h) 0 row-four
+
+  -- so there is room, where the program knows the number of transactions as n
+  pub row-fits : (a : ℕ) {n : ℕ} → n ≡ txCount h → (at m : ℕ) → at + length (rowAt h f c v a) ≤ m
+      → at + length (listed 0 (n + 1) (pairAt h f c v a)) ≤ m
+  unfolding rowAt
+  row-fits a e at m l = rw e l
+
+  pub all-fits : {n : ℕ} → n ≡ txCount h → (m : ℕ) → 4 * pairCount f c (size h) ≤ m → 0 + length (listed 0 (n + 1) (rowAt h f c v)) ≤ m
+  unfolding pairsIn
+  all-fits e m l = rw e (omega (arith, pairs-in-four))

@@ -1,0 +1,4 @@
+pub mod Tests
+pub mod Marking
+pub mod Walk
+pub mod Pairs

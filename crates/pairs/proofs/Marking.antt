@@ -1,0 +1,95 @@
+-- Marking a table's bits, by loops: z i after z i.
+use Prim.Native.Nat.{ℕ, _+_, _<_, _≤_}
+use mathlib.Core.Path.{_≡_, refl, sym, ap, _∙_}
+use mathlib.Core.Bool.{Bool, true, false}
+use mathlib.Core.List.{List}
+use lib.ListN.{length}
+use borrow.Author.Tests.{eqb-true, eq-eqb}
+use Rattle.base.specs.Base.{_and_, _or_, some, last}
+use Rattle.base.proofs.Tests.{ifso, both, and-left, and-right, and-on, and-no-left, or-left, or-on, or-assoc}
+use Rattle.base.proofs.Searches.{some-hit, some-miss, some-end}
+use Rattle.base.proofs.Chains.{top-hit, top-miss, top-chain}
+use Rattle.bits.specs.Bits.{bitOf, Holds, either, plusBit}
+use Rattle.bits.proofs.Tests.{or-off}
+use Rattle.bits.proofs.Tables.{holds-same}
+use Rattle.pairs.specs.Pairs.{cell, across}
+
+-- ── one bit ──
+
+pub cell-is : (v : Bool) (a b x y : ℕ) → cell v a b x y ≡ true → (v ≡ true) × (x ≡ a) × (y ≡ b)
+unfolding cell
+cell-is v a b x y e = (and-left _ _ e, eqb-true x a (and-left _ _ (and-right _ _ e)), eqb-true y b (and-right _ _ (and-right _ _ e)))
+
+pub cell-has : (v : Bool) (x y : ℕ) → v ≡ true → cell v x y x y ≡ true
+unfolding cell
+cell-has v x y e = both _ _ e (both _ _ (eq-eqb x x refl) (eq-eqb y y refl))
+
+module _ (E : ℕ → ℕ → Bool) {v : Bool} {t : List ℕ} where
+  pub cell-on : (a b c d : ℕ) → v ≡ true → a ≡ c → b ≡ d → Holds t (plusBit E a b) → Holds t (either E (cell v c d))
+  unfolding plusBit either cell
+  cell-on a b c d e p q h = holds-same h (λ x y hx hy. rw (p, q) (ap (λ (r : Bool). E x y or r) (sym (and-on _ _ e))))
+
+  pub cell-off : (a b : ℕ) → v ≡ false → Holds t E → Holds t (either E (cell v a b))
+  unfolding either cell
+  cell-off a b e h = holds-same h (λ x y hx hy. sym (or-off _ _ (and-no-left _ _ e)))
+
+-- ── a loop ──
+
+-- the table t and what z still gives, from a to before e, are the whole w
+pub record Marking (z : ℕ → ℕ → ℕ → Bool) (w : ℕ → ℕ → Bool) (a e : ℕ) (t : List ℕ) : Type 0 where
+  pub room : length t ≡ 256
+  pub rest : (x y : ℕ) → x < 128 → y < 128 → bitOf t x y or across a e z x y ≡ w x y
+
+or-more : (a b c d : Bool) → d ≡ b or c → (a or b) or c ≡ a or d
+or-more a b c d e = or-assoc a b c ∙ ap (λ (r : Bool). a or r) (sym e)
+
+module _ (z : ℕ → ℕ → ℕ → Bool) where
+  pub mark-start : {t : List ℕ} (a e : ℕ) → length t ≡ 256 → Marking z (either (bitOf t) (across a e z)) a e t
+  unfolding either
+  mark-start a e h = record { room = h; rest = λ x y hx hy. refl }
+
+  pub mark-end : {w : ℕ → ℕ → Bool} {a e : ℕ} {t : List ℕ} → e ≤ a → Marking z w a e t → Holds t w
+  unfolding across
+  mark-end {a = a} {e = e} h m =
+      record { room = m .room; is = λ x y hx hy. sym (or-off _ _ (some-end (λ i. z i x y) a e h)) ∙ m .rest x y hx hy }
+
+  module _ {w : ℕ → ℕ → Bool} {t u : List ℕ} where
+    -- upward: the next is marked
+    pub mark-up : {e : ℕ} (a : ℕ) → a < e → Marking z w a e t → Holds u (either (bitOf t) (z a)) → Marking z w (a + 1) e u
+    unfolding across either
+    mark-up {e} a l m h =
+        record {
+          room = h .room;
+          rest =
+              λ x y hx hy.
+              ap (λ (r : Bool). r or some (a + 1) e (λ i. z i x y)) (h .is x y hx hy)
+              ∙ or-more _ _ _ _
+              (ifso (z a x y) (λ e. some-hit (λ i. z i x y) a _ l e ∙ sym (or-left _ _ e)) (λ e. some-miss (λ i. z i x y) a _ l e ∙ sym (or-on _ _ e)))
+              ∙ m .rest x y hx hy;
+        }
+
+    -- downward: the topmost is marked
+    pub mark-down : {a : ℕ} (i : ℕ) → a ≤ i → Marking z w a (i + 1) t → Holds u (either (bitOf t) (z i)) → Marking z w a i u
+    unfolding across either
+    mark-down {a} i l m h =
+        record {
+          room = h .room;
+          rest =
+              λ x y hx hy.
+              ap (λ (r : Bool). r or some a i (λ i. z i x y)) (h .is x y hx hy)
+              ∙ or-more _ _ _ _
+              (ifso (z i x y) (λ e. top-hit (λ i. z i x y) a i l e ∙ sym (or-left _ _ e)) (λ e. top-miss (λ i. z i x y) a i e ∙ sym (or-on _ _ e)))
+              ∙ m .rest x y hx hy;
+        }
+
+  -- what z gives up to n it gives up to the last that passes p, where nothing else gives anything
+  pub mark-chain : {w : ℕ → ℕ → Bool} {a : ℕ} {t : List ℕ} (p : ℕ → Bool) (n : ℕ) → 1 ≤ a → ((i x y : ℕ) → z i x y ≡ true → p i ≡ true)
+      → Marking z w a n t → Marking z w a (last p n + 1) t
+  unfolding across
+  mark-chain {a = a} {t = t} p n l sub m =
+      record {
+        room = m .room;
+        rest =
+            λ x y hx hy.
+            ap (λ (r : Bool). bitOf t x y or r) (sym (top-chain (λ i. z i x y) a p (λ i _ e. sub i x y e) n l)) ∙ m .rest x y hx hy;
+      }

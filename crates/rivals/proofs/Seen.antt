@@ -1,0 +1,147 @@
+-- Which reads of t3 see t2.
+use Prim.Native.Nat.{ℕ, _+_, _<_, _≤_}
+use mathlib.Core.Path.{_≡_, sym, ap, _∙_}
+use mathlib.Core.Bool.{Bool, true, false}
+use mathlib.Core.List.{List}
+use mathlib.Core.Logic.{_⊎_, inl, inr, ⊎-elim}
+use native.Mathlib.Omega.{arith}
+use lib.Dec.{eqb, ltb}
+use borrow.Author.Tests.{eqb-true, eqb-false, eq-eqb, ne-eqb, lt-ltb, le-ltb, ltb-true}
+use Rattle.base.specs.Base.{_and_, pick, some, first, last}
+use Rattle.base.proofs.Tests.{known, ifso, split, clash, is-false, same-test, or-right, pick-on, pick-off}
+use Rattle.base.proofs.Searches.{some-at, some-of, some-none, first-cases, first-is, first-end}
+use Rattle.base.proofs.Chains.{last-passes, last-none}
+use Rattle.rules.specs.History.{History, txCount, opCount}
+use Rattle.rules.specs.Reads.{readsFrom}
+use Rattle.rules.specs.Levels.{isRead, basic, leads, sees}
+use Rattle.table.specs.Table.{historyOf, HasTx, ofTx, lastBelow, lastOf, prevOf, Below}
+use Rattle.bits.specs.Bits.{bitOf}
+use Rattle.pairs.specs.Pairs.{OnChain, before}
+use Rattle.pairs.proofs.Walk.{chain-last, chain-prev}
+use Rattle.rivals.specs.Rivals.{pairsFor, Told, SeenFrom}
+
+-- ── the first, found from the top down ──
+
+module _ (q : ℕ → Bool) (d : ℕ) where
+  first-none : (e : ℕ) → ((i : ℕ) → 1 ≤ i → i < e → q i ≡ false) → first d 1 e q ≡ d
+  first-none e none = ⊎-elim (λ z. z .0) (λ r. absurd (clash (r .passes) (none (first d 1 e q) (r .from) (r .to)))) (first-cases d q e 1)
+
+  -- a search up to n is one up to the last of the chain
+  first-chain : (p : ℕ → Bool) → ((i : ℕ) → q i ≡ true → p i ≡ true) → (n : ℕ) → first d 1 n q ≡ first d 1 (last p n + 1) q
+  first-chain p sub n =
+      ⊎-elim
+      (λ z.
+      z .0
+      ∙ sym
+      (first-none (last p n + 1) (λ i a b. z .1 i a (omega (arith, last-passes p n (omega arith) .1)))))
+      (λ r.
+      sym
+      (first-is d q (last p n + 1) 1 (first d 1 n q)
+      (record {
+        from = r .from;
+        to = ⊎-elim (λ l. l) (λ g. absurd (clash (sub _ (r .passes)) (last-none p n (first d 1 n q) (omega arith) (r .to)))) (split (first d 1 n q) (last p n + 1));
+        passes = r .passes;
+        none = r .none;
+      })))
+      (first-cases d q n 1)
+
+  -- the topmost becomes what is answered where no other passes
+  first-top : (i : ℕ) → 1 ≤ i → first d 1 (i + 1) q ≡ first (pick (q i) i d) 1 i q
+  first-top i l =
+      ⊎-elim (λ z. none (z .1) ∙ sym (z .0))
+      (λ r. first-is d q (i + 1) 1 _ (record { from = r .from; to = omega (arith, r .to); passes = r .passes; none = r .none }))
+      (first-cases (pick (q i) i d) q i 1)
+    where
+      none : ((j : ℕ) → 1 ≤ j → j < i → q j ≡ false) → first d 1 (i + 1) q ≡ pick (q i) i d
+      none f =
+          ifso (q i) (λ t. first-is d q (i + 1) 1 i (record { from = l; to = omega arith; passes = t; none = f }) ∙ sym (pick-on _ _ _ t))
+          (λ t.
+          first-none (i + 1) (λ j a b. ⊎-elim (λ m. f j a m) (λ m. let e : j ≡ i = omega arith in rw e t) (split j i)) ∙ sym (pick-off _ _ _ t))
+
+-- a walk that has come to i, with r for the first from above it
+pub record Firsts (h : History) (t : ℕ) (q : ℕ → Bool) (r i : ℕ) : Type 0 where
+  pub on : OnChain h t i
+  pub whole : first (opCount h) 1 (opCount h + 1) q ≡ first r 1 (i + 1) q
+
+module _ (h : History) (t : ℕ) (q : ℕ → Bool) (sub : (i : ℕ) → q i ≡ true → ofTx h t i ≡ true) where
+  pub firsts-start : {r i : ℕ} → r ≡ opCount h → Below i (lastOf h t) (opCount h + 1) → Firsts h t q r i
+  unfolding lastOf lastBelow
+  firsts-start e b = record { on = chain-last b; whole = rw (e, b .is) (first-chain q (opCount h) (ofTx h t) sub (opCount h + 1)) }
+
+  pub firsts-next : {r i s j : ℕ} → Firsts h t q r i → 0 < i → s ≡ pick (q i) i r → Below j (prevOf h i) i → Firsts h t q s j
+  unfolding prevOf lastBelow
+  firsts-next {r} {i} {s} f l e b =
+      record {
+        on = chain-prev (f .on) l b;
+        whole = f .whole ∙ first-top q r i l ∙ rw (← e, b .is, f .on .of l) (first-chain q s (ofTx h t) sub i);
+      }
+
+  pub firsts-end : {r i : ℕ} → Firsts h t q r i → i ≤ 0 → r ≡ first (opCount h) 1 (opCount h + 1) q
+  firsts-end {r} {i} f l = sym (f .whole ∙ first-end q r 1 (i + 1) (omega arith))
+
+-- ── by level ──
+
+-- what the table says of (t2, t3)
+pub told-pair : {h k s : List ℕ} {level t2 t3 : ℕ} → Told h k s level → HasTx h t3 → t2 ≤ txCount (historyOf h)
+    → pairsFor (historyOf h) level t2 t3 ≡ bitOf s t3 t2
+unfolding before
+told-pair {t2 = t2} {t3 = t3} p o l =
+    let few = p .ready .held .few in
+    sym (p .seen .is t3 t2 (omega (arith, o .to)) (omega arith))
+
+module _ (h : History) (t2 t3 : ℕ) where
+  -- a read pair is a basic one
+  no-read : basic h t2 t3 ≡ false → (i : ℕ) → i ≤ opCount h → some 1 i (readsFrom h t3 t2) ≡ false
+  unfolding basic isRead
+  no-read e i l =
+      some-none (readsFrom h t3 t2) i 1
+      (λ j a b. is-false _ (λ t. clash (or-right _ _ (some-of (readsFrom h t3 t2) (opCount h + 1) 1 j a (omega arith) t)) e))
+
+  -- the first read from t2, and none where it is the last operation of all: the reads behind it
+  behind-first : (r : ℕ) → r ≡ first (opCount h) 1 (opCount h + 1) (readsFrom h t3 t2) → (i : ℕ) → 1 ≤ i → i ≤ opCount h
+      → ltb r i ≡ some 1 i (readsFrom h t3 t2)
+  behind-first r e i a b =
+      ⊎-elim (λ z. le-ltb r i (omega (arith, z .0)) ∙ sym (some-none (readsFrom h t3 t2) i 1 (λ j c d. z .1 j c (omega arith))))
+      (λ f.
+      same-test _ _ (λ t. some-of (readsFrom h t3 t2) i 1 r (omega (arith, f .from)) (ltb-true r i t) (rw e (f .passes)))
+      (λ t.
+      let j = some-at (readsFrom h t3 t2) i 1 t in
+      ⊎-elim (λ l. absurd (clash (j .passes) (f .none (j .at) (j .from) (omega arith)))) (λ g. lt-ltb r i (omega (arith, j .to))) (split (j .at) r)))
+      (first-cases (opCount h) (readsFrom h t3 t2) (opCount h + 1) 1)
+
+  module _ (level : ℕ) where
+    sees-one : (i : ℕ) → level ≡ 1 → sees h level t2 t3 i ≡ some 1 i (readsFrom h t3 t2)
+    unfolding sees
+    sees-one i e = pick-on _ _ _ (eq-eqb level 1 e)
+
+    pairs-one : level ≡ 1 → pairsFor h level t2 t3 ≡ basic h t2 t3
+    unfolding pairsFor
+    pairs-one e = ap (λ (f : ℕ → ℕ → Bool). f t2 t3) (pick-off _ (leads h) (basic h) (ne-eqb level 3 (λ q. omega arith)))
+
+    sees-pairs : (i : ℕ) → (level ≡ 1 → ⊥) → 1 ≤ level → level ≤ 3 → sees h level t2 t3 i ≡ pairsFor h level t2 t3
+    unfolding sees pairsFor
+    sees-pairs i n a b =
+        pick-off _ _ _ (ne-eqb level 1 n)
+        ∙ ⊎-elim
+        (λ l.
+        pick-on _ _ _ (eq-eqb level 2 (omega (arith, n)))
+        ∙ sym (ap (λ (f : ℕ → ℕ → Bool). f t2 t3) (pick-off _ (leads h) (basic h) (ne-eqb level 3 (λ q. omega arith)))))
+        (λ g.
+        pick-off _ _ _ (ne-eqb level 2 (λ q. omega arith))
+        ∙ sym (ap (λ (f : ℕ → ℕ → Bool). f t2 t3) (pick-on _ (leads h) (basic h) (eq-eqb level 3 (omega arith)))))
+        (split level 3)
+
+    -- the level's pairs lack (t2, t3)
+    pub seen-none : {n : ℕ} → 1 ≤ level → level ≤ 3 → n ≡ opCount h → pairsFor h level t2 t3 ≡ false → SeenFrom h level t2 t3 n
+    seen-none {n} a b e k = record { is = λ i c d. le-ltb n i (omega arith) ∙ sym (at i d (known (eqb level 1))) }
+      where
+        at : (i : ℕ) → i ≤ opCount h → (eqb level 1 ≡ true) ⊎ (eqb level 1 ≡ false) → sees h level t2 t3 i ≡ false
+        at i d (inl t) = let q = eqb-true level 1 t in sees-one i q ∙ no-read (sym (pairs-one q) ∙ k) i d
+        at i d (inr t) = sees-pairs i (eqb-false level 1 t) a b ∙ k
+
+    -- they have it, at levels 2 and 3; at level 1
+    pub seen-all : (level ≡ 1 → ⊥) → 1 ≤ level → level ≤ 3 → pairsFor h level t2 t3 ≡ true → SeenFrom h level t2 t3 0
+    seen-all n a b k = record { is = λ i c d. lt-ltb 0 i c ∙ sym (sees-pairs i n a b ∙ k) }
+
+    pub seen-first : {r : ℕ} → level ≡ 1 → r ≡ first (opCount h) 1 (opCount h + 1) (readsFrom h t3 t2) → SeenFrom h level t2 t3 r
+    seen-first {r} q e = record { is = λ i a b. behind-first r e i a b ∙ sym (sees-one i q) }

@@ -1,0 +1,80 @@
+use mathlib.Core.Path.{refl, sym, _∙_}
+use native.Mathlib.Omega.{arith}
+use borrow.Author.Needs.{needs}
+use Rattle.table.specs.Table.{historyOf}
+use Rattle.bits.specs.Bits.{bitOf, either}
+use Rattle.pairs.proofs.Marking.{cell-on, mark-start, mark-end}
+use Rattle.pairs.proofs.Pairs.{byte-in, byte-source, byte-row}
+use Rattle.pairs.proofs.Walk.{chain-last, chain-prev, chain-has}
+use Rattle.rivals.specs.Rivals.{hitBit, hitBits}
+use Rattle.rivals.proofs.Rivals.{Marks, marks-start, marks-next, marks-less, marks-on, marks-external}
+use Rattle.rivals.proofs.mark_hits.Statement.{statement}
+use Rattle.rivals.proofs.mark_hits.Tie as tie
+
+abbrev Inv-loop : tie.InvT-loop
+Inv-loop h k v₀ t2 t3 from i₀ v i = Marks (historyOf h) t2 t3 from (either (bitOf v₀) (hitBits (historyOf h) t2 t3 from)) i v
+
+abbrev μ-loop : tie.MeasureT-loop
+μ-loop h k v₀ t2 t3 from i₀ v i = i
+
+next-hit-requires : tie.Need-next-hit-requires Inv-loop μ-loop
+next-hit-requires c κs =
+    let p = c .before .before .before .before .pre in
+    (p .0, chain-last (c .last-op .ensures), p .3)
+
+loop-holds : tie.Need-loop-holds Inv-loop μ-loop
+unfolding hitBits
+loop-holds c =
+    marks-start _ _ _ _ (c .before .last-op .ensures) (c .next-hit .ensures) (mark-start _ _ _ (c .before .before .before .before .before .pre .1))
+
+shared-slice-read-set-bit : tie.Need-shared-slice-read-set-bit Inv-loop μ-loop
+shared-slice-read-set-bit c =
+    let p = c .before .before .before .before .before .before .before .before .before .pre .0 in
+    byte-in p (chain-has (p .held) (marks-on (c .before .before .before .loop .inv)) (c .before .before .loop-test .taken))
+
+sub-set-bit : tie.Need-sub-set-bit Inv-loop μ-loop
+sub-set-bit c =
+    let p = c .before .before .before .before .before .before .before .before .before .pre .0 in
+    let m = c .before .before .before .loop .inv in
+    let l = c .before .before .loop-test .taken in
+    omega (arith, byte-source p (chain-has (p .held) (marks-on m) l) (marks-external m l))
+
+set-bit-requires : tie.Need-set-bit-requires Inv-loop μ-loop
+set-bit-requires c κs =
+    let p = c .before .before .before .before .before .before .before .before .before .pre in
+    let m = c .before .before .before .loop .inv in
+    let l = c .before .before .loop-test .taken in
+    (m .rest .room, byte-row (p .0) (chain-has (p .0 .held) (marks-on m) l) (marks-external m l), omega (arith, p .3, p .0 .held .few))
+
+prev-op-requires : tie.Need-prev-op-requires Inv-loop μ-loop
+prev-op-requires c κs =
+    let p = c .before .before .before .before .before .before .before .before .before .before .before .before .pre .0 .held in
+    let m = c .before .before .before .before .before .before .loop .inv in
+    chain-has p (marks-on m) (c .before .before .before .before .before .loop-test .taken)
+
+next-hit-requires-2 : tie.Need-next-hit-requires-2 Inv-loop μ-loop
+next-hit-requires-2 c κs =
+    let p = c .before .before .before .before .before .before .before .before .before .before .before .before .before .pre in
+    let m = c .before .before .before .before .before .before .before .loop .inv in
+    (p .0, chain-prev (marks-on m) (c .before .before .before .before .before .before .loop-test .taken) (c .prev-op .ensures), p .3)
+
+loop-again : tie.Need-loop-again Inv-loop μ-loop
+unfolding hitBit
+loop-again c =
+    let p = c .before .before .before .before .before .before .before .before .before .before .before .before .before .before .pre .0 in
+    let m = c .before .before .before .before .before .before .before .before .loop .inv in
+    let l = c .before .before .before .before .before .before .before .loop-test .taken in
+    let e = byte-source p (chain-has (p .held) (marks-on m) l) (marks-external m l) in
+    let b = c .before .before .before .before .set-bit .ensures in
+    marks-next _ _ _ _ m l (cell-on _ _ _ _ _ (m .hit l) (omega (arith, e)) refl b) (c .before .prev-op .ensures) (c .next-hit2 .ensures)
+
+returns : tie.Need-returns Inv-loop μ-loop
+returns c = mark-end _ (omega arith) (c .before .loop .inv .rest)
+
+pub mark-hits-spec : {M : Type 1} → statement M
+mark-hits-spec =
+    tie.close
+    (tie.spec Inv-loop μ-loop (λ c κs. search needs) next-hit-requires loop-holds shared-slice-read-set-bit
+    (λ c. omega (arith, c .shared-slice-known3 .given (c .before .before .before .loop .i))) sub-set-bit set-bit-requires prev-op-requires
+    next-hit-requires-2 (λ c. marks-less _ _ _ _ (c .next-hit2 .ensures) (c .before .prev-op .ensures .below)) loop-again
+    (λ c. c .before .loop .inv .rest .room ∙ sym (c .before .before .before .before .before .before .before .pre .1)) returns)

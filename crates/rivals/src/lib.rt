@@ -1,0 +1,176 @@
+// H below stands for historyOf (now (h .entry)). "Take a clean external read of x in t3 from t1, and a rival t2 that writes x and is neither t1 nor t3.
+// The level adds the pair t2 before t1 when" t3 sees t2 in the level's own way.
+ghost use mathlib.Core.Path.{_≡_};
+ghost use mathlib.Core.Bool.{true};
+ghost use Prim.Native.Nat.{_+_, _≤_, _<_};
+ghost use lib.ListN.{length, getD};
+ghost use lib.Dec.{eqb};
+ghost use Rattle.base.specs.Base.{pick, first, last};
+ghost use Rattle.rules.specs.History.{op, txCount, opCount};
+ghost use Rattle.rules.specs.Reads.{readsFrom};
+ghost use Rattle.rules.specs.Levels.{isRival};
+ghost use Rattle.table.specs.Table.{historyOf, Held, HasTx, HasOp};
+ghost use Rattle.bits.specs.Bits.{bitOf, Holds, either};
+ghost use Rattle.pairs.specs.Pairs.{Ready, OnChain, before};
+ghost use Rattle.rivals.specs.Rivals.{Told, SeenFrom, standsFor, writesFor, isHit, Tries, hitBits, rivalBits, rivalsOf, rivals};
+
+// ── which reads of t3 see t2 ──
+
+// i, where operation i is a clean external read from t2; else r.
+fn earlier(k: &[u8], t2: usize, i: usize, r: usize) -> usize
+    requires { ⌜ (i < length (now k)) × (t2 < 128) ⌝ }
+    ensures { λ q. ⌜ q ≡ pick (eqb (getD (now (k .entry)) i 0) (8 + t2)) i r ⌝ }
+{
+    if k[i] as usize == 8 + t2 {
+        return i;
+    }
+    r
+}
+
+// The number of t3's first clean external read from t2; the number of operations where it has none.
+fn first_from(h: &[u64], k: &[u8], t2: usize, t3: usize) -> usize
+    requires { ⌜ Ready (now h) (now k) × HasTx (now h) t3 × (t2 ≤ txCount (historyOf (now h))) ⌝ }
+    ensures { λ r. ⌜ r ≡ first (opCount (historyOf (now (h .entry)))) 1 (opCount (historyOf (now (h .entry))) + 1) (readsFrom (historyOf (now (h .entry))) t3 t2) ⌝ }
+{
+    let mut r = table::ops(h);
+    let mut i = table::last_op(h, t3);
+    while 0 < i {
+        r = earlier(k, t2, i, r);
+        i = table::prev_op(h, i);
+    }
+    r
+}
+
+// The reads of t3 above this number see t2. Level 1: "an earlier clean external read in t3, of any key, came from t2", so all reads behind the first of those.
+// Levels 2 and 3 ask nothing of the read: "(t2, t3) is a basic pair", "t2 leads to t3 through one or more basic pairs".
+fn seen_from(h: &[u64], k: &[u8], s: &[u64], level: u8, t2: usize, t3: usize) -> usize
+    requires { ⌜ Told (now h) (now k) (now s) level × HasTx (now h) t3 × (t2 ≤ txCount (historyOf (now h))) ⌝ }
+    ensures { λ r. ⌜ SeenFrom (historyOf (now (h .entry))) level t2 t3 r ⌝ }
+{
+    if !bits::bit(s, t3, t2) {
+        return table::ops(h);
+    }
+    if level != 1 {
+        return 0;
+    }
+    first_from(h, k, t2, t3)
+}
+
+// ── the search ──
+
+// Where the look through t2's operations starts that is to settle whether read i fits: at its last one, and nowhere, 0, where the read is not one that t2 can
+// be a rival for. Transaction 0 has no operation, and writes every key: the read itself stands for its write.
+fn writes_to_try(h: &[u64], k: &[u8], t2: usize, i: usize) -> usize
+    requires { ⌜ Ready (now h) (now k) × HasOp (now h) i × (t2 ≤ txCount (historyOf (now h))) ⌝ }
+    ensures { λ r. ⌜ Tries (historyOf (now (h .entry))) t2 i r ⌝ }
+{
+    let v = k[i] as usize;
+    if v < 8 {
+        return 0;
+    }
+    if v == 8 + t2 {
+        return 0;
+    }
+    if t2 == 0 {
+        return i;
+    }
+    table::last_op(h, t2)
+}
+
+// Whether operation w is a write by t2 of the key that operation i has.
+fn writes_same_key(h: &[u64], t2: usize, w: usize, i: usize) -> bool
+    requires { ⌜ HasOp (now h) w × HasOp (now h) i × (standsFor (historyOf (now h)) t2 w ≡ true) ⌝ }
+    ensures { λ r. ⌜ r ≡ writesFor (historyOf (now (h .entry))) t2 (op (historyOf (now (h .entry))) i .key) w ⌝ }
+{
+    if t2 == 0 {
+        return true;
+    }
+    if !table::is_write(h, w) {
+        return false;
+    }
+    table::key_of(h, w) == table::key_of(h, i)
+}
+
+// The last hit of t2 among the reads of t3 from number j down to above `from`; 0 where there is none. "A search for a rival stops at the first one that
+// settles the pair."
+fn next_hit(h: &[u64], k: &[u8], t2: usize, t3: usize, from: usize, j: usize) -> usize
+    requires { ⌜ Ready (now h) (now k) × OnChain (historyOf (now h)) t3 j × (t2 ≤ txCount (historyOf (now h))) ⌝ }
+    ensures { λ r. ⌜ r ≡ last (isHit (historyOf (now (h .entry))) t2 t3 from) (j + 1) ⌝ }
+{
+    let mut found = 0;
+    let mut i = j;
+    'reads: while from < i {
+        let mut w = writes_to_try(h, k, t2, i);
+        'writes: while 0 < w {
+            if writes_same_key(h, t2, w, i) {
+                found = i;
+                break 'reads;
+            }
+            w = table::prev_op(h, w);
+        }
+        i = table::prev_op(h, i);
+    }
+    found
+}
+
+// ── the table of rival pairs ──
+
+// t2 before the source of each hit among the reads of t3. After a hit the search goes on below it.
+fn mark_hits(h: &[u64], k: &[u8], v: &mut [u64], t2: usize, t3: usize, from: usize)
+    requires { ⌜ Ready (now h) (now k) × (length (now v) ≡ 256) × HasTx (now h) t3 × (t2 ≤ txCount (historyOf (now h))) ⌝ }
+    ensures { λ r. ⌜ Holds (now (v .exit)) (either (bitOf (now (v .entry))) (hitBits (historyOf (now (h .entry))) t2 t3 from)) ⌝ }
+{
+    let mut i = next_hit(h, k, t2, t3, from, table::last_op(h, t3));
+    while 0 < i {
+        bits::set_bit(v, k[i] as usize - 8, t2);
+        i = next_hit(h, k, t2, t3, from, table::prev_op(h, i));
+    }
+}
+
+// The pairs that the reads of t3 settle for t2: "Only committed transactions take part", and a rival is another than t3.
+fn mark_rival(h: &[u64], k: &[u8], s: &[u64], v: &mut [u64], level: u8, t2: usize, t3: usize)
+    requires { ⌜ Told (now h) (now k) (now s) level × (length (now v) ≡ 256) × HasTx (now h) t3 × (t2 ≤ txCount (historyOf (now h))) ⌝ }
+    ensures { λ r. ⌜ Holds (now (v .exit)) (either (bitOf (now (v .entry))) (rivalBits (historyOf (now (h .entry))) level t3 t2)) ⌝ }
+{
+    if t2 == t3 {
+        return;
+    }
+    if !reads::is_committed(h, t2) {
+        return;
+    }
+    mark_hits(h, k, v, t2, t3, seen_from(h, k, s, level, t2, t3));
+}
+
+// .. for any rival, 0 among them.
+fn mark_rivals_of(h: &[u64], k: &[u8], s: &[u64], v: &mut [u64], level: u8, t3: usize)
+    requires { ⌜ Told (now h) (now k) (now s) level × (length (now v) ≡ 256) × HasTx (now h) t3 ⌝ }
+    ensures { λ r. ⌜ Holds (now (v .exit)) (either (bitOf (now (v .entry))) (rivalsOf (historyOf (now (h .entry))) level t3)) ⌝ }
+{
+    let n = table::txs(h);
+    let mut t2 = 0;
+    while t2 <= n {
+        mark_rival(h, k, s, v, level, t2, t3);
+        t2 += 1;
+    }
+}
+
+fn mark_rivals(h: &[u64], k: &[u8], s: &[u64], v: &mut [u64], level: u8)
+    requires { ⌜ Told (now h) (now k) (now s) level × (length (now v) ≡ 256) ⌝ }
+    ensures { λ r. ⌜ Holds (now (v .exit)) (either (bitOf (now (v .entry))) (rivals (historyOf (now (h .entry))) level)) ⌝ }
+{
+    let n = table::txs(h);
+    let mut t3 = 1;
+    while t3 <= n {
+        mark_rivals_of(h, k, s, v, level, t3);
+        t3 += 1;
+    }
+}
+
+// Row t1 has the bits of the rivals that the level puts before t1.
+pub fn fill_rivals(h: &[u64], k: &[u8], s: &[u64], v: &mut [u64], level: u8)
+    requires { ⌜ Told (now h) (now k) (now s) level × (length (now v) ≡ 256) ⌝ }
+    ensures { λ r. ⌜ Holds (now (v .exit)) (before (isRival (historyOf (now (h .entry))) level)) ⌝ }
+{
+    bits::clear(v);
+    mark_rivals(h, k, s, v, level);
+}

@@ -5,26 +5,37 @@ use ferozhak_compare::cases::{self, Case};
 use ferozhak_compare::generate::{self, Origin};
 use ferozhak_compare::random::Random;
 use ferozhak_compare::report::{self, Level, Verdict};
-use ferozhak_compare::trace::Trace;
+use ferozhak_compare::trace::{Trace, MAX_BYTES};
 use ferozhak_compare::{brute, Answer};
-use std::io::{self, Write};
-use std::path::{Path, PathBuf};
-use std::process::{Command, ExitCode, Stdio};
+use std::io::{self, BufRead, BufReader, Write};
+use std::process::{Child, ChildStdin, ChildStdout, Command, ExitCode, Stdio};
 use std::sync::atomic::{AtomicBool, AtomicUsize, Ordering};
 use std::thread;
 
 const USAGE: &str = "Usage:
-  compare --judge PATH [options]   compares the program at PATH with the Rust judge
-  compare --self [options]         compares the Rust judge's two deciders only
+  compare --judge COMMAND [options]    compares the program with the Rust judge: a run for each trace
+  compare --stream COMMAND [options]   the same with the program `stream`: many traces a run
+  compare --self [options]             compares the Rust judge's two deciders only
+A COMMAND is a program and its arguments, parted by spaces.
 Options:
   --traces N    at least this many traces (default 100000)
   --seed S      the seed of the random traces (default 1)
   --threads K   how many threads, each running one program at a time (default 1)
 ";
 
+/// What the Rust judge is compared with.
+#[derive(Clone)]
+enum Program {
+    /// Only its own second decider.
+    None,
+    /// A program that judges its standard input.
+    Each(String),
+    /// A program that judges a stream of traces.
+    Stream(String),
+}
+
 struct Options {
-    /// None with `--self`.
-    judge: Option<PathBuf>,
+    program: Program,
     traces: usize,
     seed: u64,
     threads: usize,
@@ -53,7 +64,7 @@ fn main() -> ExitCode {
 
 fn parse_options(mut words: impl Iterator<Item = String>) -> Result<Options, String> {
     let mut options = Options {
-        judge: None,
+        program: Program::None,
         traces: 100_000,
         seed: 1,
         threads: 1,
@@ -67,15 +78,16 @@ fn parse_options(mut words: impl Iterator<Item = String>) -> Result<Options, Str
         let value = words.next().ok_or(format!("{word} needs a value"))?;
         let wrong = |_| format!("{word} {value} is not a number");
         match word.as_str() {
-            "--judge" => options.judge = Some(PathBuf::from(value)),
+            "--judge" => options.program = Program::Each(value),
+            "--stream" => options.program = Program::Stream(value),
             "--traces" => options.traces = value.parse().map_err(wrong)?,
             "--seed" => options.seed = value.parse().map_err(wrong)?,
             "--threads" => options.threads = value.parse::<usize>().map_err(wrong)?.max(1),
             _ => return Err(format!("unknown option {word}")),
         }
     }
-    if only_self == options.judge.is_some() {
-        return Err("give either --judge PATH or --self".into());
+    if only_self != matches!(options.program, Program::None) {
+        return Err("give one of --judge COMMAND, --stream COMMAND and --self".into());
     }
     Ok(options)
 }
@@ -88,6 +100,7 @@ fn run(options: &Options) -> (Summary, Option<Box<Difference>>) {
     let stop = AtomicBool::new(false);
     let work = || {
         let mut summary = Summary::default();
+        let mut judge = Judge::of(&options.program);
         while !stop.load(Ordering::Relaxed) {
             let index = next.fetch_add(1, Ordering::Relaxed);
             if index >= total {
@@ -99,7 +112,7 @@ fn run(options: &Options) -> (Summary, Option<Box<Difference>>) {
                 Some(case) => Subject::known(index, case),
                 None => Subject::random(index, options.seed),
             };
-            if let Err(difference) = subject.check(options.judge.as_deref(), &mut summary) {
+            if let Err(difference) = subject.check(&mut judge, &mut summary) {
                 stop.store(true, Ordering::Relaxed);
                 return (summary, Some(difference));
             }
@@ -151,7 +164,7 @@ impl Subject {
         }
     }
 
-    fn check(self, judge: Option<&Path>, summary: &mut Summary) -> Result<(), Box<Difference>> {
+    fn check(self, judge: &mut Judge, summary: &mut Summary) -> Result<(), Box<Difference>> {
         let parsed = Trace::parse(&self.bytes);
         let answer = parsed
             .as_ref()
@@ -185,12 +198,10 @@ impl Subject {
                 }
             }
         }
-        let Some(judge) = judge else {
-            return Ok(());
-        };
-        match run_judge(judge, &self.bytes) {
-            Ok(theirs) if theirs == ours.as_bytes() => Ok(()),
-            Ok(theirs) => {
+        match judge.judge(&self.bytes) {
+            Ok(None) => Ok(()),
+            Ok(Some(theirs)) if theirs == ours.as_bytes() => Ok(()),
+            Ok(Some(theirs)) => {
                 let theirs = String::from_utf8_lossy(&theirs).into_owned();
                 Err(self.differs("the program", theirs, "the Rust judge", ours))
             }
@@ -215,14 +226,102 @@ impl Subject {
     }
 }
 
-/// Runs the program with these bytes as its standard input, and answers its
-/// standard output. Its standard error is passed through.
-fn run_judge(program: &Path, input: &[u8]) -> Result<Vec<u8>, String> {
-    let mut child = Command::new(program)
+/// The program under comparison, as one worker holds it.
+enum Judge {
+    None,
+    Each(String),
+    Stream(Result<Stream, String>),
+}
+
+impl Judge {
+    fn of(program: &Program) -> Judge {
+        match program {
+            Program::None => Judge::None,
+            Program::Each(command) => Judge::Each(command.clone()),
+            Program::Stream(command) => Judge::Stream(Stream::start(command)),
+        }
+    }
+
+    /// What the program prints of the trace; None where there is no program.
+    fn judge(&mut self, trace: &[u8]) -> Result<Option<Vec<u8>>, String> {
+        match self {
+            Judge::None => Ok(None),
+            Judge::Each(command) => run_judge(command, trace).map(Some),
+            Judge::Stream(Ok(stream)) => stream.judge(trace).map(Some),
+            Judge::Stream(Err(message)) => Err(message.clone()),
+        }
+    }
+}
+
+/// The command with its input and output piped; its standard error is passed
+/// through.
+fn spawn(command: &str) -> Result<Child, String> {
+    let mut words = command.split_whitespace();
+    Command::new(words.next().unwrap_or_default())
+        .args(words)
         .stdin(Stdio::piped())
         .stdout(Stdio::piped())
         .spawn()
-        .map_err(|error| format!("{}: {error}", program.display()))?;
+        .map_err(|error| format!("{command}: {error}"))
+}
+
+/// A run of the program `stream`: each trace goes in behind its length, 2 bytes
+/// little-endian, and its answer comes out before a line `--`.
+struct Stream {
+    child: Child,
+    input: ChildStdin,
+    output: BufReader<ChildStdout>,
+}
+
+impl Stream {
+    fn start(command: &str) -> Result<Stream, String> {
+        let mut child = spawn(command)?;
+        let input = child.stdin.take().expect("standard input is piped");
+        let output = child.stdout.take().expect("standard output is piped");
+        let output = BufReader::new(output);
+        Ok(Stream {
+            child,
+            input,
+            output,
+        })
+    }
+
+    fn judge(&mut self, trace: &[u8]) -> Result<Vec<u8>, String> {
+        let failed = |error: io::Error| error.to_string();
+        // The program judge keeps no more than this of its input either.
+        let kept = &trace[..trace.len().min(MAX_BYTES + 1)];
+        let length = u16::try_from(kept.len()).expect("a kept trace is short");
+        self.input
+            .write_all(&length.to_le_bytes())
+            .map_err(failed)?;
+        self.input.write_all(kept).map_err(failed)?;
+        self.input.flush().map_err(failed)?;
+        let mut answer = Vec::new();
+        loop {
+            let from = answer.len();
+            if self.output.read_until(b'\n', &mut answer).map_err(failed)? == 0 {
+                return Err("ended before its answer did".into());
+            }
+            if &answer[from..] == b"--\n" {
+                answer.truncate(from);
+                return Ok(answer);
+            }
+        }
+    }
+}
+
+impl Drop for Stream {
+    fn drop(&mut self) {
+        // Nothing is asked of it any more.
+        let _ = self.child.kill();
+        let _ = self.child.wait();
+    }
+}
+
+/// Runs the program with these bytes as its standard input, and answers its
+/// standard output.
+fn run_judge(command: &str, input: &[u8]) -> Result<Vec<u8>, String> {
+    let mut child = spawn(command)?;
     let mut stdin = child.stdin.take().expect("standard input is piped");
     thread::scope(|scope| {
         // Written beside the reading, so that neither side can block the
@@ -335,9 +434,11 @@ impl Summary {
 
     fn describe(&self, options: &Options) -> String {
         let traces: usize = self.origins.iter().sum();
-        let judges = match &options.judge {
-            Some(path) => format!("by {} and in Rust", path.display()),
-            None => "in Rust only".into(),
+        let judges = match &options.program {
+            Program::Each(command) | Program::Stream(command) => {
+                format!("by '{command}' and in Rust")
+            }
+            Program::None => "in Rust only".into(),
         };
         let mut lines = vec![
             format!("{traces} traces of seed {}, judged {judges}", options.seed),

@@ -1,11 +1,22 @@
-//! The program `judge`, by the independent judge: standard input is a trace,
-//! standard output the answer.
+//! The programs `judge` and `stream`, by the independent judge: standard input
+//! is a trace, or with `--stream` traces behind their lengths (2 bytes
+//! little-endian); standard output is the answer, or each answer before a line
+//! `--`.
 
-use std::io::{self, Write};
+use std::io::{self, BufReader, BufWriter, Read, Write};
 use std::process::ExitCode;
 
 fn main() -> ExitCode {
-    match run() {
+    let words: Vec<String> = std::env::args().skip(1).collect();
+    let done = match words.as_slice() {
+        [] => run(),
+        [word] if word == "--stream" => stream(),
+        _ => {
+            eprintln!("usage: rustjudge [--stream]");
+            return ExitCode::from(2);
+        }
+    };
+    match done {
         Ok(()) => ExitCode::SUCCESS,
         Err(error) => {
             eprintln!("rustjudge: {error}");
@@ -17,4 +28,21 @@ fn main() -> ExitCode {
 fn run() -> io::Result<()> {
     let bytes = ferozhak_compare::read_bounded(io::stdin().lock())?;
     io::stdout().write_all(ferozhak_compare::judge_text(&bytes).as_bytes())
+}
+
+fn stream() -> io::Result<()> {
+    let mut input = BufReader::new(io::stdin().lock());
+    let mut output = BufWriter::new(io::stdout().lock());
+    let mut trace = Vec::new();
+    loop {
+        let mut length = [0; 2];
+        match input.read_exact(&mut length) {
+            Err(error) if error.kind() == io::ErrorKind::UnexpectedEof => return output.flush(),
+            other => other?,
+        }
+        trace.resize(usize::from(u16::from_le_bytes(length)), 0);
+        input.read_exact(&mut trace)?;
+        output.write_all(ferozhak_compare::judge_text(&trace).as_bytes())?;
+        output.write_all(b"--\n")?;
+    }
 }

@@ -5,7 +5,7 @@ use mathlib.Core.Bool.{Bool, true, false}
 use mathlib.Core.List.{List}
 use lib.ListN.{length}
 use borrow.Author.Tests.{eqb-true, eq-eqb}
-use Rattle.base.specs.Base.{_and_, _or_, some, last}
+use Rattle.base.specs.Base.{_and_, _or_, last}
 use Rattle.base.proofs.Tests.{ifso, both, and-left, and-right, and-on, and-no-left, or-left, or-on, or-assoc}
 use Rattle.base.proofs.Searches.{some-hit, some-miss, some-end}
 use Rattle.base.proofs.Chains.{top-hit, top-miss, top-chain}
@@ -40,9 +40,6 @@ pub record Marking (z : ℕ → ℕ → ℕ → Bool) (w : ℕ → ℕ → Bool)
   pub room : length t ≡ 256
   pub rest : (x y : ℕ) → x < 128 → y < 128 → bitOf t x y or across a e z x y ≡ w x y
 
-or-more : (a b c d : Bool) → d ≡ b or c → (a or b) or c ≡ a or d
-or-more a b c d e = or-assoc a b c ∙ ap (λ (r : Bool). a or r) (sym e)
-
 module _ (z : ℕ → ℕ → ℕ → Bool) where
   pub mark-start : {t : List ℕ} (a e : ℕ) → length t ≡ 256 → Marking z (either (bitOf t) (across a e z)) a e t
   unfolding either
@@ -54,37 +51,37 @@ module _ (z : ℕ → ℕ → ℕ → Bool) where
       record { room = m .room; is = λ x y hx hy. sym (or-off _ _ (some-end (λ i. z i x y) a e h)) ∙ m .rest x y hx hy }
 
   module _ {w : ℕ → ℕ → Bool} {t u : List ℕ} where
-    -- upward: the next is marked
-    pub mark-up : {e : ℕ} (a : ℕ) → a < e → Marking z w a e t → Holds u (either (bitOf t) (z a)) → Marking z w (a + 1) e u
-    unfolding across either
-    mark-up {e} a l m h =
+    -- one is marked, and the others stay to be
+    mark-one : {a e b f : ℕ} (i : ℕ) → ((x y : ℕ) → across a e z x y ≡ z i x y or across b f z x y) → Marking z w a e t
+        → Holds u (either (bitOf t) (z i)) → Marking z w b f u
+    unfolding either
+    mark-one {b = b} {f = f} i more m h =
         record {
           room = h .room;
           rest =
               λ x y hx hy.
-              ap (λ (r : Bool). r or some (a + 1) e (λ i. z i x y)) (h .is x y hx hy)
-              ∙ or-more _ _ _ _
-              (ifso (z a x y) (λ e. some-hit (λ i. z i x y) a _ l e ∙ sym (or-left _ _ e)) (λ e. some-miss (λ i. z i x y) a _ l e ∙ sym (or-on _ _ e)))
+              ap (λ (r : Bool). r or across b f z x y) (h .is x y hx hy) ∙ or-assoc _ _ _ ∙ ap (λ (r : Bool). bitOf t x y or r) (sym (more x y))
               ∙ m .rest x y hx hy;
         }
 
-    -- downward: the topmost is marked
+    -- upward, the first; downward, the topmost
+    pub mark-up : {e : ℕ} (a : ℕ) → a < e → Marking z w a e t → Holds u (either (bitOf t) (z a)) → Marking z w (a + 1) e u
+    unfolding across
+    mark-up {e} a l =
+        mark-one a
+        (λ x y.
+        ifso (z a x y) (λ t. some-hit (λ i. z i x y) a e l t ∙ sym (or-left _ _ t)) (λ t. some-miss (λ i. z i x y) a e l t ∙ sym (or-on _ _ t)))
+
     pub mark-down : {a : ℕ} (i : ℕ) → a ≤ i → Marking z w a (i + 1) t → Holds u (either (bitOf t) (z i)) → Marking z w a i u
-    unfolding across either
-    mark-down {a} i l m h =
-        record {
-          room = h .room;
-          rest =
-              λ x y hx hy.
-              ap (λ (r : Bool). r or some a i (λ i. z i x y)) (h .is x y hx hy)
-              ∙ or-more _ _ _ _
-              (ifso (z i x y) (λ e. top-hit (λ i. z i x y) a i l e ∙ sym (or-left _ _ e)) (λ e. top-miss (λ i. z i x y) a i e ∙ sym (or-on _ _ e)))
-              ∙ m .rest x y hx hy;
-        }
+    unfolding across
+    mark-down {a} i l =
+        mark-one i
+        (λ x y.
+        ifso (z i x y) (λ t. top-hit (λ i. z i x y) a i l t ∙ sym (or-left _ _ t)) (λ t. top-miss (λ i. z i x y) a i t ∙ sym (or-on _ _ t)))
 
   -- what z gives up to n it gives up to the last that passes p, where nothing else gives anything
-  pub mark-chain : {w : ℕ → ℕ → Bool} {a : ℕ} {t : List ℕ} (p : ℕ → Bool) (n : ℕ) → 1 ≤ a → ((i x y : ℕ) → z i x y ≡ true → p i ≡ true)
-      → Marking z w a n t → Marking z w a (last p n + 1) t
+  pub mark-chain : {w : ℕ → ℕ → Bool} {a : ℕ} {t : List ℕ} (p : ℕ → Bool) (n : ℕ) → 1 ≤ a
+      → ((i x y : ℕ) → z i x y ≡ true → p i ≡ true) → Marking z w a n t → Marking z w a (last p n + 1) t
   unfolding across
   mark-chain {a = a} {t = t} p n l sub m =
       record {

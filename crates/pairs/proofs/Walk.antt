@@ -4,34 +4,29 @@ use mathlib.Core.Path.{_≡_, sym, _∙_}
 use mathlib.Core.Bool.{Bool, true, false}
 use mathlib.Core.List.{List}
 use native.Mathlib.Omega.{arith}
-use mathlib.Core.Logic.{⊎-elim}
 use borrow.Author.Tests.{eqb-true}
 use Rattle.base.specs.Base.{some, last}
-use Rattle.base.proofs.Tests.{split}
 use Rattle.base.proofs.Searches.{some-end}
 use Rattle.base.proofs.Chains.{last-passes, top-hit, top-miss, top-chain}
 use Rattle.rules.specs.History.{History, opCount}
 use Rattle.table.specs.Table.{historyOf, ofTx, lastBelow, lastOf, prevOf, Held, HasOp, Below}
+use Rattle.table.proofs.Grown.{last-less}
 use Rattle.pairs.specs.Pairs.{OnChain}
 
 -- ── where it stands ──
 
-last-on : (h : History) (t n : ℕ) → n ≤ opCount h + 1 → OnChain h t (last (ofTx h t) n)
+last-on : (h : History) (t n : ℕ) → 1 ≤ n → n ≤ opCount h + 1 → OnChain h t (last (ofTx h t) n)
 unfolding ofTx
-last-on h t n l =
-    record {
-      to = ⊎-elim (λ z. omega (arith, last-passes (ofTx h t) n z .1)) (λ z. omega arith) (split 0 (last (ofTx h t) n));
-      of = λ z. eqb-true _ _ (last-passes (ofTx h t) n z .0);
-    }
+last-on h t n a b = record { to = omega (arith, last-less (ofTx h t) n a); of = λ z. eqb-true _ _ (last-passes (ofTx h t) n z .0) }
 
 module _ {h : History} {t r : ℕ} where
   pub chain-last : Below r (lastOf h t) (opCount h + 1) → OnChain h t r
   unfolding lastOf lastBelow
-  chain-last b = rw (b .is) (last-on h t (opCount h + 1) (omega arith))
+  chain-last b = rw (b .is) (last-on h t (opCount h + 1) (omega arith) (omega arith))
 
   pub chain-prev : {i : ℕ} → OnChain h t i → 0 < i → Below r (prevOf h i) i → OnChain h t r
   unfolding prevOf lastBelow
-  chain-prev {i} p l b = rw (b .is, p .of l) (last-on h t i (omega (arith, p .to)))
+  chain-prev {i} p l b = rw (b .is, p .of l) (last-on h t i l (omega (arith, p .to)))
 
 pub chain-has : {h : List ℕ} {t i : ℕ} → Held h → OnChain (historyOf h) t i → 0 < i → HasOp h i
 chain-has p o l = record { held = p; from = l; to = o .to }

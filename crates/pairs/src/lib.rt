@@ -1,4 +1,4 @@
-// H below stands for historyOf (now (h .entry)). "Basic pairs, always forced": start, session and read.
+// "Basic pairs, always forced": start, session and read. A table of pairs is kept by predecessor: row b has the bits of what stands before b.
 ghost use mathlib.Core.Path.{_≡_};
 ghost use Prim.Native.Nat.{_≤_, _<_};
 ghost use lib.ListN.{length};

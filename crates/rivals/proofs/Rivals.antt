@@ -7,7 +7,7 @@ use mathlib.Core.Logic.{_⊎_, ⊎-elim}
 use native.Mathlib.Omega.{arith}
 use borrow.Author.Tests.{eqb-true, eqb-false, eq-eqb, ne-eqb}
 use Rattle.base.specs.Base.{_and_, _or_, last}
-use Rattle.base.proofs.Tests.{split, clash, is-false, same-test, both, and-left, and-right, and-no-left, or-cases, or-on, not-true}
+use Rattle.base.proofs.Tests.{clash, is-false, same-test, both, and-left, and-right, and-no-left, or-cases, or-on, not-true}
 use Rattle.base.proofs.Searches.{Passing, some-at, some-of, some-same, some-none}
 use Rattle.base.proofs.Chains.{last-passes}
 use Rattle.theory.specs.Leads.{via}
@@ -15,6 +15,7 @@ use Rattle.rules.specs.History.{History, op, opCount, size, committed}
 use Rattle.rules.specs.Reads.{sourceOf, isExternal}
 use Rattle.rules.specs.Levels.{basic, writesKey, sees, settles, isRival, forced}
 use Rattle.table.specs.Table.{historyOf, ofTx, lastBelow, lastOf, prevOf, Held, Below}
+use Rattle.table.proofs.Grown.{last-less}
 use Rattle.reads.proofs.Fitting.{source-less}
 use Rattle.bits.specs.Bits.{bitOf, Holds, Under, nothing, either}
 use Rattle.bits.proofs.Tests.{or-off}
@@ -42,12 +43,12 @@ pub record Marks (h : History) (t2 t3 from : ℕ) (w : ℕ → ℕ → Bool) (i 
 
 module _ (h : History) (t2 t3 from : ℕ) {w : ℕ → ℕ → Bool} where
   -- only hits mark anything: so the next is the last one below n
-  marks-last : {v : List ℕ} (n : ℕ) → n ≤ opCount h + 1 → Marking (hitBit h t2 t3 from) w 1 n v
+  marks-last : {v : List ℕ} (n : ℕ) → 1 ≤ n → n ≤ opCount h + 1 → Marking (hitBit h t2 t3 from) w 1 n v
       → Marks h t2 t3 from w (last (isHit h t2 t3 from) n) v
   unfolding hitBit
-  marks-last n l m =
+  marks-last n a b m =
       record {
-        to = ⊎-elim (λ z. omega (arith, last-passes (isHit h t2 t3 from) n z .1)) (λ z. omega arith) (split 0 (last (isHit h t2 t3 from) n));
+        to = omega (arith, last-less (isHit h t2 t3 from) n a);
         hit = λ z. last-passes (isHit h t2 t3 from) n z .0;
         rest = mark-chain (hitBit h t2 t3 from) (isHit h t2 t3 from) n (omega arith) (λ i x y e. cell-is _ _ _ _ _ e .0) m;
       }
@@ -57,7 +58,7 @@ module _ (h : History) (t2 t3 from : ℕ) {w : ℕ → ℕ → Bool} where
   unfolding lastOf lastBelow
   marks-start {j = j} {i = i} b e m =
       let q : i ≡ last (isHit h t2 t3 from) (opCount h + 1) = e ∙ rw (b .is) (sym (last-hit-of h t2 t3 from (opCount h + 1))) in
-      rw q (marks-last (opCount h + 1) (omega arith) m)
+      rw q (marks-last (opCount h + 1) (omega arith) (omega arith) m)
 
   -- the bit of i is set, and the search goes on below it
   pub marks-next : {v u : List ℕ} {i j r : ℕ} → Marks h t2 t3 from w i v → 0 < i → Holds u (either (bitOf v) (hitBit h t2 t3 from i))
@@ -67,11 +68,10 @@ module _ (h : History) (t2 t3 from : ℕ) {w : ℕ → ℕ → Bool} where
       let t : op h i .tx ≡ t3 = hit-tx h t2 t3 from i (m .hit l) in
       let p : j ≡ last (ofTx h t3) i = b .is ∙ ap (λ (t : ℕ). last (ofTx h t) i) t in
       let q : r ≡ last (isHit h t2 t3 from) i = e ∙ rw p (sym (last-hit-of h t2 t3 from i)) in
-      rw q (marks-last i (omega (arith, m .to)) (mark-down (hitBit h t2 t3 from) i l (m .rest) k))
+      rw q (marks-last i l (omega (arith, m .to)) (mark-down (hitBit h t2 t3 from) i l (m .rest) k))
 
 pub marks-less : (h : History) (t2 t3 from : ℕ) {i j r : ℕ} → r ≡ last (isHit h t2 t3 from) (j + 1) → j < i → r < i
-marks-less h t2 t3 from {i} {j} {r} e l =
-    ⊎-elim (λ z. omega (arith, last-passes (isHit h t2 t3 from) (j + 1) (omega arith) .1)) (λ z. omega arith) (split 0 r)
+marks-less h t2 t3 from {i} {j} {r} e l = omega (arith, last-less (isHit h t2 t3 from) (j + 1) (omega arith))
 
 -- where it stands is a clean external read of t3's
 module _ {h : History} {t2 t3 from i : ℕ} {w : ℕ → ℕ → Bool} {v : List ℕ} (m : Marks h t2 t3 from w i v) where

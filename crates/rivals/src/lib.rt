@@ -1,5 +1,5 @@
-// H below stands for historyOf (now (h .entry)). "Take a clean external read of x in t3 from t1, and a rival t2 that writes x and is neither t1 nor t3.
-// The level adds the pair t2 before t1 when" t3 sees t2 in the level's own way.
+// "Take a clean external read of x in t3 from t1, and a rival t2 that writes x and is neither t1 nor t3. The level adds the pair t2 before t1 when" t3 sees
+// t2 in the level's own way. A table of pairs is kept by predecessor: row t1 has the bits of the rivals before t1.
 ghost use mathlib.Core.Path.{_≡_};
 ghost use mathlib.Core.Bool.{true};
 ghost use Prim.Native.Nat.{_+_, _≤_, _<_};
@@ -9,7 +9,7 @@ ghost use Rattle.base.specs.Base.{pick, first, last};
 ghost use Rattle.rules.specs.History.{op, txCount, opCount};
 ghost use Rattle.rules.specs.Reads.{readsFrom};
 ghost use Rattle.rules.specs.Levels.{isRival};
-ghost use Rattle.table.specs.Table.{historyOf, Held, HasTx, HasOp};
+ghost use Rattle.table.specs.Table.{historyOf, HasTx, HasOp};
 ghost use Rattle.bits.specs.Bits.{bitOf, Holds, either};
 ghost use Rattle.pairs.specs.Pairs.{Ready, OnChain, before};
 ghost use Rattle.rivals.specs.Rivals.{Told, SeenFrom, standsFor, writesFor, isHit, Tries, hitBits, rivalBits, rivalsOf, rivals};

@@ -6,7 +6,7 @@
 set -euo pipefail
 cd "$(dirname "$0")/.."
 repeats=${1:-400}
-work=$(mktemp -d)
+work=$(mktemp -d) && chmod 755 "$work"
 trap 'rm -rf "$work"' EXIT
 (cd compare && cargo build --release --quiet)
 rust="target/compare/release/rustjudge --stream"

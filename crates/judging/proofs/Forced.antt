@@ -1,7 +1,6 @@
 -- What a level forces, as the tables have it.
 use Prim.Native.Nat.{ℕ, _+_}
 use mathlib.Core.Path.{_≡_}
-use mathlib.Core.Bool.{Bool}
 use mathlib.Core.List.{List}
 use lib.Dec.{eqb}
 use borrow.Author.Tests.{eqb-true, eqb-false}
@@ -9,7 +8,7 @@ use Rattle.base.proofs.Tests.{ifso, pick-on, pick-off}
 use Rattle.theory.specs.Leads.{via}
 use Rattle.rules.specs.History.{txCount, size}
 use Rattle.rules.specs.Levels.{basic, leads, isRival, forced}
-use Rattle.table.specs.Table.{historyOf, Held}
+use Rattle.table.specs.Table.{historyOf}
 use Rattle.bits.specs.Bits.{bitOf, Holds, Under, either}
 use Rattle.pairs.specs.Pairs.{before}
 use Rattle.pairs.proofs.Pairs.{basic-closes, basic-leads}

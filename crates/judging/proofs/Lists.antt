@@ -15,40 +15,41 @@ use Rattle.table.specs.Table.{historyOf}
 use Rattle.lists.specs.Lists.{pairCount, pairsIn, Judging}
 use Rattle.lists.proofs.Findings.{findings-four}
 use Rattle.lists.proofs.Levels.{pairs-four, told-pairs, told-count}
+use Rattle.judging.specs.declared.Counts.{Counts}
 use Rattle.judging.specs.Judging.{Counted, Accepts, Rejects, Decides}
 use Rattle.judging.proofs.Cases.{appended-over, rejection-short, rejection-short-pairs, rejection-fits, read-accepted, read-found, read-listed}
 
 -- x: the number of transactions
-pub counted : {h f c : List ℕ} {x fs ps : ℕ} → x ≡ txCount (historyOf h) → (fs ≡ length (findings (historyOf h))) × (fs ≤ 1024)
-    → (ps ≡ pairCount f c (x + 1)) × (ps ≤ 16384) → Counted h f c fs ps
+pub counted : {h f c : List ℕ} {n : Counts} {x : ℕ} → x ≡ txCount (historyOf h) → (n .findings ≡ length (findings (historyOf h))) × (n .findings ≤ 1024)
+    → (n .pairs ≡ pairCount f c (x + 1)) × (n .pairs ≤ 16384) → Counted h f c n
 counted {f = f} {c = c} e a b =
-    record { found = a .0; found-few = a .1; listed = b .0 ∙ ap (λ (n : ℕ). pairCount f c (n + 1)) e; listed-few = b .1 }
+    record { found = a .0; found-few = a .1; listed = b .0 ∙ ap (λ (y : ℕ). pairCount f c (y + 1)) e; listed-few = b .1 }
 
-module _ {h k f c v : List ℕ} {fs ps : ℕ} (n : Counted h f c fs ps) (level : ℕ) (j : Judging h k f c v level) where
+module _ {h k f c v : List ℕ} {n : Counts} (m : Counted h f c n) (level : ℕ) (j : Judging h k f c v level) where
   abbrev H : History
   H = historyOf h
 
   -- both counts, and the lists' lengths
-  pairs-count : ps ≡ length (pairs H level)
-  pairs-count = n .listed ∙ told-count j
+  pairs-count : n .pairs ≡ length (pairs H level)
+  pairs-count = m .listed ∙ told-count j
 
-  findings-bytes : 4 * fs ≡ length (findingList H)
-  findings-bytes = omega (arith, n .found, findings-four H)
+  findings-bytes : 4 * n .findings ≡ length (findingList H)
+  findings-bytes = omega (arith, m .found, findings-four H)
 
-  pairs-bytes : 4 * ps ≡ length (pairList H level)
+  pairs-bytes : 4 * n .pairs ≡ length (pairList H level)
   pairs-bytes = omega (arith, pairs-count, pairs-four H level)
 
   -- ── rejection, with buffers fo and po ──
 
   module _ (fo po : List ℕ) where
-    pub reject-findings : length fo < 4 * fs → Rejects H level fo po fo po (Refused 12 (4 * fs))
+    pub reject-findings : length fo < 4 * n .findings → Rejects H level fo po fo po (Refused 12 (4 * n .findings))
     unfolding reported
     reject-findings l = record { is = λ o. rw findings-bytes (sym (rejection-short H level fo po o (omega (arith, findings-bytes)))) }
 
-    module _ (l : 4 * fs ≤ length fo) where
-      pub reject-pairs : length po < 4 * ps → Rejects H level fo po fo po (Refused 13 (4 * ps))
+    module _ (l : 4 * n .findings ≤ length fo) where
+      pub reject-pairs : length po < 4 * n .pairs → Rejects H level fo po fo po (Refused 13 (4 * n .pairs))
       unfolding reported
-      reject-pairs m =
+      reject-pairs l2 =
           record {
             is =
                 λ o.
@@ -56,32 +57,32 @@ module _ {h k f c v : List ℕ} {fs ps : ℕ} (n : Counted h f c fs ps) (level :
                 (sym (rejection-short-pairs H level fo po o (omega (arith, findings-bytes)) (omega (arith, pairs-bytes))));
           }
 
-      pub reject-fits : 4 * ps ≤ length po → {fo2 po2 : List ℕ} {a b : ℕ} → Appended fo 0 fo2 a (findingList H) → Appended po 0 po2 b (pairsIn H f c v)
-          → Rejects H level fo po fo2 po2 (Rejected fs ps)
+      pub reject-fits : 4 * n .pairs ≤ length po → {fo2 po2 : List ℕ} {a b : ℕ} → Appended fo 0 fo2 a (findingList H) → Appended po 0 po2 b (pairsIn H f c v)
+          → Rejects H level fo po fo2 po2 (Rejected (n .findings) (n .pairs))
       unfolding reported
-      reject-fits m x y =
+      reject-fits l2 x y =
           record {
             is =
                 λ o.
-                rw (n .found, pairs-count, appended-over x, appended-over (rw (told-pairs j) at y))
+                rw (m .found, pairs-count, appended-over x, appended-over (rw (told-pairs j) at y))
                 (sym (rejection-fits H level fo po o (omega (arith, findings-bytes)) (omega (arith, pairs-bytes))));
           }
 
   -- ── "Accepted: no finding and no listed pair" ──
 
   module _ {fo po oo : List ℕ} {r : Answer} where
-    pub decide-accepts : fs + ps ≡ 0 → {oo2 : List ℕ} → Accepts H level oo oo2 r → Decides H level fo po oo fo po oo2 r
+    pub decide-accepts : n .findings + n .pairs ≡ 0 → {oo2 : List ℕ} → Accepts H level oo oo2 r → Decides H level fo po oo fo po oo2 r
     decide-accepts e a =
         record {
-          is = λ notes. a .is fo po ∙ sym (read-accepted H level fo po oo notes (omega (arith, n .found)) (omega (arith, pairs-count)));
+          is = λ notes. a .is fo po ∙ sym (read-accepted H level fo po oo notes (omega (arith, m .found)) (omega (arith, pairs-count)));
         }
 
-    pub decide-rejects : (fs + ps ≡ 0 → ⊥) → {fo2 po2 : List ℕ} → Rejects H level fo po fo2 po2 r → Decides H level fo po oo fo2 po2 oo r
+    pub decide-rejects : (n .findings + n .pairs ≡ 0 → ⊥) → {fo2 po2 : List ℕ} → Rejects H level fo po fo2 po2 r → Decides H level fo po oo fo2 po2 oo r
     decide-rejects e a =
         record {
           is =
               λ notes.
               a .is oo
-              ∙ ⊎-elim (λ l. sym (read-found H level fo po oo notes (omega (arith, n .found))))
-              (λ l. sym (read-listed H level fo po oo notes (omega (arith, e, pairs-count)))) (split 0 fs);
+              ∙ ⊎-elim (λ l. sym (read-found H level fo po oo notes (omega (arith, m .found))))
+              (λ l. sym (read-listed H level fo po oo notes (omega (arith, e, pairs-count)))) (split 0 (n .findings));
         }

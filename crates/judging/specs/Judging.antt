@@ -12,6 +12,7 @@ use Rattle.table.specs.Table.{historyOf}
 use Rattle.bits.specs.Bits.{bitOf, Holds}
 use Rattle.pairs.specs.Pairs.{Ready}
 use Rattle.lists.specs.Lists.{pairCount}
+use Rattle.judging.specs.declared.Counts.{Counts}
 
 -- ── what is worked out ──
 
@@ -26,12 +27,12 @@ pub record AtLevel (h k : List ℕ) (level : ℕ) : Type 0 where
   pub from : 1 ≤ level
   pub to : level ≤ 3
 
--- how many findings and how many listed pairs there are, in tables of forced pairs, f, and of what leads to what through them, c
-pub record Counted (h f c : List ℕ) (fs ps : ℕ) : Type 0 where
-  pub found : fs ≡ length (findings (historyOf h))
-  pub found-few : fs ≤ 1024
-  pub listed : ps ≡ pairCount f c (size (historyOf h))
-  pub listed-few : ps ≤ 16384
+-- how many findings and listed pairs there are, where f has the forced pairs, and c what leads to what through them
+pub record Counted (h f c : List ℕ) (n : Counts) : Type 0 where
+  pub found : n .findings ≡ length (findings (historyOf h))
+  pub found-few : n .findings ≤ 1024
+  pub listed : n .pairs ≡ pairCount f c (size (historyOf h))
+  pub listed-few : n .pairs ≤ 16384
 
 -- ── what is answered ──
 

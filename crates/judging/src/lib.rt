@@ -10,8 +10,8 @@ ghost use Rattle.rules.specs.Outcome.{reported, outcome, judged};
 ghost use Rattle.table.specs.Table.{historyOf, Held};
 ghost use Rattle.bits.specs.Bits.{bitOf, Holds, Under};
 ghost use Rattle.order.specs.Sets.{Gathered};
-ghost use Rattle.pairs.specs.Pairs.{before};
-ghost use Rattle.lists.specs.Lists.{Listing, Judging};
+ghost use Rattle.pairs.specs.Pairs.{Ready, before};
+ghost use Rattle.lists.specs.Lists.{Tables, Listing, Judging};
 ghost use Rattle.judging.specs.Judging.{Known, AtLevel, Counted, Accepts, Rejects, Decides};
 use order::Words;
 use rules::Answer;
@@ -78,30 +78,47 @@ fn accept(h: &[u64], f: &[u64; 256], out: &mut [u8]) -> Answer
 
 // ── rejection ──
 
+// How many findings there are, and how many listed pairs.
+struct Counts {
+    findings: usize,
+    pairs: usize,
+}
+
+fn count(h: &[u64], k: &[u8], f: &[u64; 256], c: &[u64; 256]) -> Counts
+    requires { ⌜ Ready (now h) (now k) × Tables (now f) (now c) (size (historyOf (now h))) ⌝ }
+    ensures { λ r. ⌜ Counted (now (h .entry)) (now (f .entry)) (now (c .entry)) r ⌝ }
+{
+    let findings = lists::count_findings(h, k);
+    let pairs = lists::count_pairs(f, c, table::txs(h) + 1);
+    Counts {
+        findings: findings,
+        pairs: pairs,
+    }
+}
+
 // Both counts come before the first byte is written: "on rejection only, 12 and 13".
 fn reject(
     h: &[u64],
     k: &[u8],
-    f: &[u64],
-    c: &[u64],
-    v: &[u64],
-    fs: usize,
-    ps: usize,
+    f: &[u64; 256],
+    c: &[u64; 256],
+    v: &[u64; 256],
+    n: Counts,
     findings: &mut [u8],
     pairs: &mut [u8],
 ) -> Answer
-    requires { ⌜ Listing (now h) (now k) (now f) (now c) (now v) × Counted (now h) (now f) (now c) fs ps ⌝ }
+    requires { ⌜ Listing (now h) (now k) (now f) (now c) (now v) × Counted (now h) (now f) (now c) n ⌝ }
     ensures { λ r. ⌜ ((level : ℕ) → Judging (now (h .entry)) (now (k .entry)) (now (f .entry)) (now (c .entry)) (now (v .entry)) level → Rejects (historyOf (now (h .entry))) level (now (findings .entry)) (now (pairs .entry)) (now (findings .exit)) (now (pairs .exit)) r) ⌝ }
 {
-    if findings.len() < 4 * fs {
-        return Answer::Refused(12, 4 * fs);
+    if findings.len() < 4 * n.findings {
+        return Answer::Refused(12, 4 * n.findings);
     }
-    if pairs.len() < 4 * ps {
-        return Answer::Refused(13, 4 * ps);
+    if pairs.len() < 4 * n.pairs {
+        return Answer::Refused(13, 4 * n.pairs);
     }
     lists::put_findings(h, k, findings);
     lists::put_pairs(h, k, f, c, v, pairs);
-    Answer::Rejected(fs, ps)
+    Answer::Rejected(n.findings, n.pairs)
 }
 
 // ── deciding ──
@@ -111,8 +128,8 @@ fn decide(
     h: &[u64],
     k: &[u8],
     f: &[u64; 256],
-    c: &[u64],
-    v: &[u64],
+    c: &[u64; 256],
+    v: &[u64; 256],
     findings: &mut [u8],
     pairs: &mut [u8],
     order: &mut [u8],
@@ -120,30 +137,29 @@ fn decide(
     requires { ⌜ Listing (now h) (now k) (now f) (now c) (now v) × Under (size (historyOf (now h))) (now f) ⌝ }
     ensures { λ r. ⌜ ((level : ℕ) → Judging (now (h .entry)) (now (k .entry)) (now (f .entry)) (now (c .entry)) (now (v .entry)) level → Decides (historyOf (now (h .entry))) level (now (findings .entry)) (now (pairs .entry)) (now (order .entry)) (now (findings .exit)) (now (pairs .exit)) (now (order .exit)) r) ⌝ }
 {
-    let fs = lists::count_findings(h, k);
-    let ps = lists::count_pairs(f, c, table::txs(h) + 1);
-    if fs + ps == 0 {
+    let n = count(h, k, f, c);
+    if n.findings + n.pairs == 0 {
         return accept(h, f, order);
     }
-    reject(h, k, f, c, v, fs, ps, findings, pairs)
+    reject(h, k, f, c, v, n, findings, pairs)
 }
 
 // ── what a level forces ──
 // Row b of a table has the bits of what stands before b. w: scratch
 
 // What leads to what through the pairs of f goes into s.
-fn lead(f: &[u64], s: &mut [u64], w: &mut [u64], n: usize)
-    requires { ⌜ Under n (now f) × (length (now s) ≡ 256) × (length (now w) ≡ 256) ⌝ }
+fn lead(f: &[u64; 256], s: &mut [u64; 256], w: &mut [u64; 256], n: usize)
+    requires { ⌜ Under n (now f) ⌝ }
     ensures { λ r. ⌜ Holds (now (s .exit)) (via (bitOf (now (f .entry))) n) × (now (w .exit) ≡ now (s .exit)) ⌝ }
 {
     bits::copy(f, s);
     bits::close(s, w, n);
 }
 
-// What the level asks of a rival goes into s, of basic pairs f. Levels 1 and 2: "(t2, t3) is a basic pair", which a read from t2 makes it too. Level 3: "t2
-// leads to t3 through one or more basic pairs".
-fn know(level: u8, f: &[u64], s: &mut [u64], w: &mut [u64], n: usize)
-    requires { ⌜ Under n (now f) × (length (now s) ≡ 256) × (length (now w) ≡ 256) ⌝ }
+// What the search for rivals goes by goes into s, of basic pairs f. Levels 1 and 2 ask for one of them: "an earlier clean external read in t3, of any key, came
+// from t2", or "(t2, t3) is a basic pair". Level 3: "t2 leads to t3 through one or more basic pairs".
+fn know(level: u8, f: &[u64; 256], s: &mut [u64; 256], w: &mut [u64; 256], n: usize)
+    requires { ⌜ Under n (now f) ⌝ }
     ensures { λ r. ⌜ Known level n (now (f .entry)) (now (s .exit)) ⌝ }
 {
     if level == 3 {
@@ -154,8 +170,16 @@ fn know(level: u8, f: &[u64], s: &mut [u64], w: &mut [u64], n: usize)
 }
 
 // The pairs of rivals go into v, of basic pairs f.
-fn oppose(h: &[u64], k: &[u8], level: u8, f: &[u64], s: &mut [u64], v: &mut [u64], w: &mut [u64])
-    requires { ⌜ AtLevel (now h) (now k) level × Holds (now f) (before (basic (historyOf (now h)))) × (length (now s) ≡ 256) × (length (now v) ≡ 256) × (length (now w) ≡ 256) ⌝ }
+fn oppose(
+    h: &[u64],
+    k: &[u8],
+    level: u8,
+    f: &[u64; 256],
+    s: &mut [u64; 256],
+    v: &mut [u64; 256],
+    w: &mut [u64; 256],
+)
+    requires { ⌜ AtLevel (now h) (now k) level × Holds (now f) (before (basic (historyOf (now h)))) ⌝ }
     ensures { λ r. ⌜ Holds (now (v .exit)) (before (isRival (historyOf (now (h .entry))) level)) ⌝ }
 {
     know(level, f, s, w, table::txs(h) + 1);
@@ -163,8 +187,16 @@ fn oppose(h: &[u64], k: &[u8], level: u8, f: &[u64], s: &mut [u64], v: &mut [u64
 }
 
 // f: forced pairs; v: rivals; s: what leads to what through forced pairs
-fn force(h: &[u64], k: &[u8], level: u8, f: &mut [u64], s: &mut [u64], v: &mut [u64], w: &mut [u64])
-    requires { ⌜ AtLevel (now h) (now k) level × (length (now f) ≡ 256) × (length (now s) ≡ 256) × (length (now v) ≡ 256) × (length (now w) ≡ 256) ⌝ }
+fn force(
+    h: &[u64],
+    k: &[u8],
+    level: u8,
+    f: &mut [u64; 256],
+    s: &mut [u64; 256],
+    v: &mut [u64; 256],
+    w: &mut [u64; 256],
+)
+    requires { ⌜ AtLevel (now h) (now k) level ⌝ }
     ensures { λ r. ⌜ Judging (now (h .entry)) (now (k .entry)) (now (f .exit)) (now (s .exit)) (now (v .exit)) level × (now (w .exit) ≡ now (s .exit)) ⌝ }
 {
     let n = table::txs(h) + 1;

@@ -15,7 +15,7 @@ use Rattle.rules.specs.History.{History, txCount, opCount}
 use Rattle.rules.specs.Reads.{readsFrom}
 use Rattle.rules.specs.Levels.{isRead, basic, leads, sees}
 use Rattle.table.specs.Table.{historyOf, HasTx, ofTx, lastBelow, lastOf, prevOf, Below}
-use Rattle.bits.specs.Bits.{bitOf}
+use Rattle.bits.specs.Bits.{bitOf, Holds}
 use Rattle.pairs.specs.Pairs.{OnChain, before}
 use Rattle.pairs.proofs.Walk.{chain-last, chain-prev}
 use Rattle.rivals.specs.Rivals.{pairsFor, Told, SeenFrom}
@@ -80,6 +80,16 @@ module _ (h : History) (t : ℕ) (q : ℕ → Bool) (sub : (i : ℕ) → q i ≡
   firsts-end {r} {i} f l = sym (f .whole ∙ first-end q r 1 (i + 1) (omega arith))
 
 -- ── by level ──
+
+-- for callers: the table that the search goes by, at levels 1 and 2, and at level 3
+module _ {s : List ℕ} (h : History) (level : ℕ) where
+  pub goes-by-basic : (level ≡ 3 → ⊥) → Holds s (before (basic h)) → Holds s (before (pairsFor h level))
+  unfolding pairsFor
+  goes-by-basic n b = rw (pick-off (eqb level 3) (leads h) (basic h) (ne-eqb level 3 n)) b
+
+  pub goes-by-leads : level ≡ 3 → Holds s (before (leads h)) → Holds s (before (pairsFor h level))
+  unfolding pairsFor
+  goes-by-leads e b = rw (pick-on (eqb level 3) (leads h) (basic h) (eq-eqb level 3 e)) b
 
 -- what the table says of (t2, t3)
 pub told-pair : {h k s : List ℕ} {level t2 t3 : ℕ} → Told h k s level → HasTx h t3 → t2 ≤ txCount (historyOf h)

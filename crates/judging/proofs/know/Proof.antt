@@ -4,17 +4,15 @@ use Rattle.judging.proofs.know.Tie as tie
 
 returns : tie.Need-returns
 returns c =
-    let l = c .before .before .before .before in
-    let i = l .before .before .before in
-    record { closed = λ _. l .lead .ensures .0; same = λ n. absurd (n (i .if1 .taken)) }
+    let i = c .before .before .before in
+    record { closed = λ _. c .lead .ensures .0; same = λ n. absurd (n (i .if1 .taken)) }
 
 returns-2 : tie.Need-returns-2
 returns-2 c =
-    let co = c .before .before in
-    let i = co .before .before in
-    record { closed = λ e. absurd (i .if1 .left e); same = λ _. co .copy .ensures }
+    let i = c .before .before .before in
+    record { closed = λ e. absurd (i .if1 .left e); same = λ _. c .copy .ensures }
 
 pub know-spec : {M : Type 1} → statement M
 know-spec =
     tie.close
-    (tie.spec (λ c κs. search needs) (λ c κs. search needs) (λ c. search needs) (λ c. search needs) returns (λ c. search needs) returns-2)
+    (tie.spec (λ c κs. search needs) (λ c κs. search needs) returns returns-2)

@@ -5,7 +5,7 @@ use mathlib.Core.Bool.{Bool, true, false}
 use mathlib.Core.List.{List}
 use lib.Dec.{eqb, ltb}
 use lib.ListN.{length, getD}
-use Rattle.base.specs.Base.{_and_, _or_, some}
+use Rattle.base.specs.Base.{_and_, _or_}
 
 -- bit k of the word w
 unfoldable pub testBit : ℕ → ℕ → Bool
@@ -47,16 +47,25 @@ cells n p x y = ltb y n and p x y
 unfoldable pub square : ℕ → (ℕ → ℕ → Bool) → ℕ → ℕ → Bool
 square n p x y = ltb x n and cells n p x y
 
--- x leads to y by way of b; by way of some number below n
-unfoldable pub through : (ℕ → ℕ → Bool) → ℕ → ℕ → ℕ → Bool
-through E x b y = E x b and E b y
+-- W leads from x to b, and E from b to y
+unfoldable pub through : (ℕ → ℕ → Bool) → (ℕ → ℕ → Bool) → ℕ → ℕ → ℕ → Bool
+through W E x b y = W x b and E b y
 
-unfoldable pub by : (ℕ → ℕ → Bool) → ℕ → ℕ → ℕ → Bool
-by E n x y = some 0 n (λ b. through E x b y)
+-- t's pairs are all in T
+pub record Within (t : List ℕ) (T : ℕ → ℕ → Bool) : Type 0 where
+  pub all : (x y : ℕ) → x < 128 → y < 128 → bitOf t x y ≡ true → T x y ≡ true
 
--- a round made u of t: each of the first n rows got the rows that it leads to
-pub record Round (t : List ℕ) (n : ℕ) (u : List ℕ) : Type 0 where
-  pub holds : Holds u (plusRows (bitOf t) n (by (bitOf t) n))
+-- T has what it leads to by way of a number below n
+pub record Closed (n : ℕ) (T : ℕ → ℕ → Bool) : Type 0 where
+  pub on : (x b y : ℕ) → b < n → T x b ≡ true → T b y ≡ true → T x y ≡ true
+
+-- u was made of w in a round that has come to row a: it has w's pairs, in the rows before a also what w leads to by way of a number below n,
+-- and nothing that a closed relation with w's pairs has not
+pub record Grown (w : List ℕ) (n a : ℕ) (u : List ℕ) : Type 0 where
+  pub room : length u ≡ 256
+  pub keeps : Within w (bitOf u)
+  pub joins : (x b y : ℕ) → x < a → x < 128 → b < n → y < 128 → bitOf w x b ≡ true → bitOf w b y ≡ true → bitOf u x y ≡ true
+  pub sound : (T : ℕ → ℕ → Bool) → Closed n T → Within w T → Within u T
 
 -- a table whose pairs are all of numbers below n
 pub record Under (n : ℕ) (t : List ℕ) : Type 0 where

@@ -2,10 +2,10 @@
 ghost use mathlib.Core.Path.{_≡_};
 ghost use mathlib.Core.Bool.{true};
 ghost use mathlib.Core.Logic.{_↔_};
-ghost use Prim.Native.Nat.{_≤_, _<_};
+ghost use Prim.Native.Nat.{_+_, _≤_, _<_};
 ghost use lib.ListN.{length};
 ghost use Rattle.theory.specs.Leads.{via};
-ghost use Rattle.bits.specs.Bits.{bitOf, Holds, Under, Round, nothing, either, plusBit, plusRow, plusRows, through, by};
+ghost use Rattle.bits.specs.Bits.{bitOf, Holds, Under, Grown, nothing, either, plusBit, plusRow, through};
 
 // Whether row a has bit b.
 pub fn bit(t: &[u64], a: usize, b: usize) -> bool
@@ -75,33 +75,33 @@ pub fn same(t: &[u64], w: &[u64]) -> bool
     true
 }
 
-// Row a of t gets row b of w too. Both words are read before the first is stored.
-fn or_from(t: &mut [u64], a: usize, w: &[u64], b: usize)
-    requires { ⌜ (length (now t) ≡ 256) × (length (now w) ≡ 256) × (a < 128) × (b < 128) ⌝ }
-    ensures { λ r. ⌜ Holds (now (t .exit)) (plusRow (bitOf (now (t .entry))) a (bitOf (now (w .entry)) b)) ⌝ }
+// Row a gets row b too. Both words are read before the first is stored.
+fn or_row(t: &mut [u64], a: usize, b: usize)
+    requires { ⌜ (length (now t) ≡ 256) × (a < 128) × (b < 128) ⌝ }
+    ensures { λ r. ⌜ Holds (now (t .exit)) (plusRow (bitOf (now (t .entry))) a (bitOf (now (t .entry)) b)) ⌝ }
 {
     let i = 2 * a;
     let j = 2 * b;
-    let p = t[i] | w[j];
-    let q = t[i + 1] | w[j + 1];
+    let p = t[i] | t[j];
+    let q = t[i + 1] | t[j + 1];
     t[i] = p;
     t[i + 1] = q;
 }
 
-// Row a of t gets row b of w too, where w leads from a to b.
+// Row a of t gets row b of t too, where w leads from a to b.
 fn lead_by(t: &mut [u64], w: &[u64], a: usize, b: usize)
     requires { ⌜ (length (now t) ≡ 256) × (length (now w) ≡ 256) × (a < 128) × (b < 128) ⌝ }
-    ensures { λ r. ⌜ Holds (now (t .exit)) (plusRow (bitOf (now (t .entry))) a (through (bitOf (now (w .entry))) a b)) ⌝ }
+    ensures { λ r. ⌜ Holds (now (t .exit)) (plusRow (bitOf (now (t .entry))) a (through (bitOf (now (w .entry))) (bitOf (now (t .entry))) a b)) ⌝ }
 {
     if bit(w, a, b) {
-        or_from(t, a, w, b);
+        or_row(t, a, b);
     }
 }
 
-// Row a of t gets all that w leads to from a in two steps.
+// Row a of t gets the rows of t that w leads to from a, as far as they have grown.
 fn lead_row(t: &mut [u64], w: &[u64], n: usize, a: usize)
-    requires { ⌜ (length (now t) ≡ 256) × (length (now w) ≡ 256) × (n ≤ 128) × (a < 128) ⌝ }
-    ensures { λ r. ⌜ Holds (now (t .exit)) (plusRow (bitOf (now (t .entry))) a (by (bitOf (now (w .entry))) n a)) ⌝ }
+    requires { ⌜ Grown (now w) n a (now t) × (length (now w) ≡ 256) × (n ≤ 128) × (a < 128) ⌝ }
+    ensures { λ r. ⌜ Grown (now (w .entry)) n (a + 1) (now (t .exit)) ⌝ }
 {
     let mut b = 0;
     while b < n {
@@ -110,10 +110,10 @@ fn lead_row(t: &mut [u64], w: &[u64], n: usize, a: usize)
     }
 }
 
-// Each of the first n rows does.
+// Each of the first n rows does, in ascending order.
 fn lead_rows(t: &mut [u64], w: &[u64], n: usize)
-    requires { ⌜ (length (now t) ≡ 256) × (length (now w) ≡ 256) × (n ≤ 128) ⌝ }
-    ensures { λ r. ⌜ Holds (now (t .exit)) (plusRows (bitOf (now (t .entry))) n (by (bitOf (now (w .entry))) n)) ⌝ }
+    requires { ⌜ Grown (now w) n 0 (now t) × (length (now w) ≡ 256) × (n ≤ 128) ⌝ }
+    ensures { λ r. ⌜ Grown (now (w .entry)) n n (now (t .exit)) ⌝ }
 {
     let mut a = 0;
     while a < n {
@@ -122,16 +122,17 @@ fn lead_rows(t: &mut [u64], w: &[u64], n: usize)
     }
 }
 
-// One round, over a copy of the whole table in w.
+// One round: w, a copy of the whole table, tells which rows are joined.
 fn round(t: &mut [u64], w: &mut [u64], n: usize)
     requires { ⌜ (length (now t) ≡ 256) × (length (now w) ≡ 256) × (n ≤ 128) ⌝ }
-    ensures { λ r. ⌜ Round (now (t .entry)) n (now (t .exit)) × (now (w .exit) ≡ now (t .entry)) ⌝ }
+    ensures { λ r. ⌜ Grown (now (t .entry)) n n (now (t .exit)) × (now (w .exit) ≡ now (t .entry)) ⌝ }
 {
     copy(t, w);
     lead_rows(t, w, n);
 }
 
-// What leads to what, by rounds: each doubles the ways that are known, and one that finds nothing new is the last.
+// What leads to what, by rounds: each at least doubles the ways that are known, and one that finds nothing new is the last.
+// Where rows lead only to rows before them, the first round finds all.
 pub fn close(t: &mut [u64], w: &mut [u64], n: usize)
     requires { ⌜ Under n (now t) × (length (now w) ≡ 256) ⌝ }
     ensures { λ r. ⌜ Holds (now (t .exit)) (via (bitOf (now (t .entry))) n) × (now (w .exit) ≡ now (t .exit)) ⌝ }

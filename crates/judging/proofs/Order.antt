@@ -9,7 +9,7 @@ use lib.Seq.{take-suc}
 use Rattle.base.proofs.Fill.{Appended, one, appended-then, appended-front}
 use Rattle.theory.specs.Order.{rest}
 use Rattle.theory.proofs.Same.{rest-same}
-use Rattle.rules.specs.History.{History, txCount, size, committed}
+use Rattle.rules.specs.History.{txCount, size, committed}
 use Rattle.rules.specs.Levels.{forced}
 use Rattle.rules.specs.Outcome.{order, reported}
 use Rattle.rules.specs.declared.Answer.the-variants.{Refused, Accepted}

@@ -147,7 +147,7 @@ fn decide(
 // ── what a level forces ──
 // Row b of a table has the bits of what stands before b. w: scratch
 
-// What leads to what through the pairs of f goes into s.
+// s gets what leads to what through the pairs of f.
 fn lead(f: &[u64; 256], s: &mut [u64; 256], w: &mut [u64; 256], n: usize)
     requires { ⌜ Under n (now f) ⌝ }
     ensures { λ r. ⌜ Holds (now (s .exit)) (via (bitOf (now (f .entry))) n) × (now (w .exit) ≡ now (s .exit)) ⌝ }
@@ -156,7 +156,7 @@ fn lead(f: &[u64; 256], s: &mut [u64; 256], w: &mut [u64; 256], n: usize)
     bits::close(s, w, n);
 }
 
-// What the search for rivals goes by goes into s, of basic pairs f. Levels 1 and 2 ask for one of them: "an earlier clean external read in t3, of any key, came
+// f: basic pairs; s gets what the search for rivals goes by. Levels 1 and 2 ask for one of them: "an earlier clean external read in t3, of any key, came
 // from t2", or "(t2, t3) is a basic pair". Level 3: "t2 leads to t3 through one or more basic pairs".
 fn know(level: u8, f: &[u64; 256], s: &mut [u64; 256], w: &mut [u64; 256], n: usize)
     requires { ⌜ Under n (now f) ⌝ }
@@ -169,7 +169,7 @@ fn know(level: u8, f: &[u64; 256], s: &mut [u64; 256], w: &mut [u64; 256], n: us
     }
 }
 
-// The pairs of rivals go into v, of basic pairs f.
+// f: basic pairs; v gets the pairs that "the level adds". s: what the search goes by
 fn oppose(
     h: &[u64],
     k: &[u8],

@@ -45,10 +45,15 @@ fn print_level(trace: &[u8], level: u8) -> bool {
 // nothing is printed.
 fn print_refused(level: u8, no: u8, place: usize) {
     if level == 1 {
-        let mut out = [0u8; 64];
-        let end = show::put_refused(&mut out, 0, no as usize, place);
-        write(&out, end);
+        print_refusal(no, place);
     }
+}
+
+// A refusal's number and place.
+pub fn print_refusal(no: u8, place: usize) {
+    let mut out = [0u8; 64];
+    let end = show::put_refused(&mut out, 0, no as usize, place);
+    write(&out, end);
 }
 
 fn print_accepted(level: u8, n: usize, order: &[u8])

@@ -7,7 +7,7 @@ use Rattle.bits.proofs.lead_by.Tie as tie
 returns : tie.Need-returns
 returns c =
     let s = c .before .before .before .before in
-    through-yes _ _ _ _ (s .before .bit .ensures) (s .if1 .taken) (c .before .before .or-from .ensures)
+    through-yes _ _ _ _ (s .before .bit .ensures) (s .if1 .taken) (c .before .before .or-row .ensures)
 
 returns-2 : tie.Need-returns-2
 returns-2 c = through-no _ _ _ _ (c .before .bit .ensures) (c .if1 .left) (holds-self _ (c .before .before .before .before .pre .0))

@@ -2,16 +2,16 @@ use native.Mathlib.Omega.{arith}
 use lib.ListN.{length-set}
 use borrow.Author.Needs.{needs}
 use Rattle.bits.proofs.Tables.{row-joined}
-use Rattle.bits.proofs.or_from.Statement.{statement}
-use Rattle.bits.proofs.or_from.Tie as tie
+use Rattle.bits.proofs.or_row.Statement.{statement}
+use Rattle.bits.proofs.or_row.Tie as tie
 
 returns : tie.Need-returns
 returns c =
     let s = c .before .before .before .before in
-    row-joined (s .args .t .now) (s .args .w .now) (s .args .a) (s .args .b) (s .pre .0) (s .pre .2)
+    row-joined (s .args .t .now) (s .args .t .now) (s .args .a) (s .args .b) (s .pre .0) (s .pre .1)
 
-pub or-from-spec : {M : Type 1} → statement M
-or-from-spec =
+pub or-row-spec : {M : Type 1} → statement M
+or-row-spec =
     tie.close
     (tie.spec (λ c. search needs) (λ c. search needs) (λ c. search needs) (λ c. search needs) (λ c. search needs) (λ c. search needs) (λ c. search needs)
     (λ c. search needs) (λ c. search needs) (λ c. search needs) (λ c. search needs) (λ c. search needs) (λ c. search needs) (λ c. search needs)

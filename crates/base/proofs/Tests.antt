@@ -1,12 +1,12 @@
 -- Laws of tests and choices.
-use Prim.Native.Nat.{ℕ, zero, suc, _≤_, _<_}
+use Prim.Native.Nat.{ℕ, zero, suc, _+_, _≤_, _<_}
 use mathlib.Core.Path.{_≡_, refl, sym, _∙_}
 use mathlib.Core.Bool.{Bool, true, false, not, true≢false, false≢true}
 use mathlib.Core.Logic.{_⊎_, inl, inr, ⊎-elim}
 use native.Mathlib.Omega.{arith}
 use native.Mathlib.Nat.{eq-or-lt-of-le}
-use lib.Dec.{ltb}
-use borrow.Author.Tests.{ltb-true, ltb-false}
+use lib.Dec.{eqb, ltb}
+use borrow.Author.Tests.{ltb-true, ltb-false, eqb-true, eq-eqb, ne-eqb, lt-ltb, le-ltb}
 use Rattle.base.specs.Base.{_and_, _or_, pick}
 
 -- a test passes or fails; by cases on it
@@ -127,3 +127,30 @@ split a b = ⊎-elim (λ e. inl (ltb-true a b e)) (λ e. inr (ltb-false a b e)) 
 -- one below suc k is k or below it
 pub below-suc : {a k : ℕ} → a < suc k → (a ≡ k) ⊎ (a < k)
 below-suc h = eq-or-lt-of-le (omega arith)
+
+-- a second test that fails leaves the first
+pub or-off : (a b : Bool) → b ≡ false → a or b ≡ a
+unfolding _or_
+or-off true b e = refl
+or-off false b e = e
+
+-- a second test that passes leaves the first
+pub and-true : (a b : Bool) → b ≡ true → a and b ≡ a
+unfolding _and_
+and-true true b e = e
+and-true false b e = refl
+
+-- two comparisons are equal where each holds if the other does
+pub same-eqb : (a b c d : ℕ) → (a ≡ b → c ≡ d) → (c ≡ d → a ≡ b) → eqb a b ≡ eqb c d
+same-eqb a b c d f g =
+    same-test _ _ (λ e. eq-eqb c d (f (eqb-true a b e))) (λ e. eq-eqb a b (g (eqb-true c d e)))
+
+-- one number more: the numbers below it, and it
+pub below-more : (p : ℕ → Bool) (x i : ℕ) → ltb x (i + 1) and p x ≡ (ltb x i and p x) or (eqb x i and p i)
+unfolding _and_ _or_
+below-more p x i =
+    ⊎-elim (λ l. rw (lt-ltb x (i + 1) (omega arith), lt-ltb x i l, ne-eqb x i (λ e. omega arith)) (sym (or-off (p x) false refl)))
+    (λ g.
+    ⊎-elim (λ l. let e : x ≡ i = omega arith in rw (lt-ltb x (i + 1) l, le-ltb x i g, eq-eqb x i e, e))
+    (λ k. rw (le-ltb x (i + 1) k, le-ltb x i g, ne-eqb x i (λ e. omega arith))) (split x (i + 1)))
+    (split x i)

@@ -1,5 +1,3 @@
-pub mod Tests
 pub mod Words
 pub mod Tables
 pub mod Rounds
-pub mod Fill

@@ -13,8 +13,8 @@ use lib.Seq.{getD-set-same, getD-set-other, ext-getD}
 use borrow.Author.Tests.{eqb-true, eqb-false, eq-eqb, ne-eqb, le-ltb}
 use Rattle.base.specs.Base.{_and_, _or_}
 use Rattle.base.proofs.Tests.{ifso, split, same-test, both, and-left, and-right, and-on, and-no-left, and-no-right, or-on, or-assoc}
-use Rattle.bits.specs.Bits.{testBit, bitOf, Holds, nothing, either, plusBit, plusRow, plusRows}
-use Rattle.bits.proofs.Tests.{or-off, and-or, same-eqb, below-more}
+use Rattle.bits.specs.Bits.{testBit, bitOf, Holds, nothing, either, plusBit, plusRow}
+use Rattle.base.proofs.Tests.{or-off, same-eqb}
 use Rattle.bits.proofs.Words.{testBit-zero, testBit-or, testBit-one, word-one}
 
 -- ── what a table holds ──
@@ -209,29 +209,7 @@ row-joined t u a b h ha = record { room = simp length-set h; is = λ x y hx hy. 
 
 -- ── rows ──
 
--- row a got nothing, or r and then s
+-- row a got nothing
 pub row-none : {t : List ℕ} {E : ℕ → ℕ → Bool} (a : ℕ) (r : ℕ → Bool) → Holds t E → ((y : ℕ) → y < 128 → r y ≡ false) → Holds t (plusRow E a r)
 unfolding plusRow
 row-none a r h none = holds-same h (λ x y hx hy. sym (or-off _ _ (and-no-right _ _ (none y hy))))
-
-pub row-more : {t u : List ℕ} (E : ℕ → ℕ → Bool) (a : ℕ) (r s q : ℕ → Bool) → Holds t (plusRow E a r) → Holds u (plusRow (bitOf t) a s)
-    → ((y : ℕ) → y < 128 → q y ≡ r y or s y) → Holds u (plusRow E a q)
-unfolding plusRow
-row-more E a r s q h k e =
-    holds-same k
-    (λ x y hx hy.
-    ap (λ (v : Bool). v or (eqb x a and s y)) (h .is x y hx hy) ∙ or-assoc _ _ _
-    ∙ ap (λ (v : Bool). E x y or v) (sym (and-or _ _ _) ∙ ap (λ (v : Bool). eqb x a and v) (sym (e y hy))))
-
--- a loop over the rows: at first none has its part, then one more has
-pub rows-none : {t : List ℕ} {E : ℕ → ℕ → Bool} (z : ℕ → ℕ → Bool) → Holds t E → Holds t (plusRows E 0 z)
-unfolding plusRows
-rows-none z h = holds-same h (λ x y hx hy. sym (or-off _ _ (and-no-left _ _ (le-ltb x 0 (omega arith)))))
-
-pub rows-more : {t u : List ℕ} (E z : ℕ → ℕ → Bool) (a : ℕ) → Holds t (plusRows E a z) → Holds u (plusRow (bitOf t) a (z a)) → Holds u (plusRows E (a + 1) z)
-unfolding plusRows plusRow
-rows-more E z a h k =
-    holds-same k
-    (λ x y hx hy.
-    ap (λ (v : Bool). v or (eqb x a and z a y)) (h .is x y hx hy) ∙ or-assoc _ _ _
-    ∙ ap (λ (v : Bool). E x y or v) (sym (below-more (λ i. z i y) x a)))

@@ -36,17 +36,6 @@ plusBit E a b x y = E x y or (eqb x a and eqb y b)
 unfoldable pub plusRow : (ℕ → ℕ → Bool) → ℕ → (ℕ → Bool) → ℕ → ℕ → Bool
 plusRow E a r x y = E x y or (eqb x a and r y)
 
--- E and the pairs (x, y) with x below n and z x y
-unfoldable pub plusRows : (ℕ → ℕ → Bool) → ℕ → (ℕ → ℕ → Bool) → ℕ → ℕ → Bool
-plusRows E n z x y = E x y or (ltb x n and z x y)
-
--- p's pairs with a second below n; those with both below n
-unfoldable pub cells : ℕ → (ℕ → ℕ → Bool) → ℕ → ℕ → Bool
-cells n p x y = ltb y n and p x y
-
-unfoldable pub square : ℕ → (ℕ → ℕ → Bool) → ℕ → ℕ → Bool
-square n p x y = ltb x n and cells n p x y
-
 -- W leads from x to b, and E from b to y
 unfoldable pub through : (ℕ → ℕ → Bool) → (ℕ → ℕ → Bool) → ℕ → ℕ → ℕ → Bool
 through W E x b y = W x b and E b y

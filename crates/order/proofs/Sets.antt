@@ -13,7 +13,7 @@ use Rattle.base.specs.Base.{_and_, _or_, some}
 use Rattle.base.proofs.Tests.{known, ifso, clash, is-false, not-true, not-false, both, and-left, and-right, and-on, and-no-left, and-no-right, or-cases, or-left, or-right, or-on, pick-on, pick-off, same-test, split}
 use Rattle.base.proofs.Searches.{some-at, some-of, none-at}
 use Rattle.bits.specs.Bits.{testBit, bitOf}
-use Rattle.bits.proofs.Tests.{or-off, and-true, same-eqb, below-more}
+use Rattle.base.proofs.Tests.{or-off, and-true, same-eqb, below-more}
 use Rattle.bits.proofs.Words.{testBit-zero, testBit-or, testBit-one, word-one}
 use Rattle.order.specs.declared.Words.{Words}
 use Rattle.order.specs.Sets.{inWords, Plus, Given, Empty, Gathered, lacks}

@@ -10,7 +10,7 @@ use Rattle.base.proofs.Tests.{ifso, both, and-left, and-right, and-on, and-no-l
 use Rattle.base.proofs.Searches.{some-hit, some-miss, some-end}
 use Rattle.base.proofs.Chains.{top-hit, top-miss, top-chain}
 use Rattle.bits.specs.Bits.{bitOf, Holds, either, plusBit}
-use Rattle.bits.proofs.Tests.{or-off}
+use Rattle.base.proofs.Tests.{or-off}
 use Rattle.bits.proofs.Tables.{holds-same}
 use Rattle.pairs.specs.Pairs.{cell, across}
 

@@ -18,7 +18,7 @@ use Rattle.table.specs.Table.{historyOf, ofTx, lastBelow, lastOf, prevOf, Held,
 use Rattle.table.proofs.Grown.{last-less}
 use Rattle.reads.proofs.Fitting.{source-less}
 use Rattle.bits.specs.Bits.{bitOf, Holds, Under, nothing, either}
-use Rattle.bits.proofs.Tests.{or-off}
+use Rattle.base.proofs.Tests.{or-off}
 use Rattle.bits.proofs.Tables.{holds-same}
 use Rattle.pairs.specs.Pairs.{OnChain, before, cell, across}
 use Rattle.pairs.proofs.Marking.{cell-is, cell-has, Marking, mark-chain, mark-down}

@@ -49,10 +49,6 @@ pub last-miss : (p : ℕ → Bool) (n : ℕ) → p n ≡ false → last p (n + 1
 unfolding last
 last-miss p n t = rw (add-one n) (pick-off (p n) n (last p n) t)
 
-pub last-zero : (p : ℕ → Bool) → last p 0 ≡ 0
-unfolding last
-last-zero p = refl
-
 -- only what the test says below n counts
 pub last-same : (p q : ℕ → Bool) (n : ℕ) → ((i : ℕ) → i < n → p i ≡ q i) → last p n ≡ last q n
 unfolding last

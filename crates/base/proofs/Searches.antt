@@ -254,18 +254,6 @@ joined-those f p e j =
         single : (i : ℕ) → joined f (i ∷ []) ≡ f i
         single i = joined-one f i
 
--- as many as pass
-pub those-length : (p : ℕ → Bool) (e j : ℕ) → length (those j e p) ≡ count j e p
-unfolding those
-those-length p e =
-    downward (λ j. length (listed j e (λ i. pick (p i) (i ∷ []) [])) ≡ count j e p) e
-    (λ j h. ap length (listed-end (λ i. pick (p i) (i ∷ []) []) j e h) ∙ sym (count-end p j e h))
-    (λ j l ih.
-    ap length (listed-step (λ i. pick (p i) (i ∷ []) []) j e l) ∙ length-append (pick (p j) (j ∷ []) []) (listed (j + 1) e (λ i. pick (p i) (i ∷ []) []))
-    ∙ ⊎-elim (λ (t : p j ≡ true). rw (pick-on (p j) (j ∷ []) [] t, ih) (sym (count-hit p j e l t)))
-    (λ (t : p j ≡ false). rw (pick-off (p j) (j ∷ []) [] t, ih) (omega (arith, count-miss p j e l t)))
-    (known (p j)))
-
 -- entries of k each
 pub joined-length : {A B : Type 0} (f : A → List B) (k : ℕ) → ((x : A) → length (f x) ≡ k) → (l : List A) → length (joined f l) ≡ k * length l
 unfolding joined

@@ -103,9 +103,6 @@ unfolding _or_
 or-on true b e = absurd (true≢false e)
 or-on false b e = refl
 
-pub or-none : (a b : Bool) → a ≡ false → b ≡ false → a or b ≡ false
-or-none a b p q = or-on a b p ∙ q
-
 pub or-assoc : (a b c : Bool) → (a or b) or c ≡ a or (b or c)
 unfolding _or_
 or-assoc true b c = refl

@@ -4,15 +4,16 @@ use mathlib.Core.Path.{_≡_}
 use mathlib.Core.List.{List}
 use lib.Dec.{eqb}
 use borrow.Author.Tests.{eqb-true, eqb-false}
-use Rattle.base.proofs.Tests.{ifso, pick-on, pick-off}
+use Rattle.base.proofs.Tests.{ifso}
 use Rattle.theory.specs.Leads.{via}
 use Rattle.rules.specs.History.{txCount, size}
-use Rattle.rules.specs.Levels.{basic, leads, isRival, forced}
+use Rattle.rules.specs.Levels.{basic, isRival, forced}
 use Rattle.table.specs.Table.{historyOf}
 use Rattle.bits.specs.Bits.{bitOf, Holds, Under, either}
 use Rattle.pairs.specs.Pairs.{before}
 use Rattle.pairs.proofs.Pairs.{basic-closes, basic-leads}
-use Rattle.rivals.specs.Rivals.{pairsFor, Told}
+use Rattle.rivals.specs.Rivals.{Told}
+use Rattle.rivals.proofs.Seen.{goes-by-basic, goes-by-leads}
 use Rattle.rivals.proofs.Rivals.{forced-closes, forced-leads, basic-joined}
 use Rattle.lists.specs.Lists.{Listing, Judging}
 use Rattle.lists.proofs.Levels.{told-listing}
@@ -25,7 +26,6 @@ module _ {h k : List ℕ} {level : ℕ} (a : AtLevel h k level) {x : ℕ} (e : x
   basic-below = rw e (basic-closes (a .ready .held) basics)
 
   pub told : {s : List ℕ} → Known level (x + 1) b s → Told h k s level
-  unfolding pairsFor
   told {s} w =
       record {
         ready = a .ready;
@@ -33,8 +33,8 @@ module _ {h k : List ℕ} {level : ℕ} (a : AtLevel h k level) {x : ℕ} (e : x
         to = a .to;
         seen =
             ifso (eqb level 3)
-            (λ t. rw (pick-on (eqb level 3) (leads (historyOf h)) (basic (historyOf h)) t) (basic-leads (a .ready .held) basics (rw e at (w .closed (eqb-true level 3 t)))))
-            (λ t. rw (pick-off (eqb level 3) (leads (historyOf h)) (basic (historyOf h)) t, w .same (eqb-false level 3 t)) basics);
+            (λ t. goes-by-leads (historyOf h) level (eqb-true level 3 t) (basic-leads (a .ready .held) basics (rw e at (w .closed (eqb-true level 3 t)))))
+            (λ t. goes-by-basic (historyOf h) level (eqb-false level 3 t) (rw (w .same (eqb-false level 3 t)) basics));
       }
 
   -- f: these and the rivals v

@@ -107,9 +107,6 @@ module _ {k : List ℕ} {h : History} (j : Judged k h) (i : ℕ) (a : 1 ≤ i) (
   pub judged-external : isExternal h i ≡ leb 8 (getD k i 0)
   judged-external = external-test h i ∙ ap (leb 8) (sym (j .is i a b))
 
-  pub judged-source : isExternal h i ≡ true → sourceOf h i ≡ getD k i 0 - 8
-  judged-source e = omega (arith, external-says h i e, j .is i a b)
-
   pub judged-finding : isFinding h i ≡ (ltb 0 (getD k i 0) and ltb (getD k i 0) 8)
   judged-finding = finding-test h i ∙ ap (λ (v : ℕ). ltb 0 v and ltb v 8) (sym (j .is i a b))
 

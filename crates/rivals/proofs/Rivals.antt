@@ -26,13 +26,6 @@ use Rattle.pairs.proofs.Pairs.{committed-in, basic-under, before-under, before-
 use Rattle.rivals.specs.Rivals.{fits, isHit, hitBit, hitBits, settlesIn, rivalBit, rivalBits, rivalsOf, rivals, SeenFrom}
 use Rattle.rivals.proofs.Hits.{hit-tx, hit-external, last-hit-of}
 
-or-swap : (a b : Bool) → a or b ≡ b or a
-unfolding _or_
-or-swap true true = refl
-or-swap true false = refl
-or-swap false true = refl
-or-swap false false = refl
-
 -- ── hits, marked from the last down ──
 
 -- a loop that has come to the hit i
@@ -239,12 +232,8 @@ module _ {h : List ℕ} (p : Held h) (level : ℕ) where
         → Holds u (before (via (forced (historyOf h) level) (size (historyOf h))))
     forced-leads = before-via (forced (historyOf h) level) (size (historyOf h)) (omega (arith, p .few)) k
 
--- basic and rival pairs joined, whichever table gets the other's bits
+-- basic and rival pairs joined
 module _ (h : History) (level : ℕ) {t v u : List ℕ} (b : Holds t (before (basic h))) (r : Holds v (before (isRival h level))) where
   pub basic-joined : Holds u (either (bitOf t) (bitOf v)) → Holds u (before (forced h level))
   unfolding either before forced
   basic-joined k = holds-same k (λ x y hx hy. rw (b .is x y hx hy, r .is x y hx hy))
-
-  pub rivals-joined : Holds u (either (bitOf v) (bitOf t)) → Holds u (before (forced h level))
-  unfolding either before forced
-  rivals-joined k = holds-same k (λ x y hx hy. or-swap _ _ ∙ rw (b .is x y hx hy, r .is x y hx hy))

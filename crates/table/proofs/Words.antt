@@ -65,10 +65,7 @@ link-is-kept h i p =
     let e = p .there .held .links i (p .there .from) (p .there .to) (p .writes) in
     record { is = e; below = omega (arith, e, link-of-less (historyOf h) i (p .there .from)) }
 
--- the write that a search finds lies within the table
+-- the write that a search finds is an operation, or none
 pub write-less : (h : History) (x v : ℕ) → writeOf h x v < opCount h + 1
 unfolding writeOf
 write-less h x v = last-less (writesValue h x v) (opCount h + 1) (omega arith)
-
-pub write-has : (h : List ℕ) (x v w : ℕ) → Held h → w ≡ writeOf (historyOf h) x v → (w ≡ 0 → ⊥) → HasOp h w
-write-has h x v w p e n = record { held = p; from = omega (arith, n); to = omega (arith, e, write-less (historyOf h) x v) }

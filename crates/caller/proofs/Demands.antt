@@ -13,7 +13,7 @@ use Rattle.rules.specs.declared.Answer.{Answer}
 use Rattle.rules.specs.declared.Answer.the-variants.{Refused, Rejected, Accepted}
 use Rattle.rules.specs.declared.NoteAnswer.{NoteAnswer}
 use Rattle.rules.specs.declared.NoteAnswer.the-variants as N
-use Rattle.demand1.specs.Rows.{Declines, Reads, NoteDeclines}
+use Rattle.demand1.specs.Rows.{Declines, ReadInto, NoteDeclines}
 use Rattle.demand1.proofs.Judged.{declines-iff, declines-outcome}
 use Rattle.demand1.proofs.Notes.{note-declines-iff, note-handed}
 use Rattle.demand2.specs.Accepted.{AcceptsTrace, OrderWritten}
@@ -71,7 +71,7 @@ module _ (s : List ℕ) (k : ℕ) {r : NoteAnswer} {t : List ℕ} (kept : KeptNo
   note-refused-iff n p h =
       (λ e. note-declines-iff s k n p h .0 (sym (kept .is) ∙ ap told e), λ d. told-one r (N.Refused n p) (kept .is ∙ note-declines-iff s k n p h .1 d))
 
-  pub note-text : {h : History} {notes : List Stretch} → Reads s h notes → 1 ≤ k → k ≤ length notes
+  pub note-text : {h : History} {notes : List Stretch} → ReadInto s h notes → 1 ≤ k → k ≤ length notes
       → (r ≡ N.Text (nth notes k nowhere .start) (nth notes k nowhere .length)) × (t ≡ bytesOf s (nth notes k nowhere))
   unfolding told
   note-text {notes = notes} d a b =

@@ -9,7 +9,7 @@ use Rattle.base.proofs.Tests.{clash, split}
 use Rattle.rules.specs.History.{History, Op, tx, op, txCount, opCount, empty, opened, closed, withOp}
 use Rattle.rules.specs.Reading.{State, Stretch}
 use Rattle.demand1.specs.Lawful.{IsOp, IsWrite, IsTx, LawfulHistory}
-use Rattle.demand1.specs.Rows.{session, status, opAt, Inside, Passes, inPlace, valueLawful, withinLimit, newWrite, open-inside, read-outside, write-outside, close-outside, end-inside, written-0, status-above-1, open-128th, read-1025th, write-1025th, Next, after-open, after-read, after-write, after-close, after-note, Reaches, start, on, Reads, to-the-end}
+use Rattle.demand1.specs.Rows.{session, status, opIn, Inside, Passes, inPlace, valueLawful, withinLimit, newWrite, open-inside, read-outside, write-outside, close-outside, end-inside, written-0, status-above-1, open-128th, read-1025th, write-1025th, Next, after-open, after-read, after-write, after-close, after-note, Reaches, start, on, ReadInto, to-the-end}
 use Rattle.demand1.proofs.Histories.{op-count, op-old, op-new, open-count, open-old, open-new, close-count, close-this, close-other}
 use Rattle.demand1.proofs.Events.{same-or, at-least, below}
 use Rattle.demand1.proofs.Steps.{inside}
@@ -181,10 +181,10 @@ module _ (s : List ℕ) (st : State) (p : Passes s st) (g : Growing (st .history
         txs = txs-more (session s (st .at)) (g .txs) (λ i. p inPlace (open-inside k i)) (below _ 127 (λ l. p withinLimit (open-128th k l)));
       }
   grown (after-read k) =
-      grown-op (opAt s (st .at) (st .history) false) g (inside s st p (read-outside k)) refl (below _ 1024 (λ l. p withinLimit (read-1025th k l)))
+      grown-op (opIn s (st .at) (st .history) false) g (inside s st p (read-outside k)) refl (below _ 1024 (λ l. p withinLimit (read-1025th k l)))
       (λ w. absurd (clash w refl)) (λ w. absurd (clash w refl))
   grown (after-write k) =
-      grown-op (opAt s (st .at) (st .history) true) g (inside s st p (write-outside k)) refl (below _ 1024 (λ l. p withinLimit (write-1025th k l)))
+      grown-op (opIn s (st .at) (st .history) true) g (inside s st p (write-outside k)) refl (below _ 1024 (λ l. p withinLimit (write-1025th k l)))
       (λ _ z. p valueLawful (written-0 k z)) (λ _ i w. p newWrite (record { writes = k; by = i; earlier = w }))
   grown (after-close k) =
       let h = st .history in
@@ -200,7 +200,7 @@ growing start = growing-begin
 growing {s} (on {st} r p n) = grown s st p (growing r) n
 
 -- a trace that is read gives a lawful history
-pub lawful-history : {s : List ℕ} {h : History} {notes : List Stretch} → Reads s h notes → LawfulHistory h
+pub lawful-history : {s : List ℕ} {h : History} {notes : List Stretch} → ReadInto s h notes → LawfulHistory h
 lawful-history (to-the-end l r p k e) =
     let g = growing r in
     record {

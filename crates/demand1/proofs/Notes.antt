@@ -12,7 +12,7 @@ use Rattle.base.proofs.Tests.{clash, is-false, both, and-left, and-right, ifso,
 use Rattle.rules.specs.History.{History}
 use Rattle.rules.specs.Reading.{Reading, refused, read, reading, Stretch}
 use Rattle.rules.specs.Notes.{Noted, nowhere, declined, handed, isNote, notedRead, noted}
-use Rattle.demand1.specs.Rows.{Reads, NoteDeclines, trace-refused, no-note}
+use Rattle.demand1.specs.Rows.{ReadInto, NoteDeclines, trace-refused, no-note}
 use Rattle.demand1.proofs.Readings.{refuses-iff, reads-iff}
 
 -- row 15
@@ -61,5 +61,5 @@ module _ (s : List ℕ) (k : ℕ) where
       is (no-note {h} {notes} r d) = noted-none (reads-iff s h notes .1 r) d
 
   -- where it is not refused the note is handed back, by its number
-  pub note-handed : {h : History} {notes : List Stretch} → Reads s h notes → 1 ≤ k → k ≤ length notes → noted s k ≡ handed (nth notes k nowhere)
+  pub note-handed : {h : History} {notes : List Stretch} → ReadInto s h notes → 1 ≤ k → k ≤ length notes → noted s k ≡ handed (nth notes k nowhere)
   note-handed {h} {notes} r a b = noted-read (reads-iff s h notes .1 r) (a, b)

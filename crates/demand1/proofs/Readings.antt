@@ -12,7 +12,7 @@ use Rattle.base.specs.Base.{pick}
 use Rattle.base.proofs.Tests.{split, pick-on, pick-off}
 use Rattle.rules.specs.History.{History}
 use Rattle.rules.specs.Reading.{State, begin, after, eventIn, isEnd, refusalNo, Reading, refused, read, finished, walk, reading, Stretch}
-use Rattle.demand1.specs.Rows.{kind, behind, lengthField, numberOf, Passes, Reaches, start, on, Refuses, too-long, at-record, bytes-behind, Reads, to-the-end, OneOutcome}
+use Rattle.demand1.specs.Rows.{kind, behind, lengthField, numberOf, Passes, Reaches, start, on, Refuses, too-long, at-record, bytes-behind, ReadInto, to-the-end, OneOutcome}
 use Rattle.demand1.proofs.Events.{same-or}
 use Rattle.demand1.proofs.Steps.{next-is, next-after, next-not-end, end-after, is-end, not-end, after-within}
 use Rattle.demand1.proofs.Refusals.{First, passing, failing, first, number-positive, refusal-none, refusal-row}
@@ -70,7 +70,7 @@ reached-within {s} (on {st} r p n) = rw (next-is s st p n) (after-within s st p 
 -- a reading that the conditions bear out
 data Ends (s : List ℕ) : Reading → Type 0 where
   refusing : {n p : ℕ} → Refuses s n p → Ends s (refused n p)
-  reading-it : {h : History} {notes : List Stretch} → Reads s h notes → Ends s (read h notes)
+  reading-it : {h : History} {notes : List Stretch} → ReadInto s h notes → Ends s (read h notes)
 
 module _ (s : List ℕ) (short : length s ≤ 32768) where
   -- the end record
@@ -133,7 +133,7 @@ refused-is {s} (at-record {st} {c} short r f) =
     resumed s short r _ (λ g _. walk-refused s st g (refusal-row s st (numberOf c) (number-positive c) .1 (c, refl, f)) (number-positive c))
 refused-is {s} (bytes-behind {st} short r p k l) = resumed s short r _ (λ g _. walk-end s st g p k ∙ finished-behind s st l)
 
-read-is : {s : List ℕ} {h : History} {notes : List Stretch} → Reads s h notes → reading s ≡ read h notes
+read-is : {s : List ℕ} {h : History} {notes : List Stretch} → ReadInto s h notes → reading s ≡ read h notes
 read-is {s} (to-the-end {st} short r p k e) = resumed s short r _ (λ g _. walk-end s st g p k ∙ finished-read s st p k e)
 
 -- ── the theorems ──
@@ -148,10 +148,10 @@ module _ (s : List ℕ) where
       of (reading-it x) e = let z : _≡_ {A = ℕ} 0 1 = cc in absurd (omega arith)
 
   -- it gives a history and notes exactly if the trace is read into them
-  pub reads-iff : (h : History) (notes : List Stretch) → (reading s ≡ read h notes) ↔ Reads s h notes
+  pub reads-iff : (h : History) (notes : List Stretch) → (reading s ≡ read h notes) ↔ ReadInto s h notes
   reads-iff h notes = (λ e. of (reading-ends s) e, read-is)
     where
-      of : {r : Reading} → Ends s r → r ≡ read h notes → Reads s h notes
+      of : {r : Reading} → Ends s r → r ≡ read h notes → ReadInto s h notes
       of (refusing x) e = let z : _≡_ {A = ℕ} 0 1 = cc in absurd (omega arith)
       of (reading-it {h = g} {notes = texts} x) e = let a : h ≡ g = cc in let b : notes ≡ texts = cc in rw (a, b) x
 
@@ -165,7 +165,7 @@ module _ (s : List ℕ) where
         one-reading = λ h g notes texts x y. let a = read-is x in let b = read-is y in (cc, cc);
       }
     where
-      some : {r : Reading} → Ends s r → ((n : ℕ) × (p : ℕ) × Refuses s n p) ⊎ ((h : History) × (notes : List Stretch) × Reads s h notes)
+      some : {r : Reading} → Ends s r → ((n : ℕ) × (p : ℕ) × Refuses s n p) ⊎ ((h : History) × (notes : List Stretch) × ReadInto s h notes)
       some (refusing {n} {p} x) = inl (n, p, x)
       some (reading-it {h} {notes} x) = inr (h, notes, x)
 

@@ -74,11 +74,11 @@ module _ (s : List ℕ) (st : State) where
       ⊎-elim (λ h. p d h f) (λ h. clash (check-row s st c p .1 (rw (← same-rank d c (omega arith)) f)) t) (split (rank d) (rank c))
 
   -- a table's rows tell how it fares
-  record Told (rs : List Row) : Type 0 where
+  record RowTold (rs : List Row) : Type 0 where
     pub is : First (firstFit rs)
 
   -- by one row, or by the rest
-  told-row : (c : Check) {rs : List Row} → Clear s st (rank c) → (Clear s st (suc (rank c)) → Told rs) → Told (rowOf s st c ∷ rs)
+  told-row : (c : Check) {rs : List Row} → Clear s st (rank c) → (Clear s st (suc (rank c)) → RowTold rs) → RowTold (rowOf s st c ∷ rs)
   unfolding firstFit
   told-row c p k =
       record {
@@ -86,7 +86,7 @@ module _ (s : List ℕ) (st : State) where
       }
 
   -- no row is left
-  told-end : Passes s st → Told []
+  told-end : Passes s st → RowTold []
   unfolding firstFit
   told-end p = record { is = passing p }
 
@@ -95,7 +95,7 @@ module _ (s : List ℕ) (st : State) where
   unfolding refusalNo frameRows stepRows
   first = rows .is
     where
-      rows : Told (frameRows s (st .at) (st .serial) ++ stepRows (st .history) (current (st .history)) (eventIn s st))
+      rows : RowTold (frameRows s (st .at) (st .serial) ++ stepRows (st .history) (current (st .history)) (eventIn s st))
       rows =
           told-row lengthField (λ d l _. omega arith)
           (λ p1. told-row lengthLow p1

@@ -140,8 +140,8 @@ abbrev pub moved : List ℕ → State → History → List Stretch → State
 moved s st h notes = record { at = behind s (st .at); serial = (serial s (st .at) + 1) % 2 ^ 32; history = h; notes = notes }
 
 -- the operation that a read or a write is: "Transactions do not overlap", so it belongs to the latest opened
-abbrev pub opAt : List ℕ → ℕ → History → Bool → Op
-opAt s at h w = record { tx = txCount h; isWrite = w; key = key s at; value = value s at }
+abbrev pub opIn : List ℕ → ℕ → History → Bool → Op
+opIn s at h w = record { tx = txCount h; isWrite = w; key = key s at; value = value s at }
 
 -- a note's text, as a stretch of the trace
 abbrev pub noteText : List ℕ → ℕ → Stretch
@@ -150,8 +150,8 @@ noteText s at = record { start = at + 8; length = len s at - 6 }
 -- the state behind the record, which is not the end
 pub data Next (s : List ℕ) (st : State) : State → Type 0 where
   after-open : kind s (st .at) ≡ 1 → Next s st (moved s st (opened (st .history) (session s (st .at))) (st .notes))
-  after-read : kind s (st .at) ≡ 2 → Next s st (moved s st (withOp (st .history) (opAt s (st .at) (st .history) false)) (st .notes))
-  after-write : kind s (st .at) ≡ 3 → Next s st (moved s st (withOp (st .history) (opAt s (st .at) (st .history) true)) (st .notes))
+  after-read : kind s (st .at) ≡ 2 → Next s st (moved s st (withOp (st .history) (opIn s (st .at) (st .history) false)) (st .notes))
+  after-write : kind s (st .at) ≡ 3 → Next s st (moved s st (withOp (st .history) (opIn s (st .at) (st .history) true)) (st .notes))
   after-close : kind s (st .at) ≡ 4 → Next s st (moved s st (closed (st .history) (txCount (st .history)) (status s (st .at))) (st .notes))
   after-note : kind s (st .at) ≡ 6 → Next s st (moved s st (st .history) (st .notes ++ (noteText s (st .at) ∷ [])))
 
@@ -170,29 +170,29 @@ pub data Refuses (s : List ℕ) : ℕ → ℕ → Type 0 where
       → Refuses s 11 (behind s (st .at))
 
 -- the trace is read: the end record is its last
-pub data Reads (s : List ℕ) : History → List Stretch → Type 0 where
+pub data ReadInto (s : List ℕ) : History → List Stretch → Type 0 where
   to-the-end : {st : State} → length s ≤ 32768 → Reaches s st → Passes s st → kind s (st .at) ≡ 5 → behind s (st .at) ≡ length s
-      → Reads s (st .history) (st .notes)
+      → ReadInto s (st .history) (st .notes)
 
 -- every trace is refused, on one row and at one place, or read, in one way, and never both
 pub record OneOutcome (s : List ℕ) : Type 0 where
-  pub either : ((n : ℕ) × (p : ℕ) × Refuses s n p) ⊎ ((h : History) × (notes : List Stretch) × Reads s h notes)
-  pub not-both : (n p : ℕ) (h : History) (notes : List Stretch) → Refuses s n p → Reads s h notes → ⊥
+  pub either : ((n : ℕ) × (p : ℕ) × Refuses s n p) ⊎ ((h : History) × (notes : List Stretch) × ReadInto s h notes)
+  pub not-both : (n p : ℕ) (h : History) (notes : List Stretch) → Refuses s n p → ReadInto s h notes → ⊥
   pub one-refusal : (n p m q : ℕ) → Refuses s n p → Refuses s m q → (n ≡ m) × (p ≡ q)
-  pub one-reading : (h g : History) (notes texts : List Stretch) → Reads s h notes → Reads s g texts → (h ≡ g) × (notes ≡ texts)
+  pub one-reading : (h g : History) (notes texts : List Stretch) → ReadInto s h notes → ReadInto s g texts → (h ≡ g) × (notes ≡ texts)
 
 -- the outcome of judging is a refusal with number n and place p: rows 1 to 14, with buffers of f, p and o bytes
 pub data Declines (s : List ℕ) (level f p o : ℕ) : ℕ → ℕ → Type 0 where
   no-level : ((1 ≤ level) × (level ≤ 3) → ⊥) → Declines s level f p o 1 0
   reading-refused : {n at : ℕ} → 1 ≤ level → level ≤ 3 → Refuses s n at → Declines s level f p o n at
-  findings-short : {h : History} {notes : List Stretch} → 1 ≤ level → level ≤ 3 → Reads s h notes → isAccepted h level ≡ false
+  findings-short : {h : History} {notes : List Stretch} → 1 ≤ level → level ≤ 3 → ReadInto s h notes → isAccepted h level ≡ false
       → f < length (findingList h) → Declines s level f p o 12 (length (findingList h))
-  pairs-short : {h : History} {notes : List Stretch} → 1 ≤ level → level ≤ 3 → Reads s h notes → isAccepted h level ≡ false
+  pairs-short : {h : History} {notes : List Stretch} → 1 ≤ level → level ≤ 3 → ReadInto s h notes → isAccepted h level ≡ false
       → length (findingList h) ≤ f → p < length (pairList h level) → Declines s level f p o 13 (length (pairList h level))
-  order-short : {h : History} {notes : List Stretch} → 1 ≤ level → level ≤ 3 → Reads s h notes → isAccepted h level ≡ true
+  order-short : {h : History} {notes : List Stretch} → 1 ≤ level → level ≤ 3 → ReadInto s h notes → isAccepted h level ≡ true
       → o < length (order h level) → Declines s level f p o 14 (length (order h level))
 
 -- asking for note k is refused with number n and place p: "it takes 2 to 11 and then 15"
 pub data NoteDeclines (s : List ℕ) (k : ℕ) : ℕ → ℕ → Type 0 where
   trace-refused : {n at : ℕ} → Refuses s n at → NoteDeclines s k n at
-  no-note : {h : History} {notes : List Stretch} → Reads s h notes → ((1 ≤ k) × (k ≤ length notes) → ⊥) → NoteDeclines s k 15 0
+  no-note : {h : History} {notes : List Stretch} → ReadInto s h notes → ((1 ≤ k) × (k ≤ length notes) → ⊥) → NoteDeclines s k 15 0

@@ -18,7 +18,7 @@ use Rattle.rules.specs.Levels.{forced}
 use Rattle.rules.specs.Outcome.{findings, Pair, pairsOf, pairs, order, isEmpty, isAccepted}
 use Rattle.demand1.specs.Lawful.{LawfulHistory}
 use Rattle.demand2.specs.Kinds.{AllClean}
-use Rattle.demand2.specs.Axiom.{Member, StrictTotal, Commits, Lists, Before, Shows, FirstShown}
+use Rattle.demand2.specs.Axiom.{Member, StrictTotal, Commits, Lists, StandsBefore, Shows, FirstShown}
 use Rattle.demand2.proofs.Lists.{not-empty, listed-none as parts-none, those-none, joined-empty}
 use Rattle.demand2.proofs.Kind.{findings-iff}
 use Rattle.demand2.proofs.Pairs.{forces}
@@ -50,7 +50,7 @@ module _ {h : History} (ok : LawfulHistory h) (level : ℕ) where
 -- ── orders as lists ──
 
 -- places in a list that has each committed transaction once are a strict total order
-pub lists-total : {h : History} {o : List ℕ} → Lists h o → StrictTotal h (Before o)
+pub lists-total : {h : History} {o : List ℕ} → Lists h o → StrictTotal h (StandsBefore o)
 lists-total {h} {o} s =
     record {
       members = λ a b x. (at a (omega (arith, x .earlier, x .there)), at b (x .there));
@@ -79,7 +79,7 @@ module _ {h : History} (ok : LawfulHistory h) {level : ℕ} (low : 1 ≤ level) 
           once = l .once;
           has = λ a k c. l .all a (record { below = k; is-in = c });
           first = l .zero-first;
-          before = λ a b e. obeys-iff ok clean (Before o) low high (s .commits .order) .0 (s .commits .obeys) a b e .earlier;
+          before = λ a b e. obeys-iff ok clean (StandsBefore o) low high (s .commits .order) .0 (s .commits .obeys) a b e .earlier;
         },
     λ w.
         let l : Lists h o =
@@ -95,7 +95,7 @@ module _ {h : History} (ok : LawfulHistory h) {level : ℕ} (low : 1 ≤ level) 
               record {
                 order = lists-total l;
                 obeys =
-                    obeys-iff ok clean (Before o) low high (lists-total l) .1
+                    obeys-iff ok clean (StandsBefore o) low high (lists-total l) .1
                     (λ a b e. let m = forces ok level .second-in a b e in record { earlier = w .before a b e; there = w .has b (m .0) (m .1) });
               };
         },
@@ -119,7 +119,7 @@ module _ {h : History} (ok : LawfulHistory h) {level : ℕ} (low : 1 ≤ level) 
   -- a commit order exists exactly if some list shows one
   pub commits-iff : ((C : ℕ → ℕ → Type 0) × Commits h level C) ↔ ((o : List ℕ) × Shows h level o)
   commits-iff =
-      (λ c. no-pairs-iff .0 (pairs-iff ok level .1 (commits-none (c .0) (c .1))), λ s. (Before (s .0), s .1 .commits))
+      (λ c. no-pairs-iff .0 (pairs-iff ok level .1 (commits-none (c .0) (c .1))), λ s. (StandsBefore (s .0), s .1 .commits))
 
   -- the order that is computed is then the first such list, and has each committed transaction once
   pub order-is-first : {o : List ℕ} → Shows h level o → FirstShown h level (order h level)

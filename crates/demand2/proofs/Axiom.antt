@@ -16,7 +16,7 @@ use Rattle.demand1.specs.Lawful.{LawfulHistory}
 use Rattle.demand2.specs.Kinds.{AllClean}
 use Rattle.demand2.specs.Axiom.{Writes, initially, later, SoWr, Causal, one, more, Sees, earlier, direct, causal, StrictTotal, Obeys}
 use Rattle.demand2.proofs.Kind.{wrote-at, at-wrote}
-use Rattle.demand2.proofs.Pairs.{source-is, external-reads, reads-external, reads-at, reads-is, so-apart, based-sowr, basic-is, basic-iff, leads-iff, settles-is, Forced, is-basic, is-rival, forced-at}
+use Rattle.demand2.proofs.Pairs.{source-is, external-reads, reads-external, reads-at, reads-is, so-apart, based-sowr, basic-is, basic-iff, leads-iff, settles-is, ForcedBy, is-basic, is-rival, forced-at}
 
 -- the test for who writes a key is right
 pub writes-iff : (h : History) (t x : ℕ) → (writesKey h t x ≡ true) ↔ Writes h t x
@@ -52,7 +52,7 @@ module _ {h : History} (ok : LawfulHistory h) (clean : AllClean h) where
 
   module _ (C : ℕ → ℕ → Type 0) where
     -- what obeys the axiom has every forced pair
-    obeys-forced : {level : ℕ} → 1 ≤ level → level ≤ 3 → Obeys h level C → {a b : ℕ} → Forced h level a b → C a b
+    obeys-forced : {level : ℕ} → 1 ≤ level → level ≤ 3 → Obeys h level C → {a b : ℕ} → ForcedBy h level a b → C a b
     obeys-forced low high o {a} {b} (is-basic s) = ⊎-elim (o .holds-so a b) (o .holds-wr a b) (based-sowr s)
     obeys-forced low high o {a} {b} (is-rival {i = i} m s) =
         o .published b a (op h i .tx) (op h i .key) i (λ e. s .not-source (sym e)) (external-reads ok (s .external) (refl) (s .source)) m

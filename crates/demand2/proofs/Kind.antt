@@ -123,9 +123,9 @@ pub data Firstly (F : ℕ → Type 0) (n e k : ℕ) : Type 0 where
   hit : n ≤ k → F k → ((l : ℕ) → n ≤ l → l < k → F l → ⊥) → Firstly F n e k
 
 -- the rows of a table have the numbers from n to before e, and each row's test decides F of its number
-pub data Decides (F : ℕ → Type 0) : ℕ → ℕ → List Row → Type 0 where
-  end : {n : ℕ} → Decides F n n []
-  next : {n e : ℕ} {b : Bool} {rs : List Row} → (b ≡ true) ↔ F n → Decides F (n + 1) e rs → Decides F n e (row b n ∷ rs)
+pub data KindDecided (F : ℕ → Type 0) : ℕ → ℕ → List Row → Type 0 where
+  end : {n : ℕ} → KindDecided F n n []
+  next : {n e : ℕ} {b : Bool} {rs : List Row} → (b ≡ true) ↔ F n → KindDecided F (n + 1) e rs → KindDecided F n e (row b n ∷ rs)
 
 -- a row that fits decides, one that doesn't leaves the rest
 fit-on : (b : Bool) (n : ℕ) (rs : List Row) → b ≡ true → firstFit (row b n ∷ rs) ≡ n
@@ -145,7 +145,7 @@ firstly-next {F} {n} d (none z f) = none z (λ l a b. from-next F n d l a (λ m.
 firstly-next {F} {n} d (hit m x f) = hit (omega arith) x (λ l a b. from-next F n d l a (λ c. f l c b))
 
 -- so the number that a table gives is the first of which F holds
-pub decides-first : {F : ℕ → Type 0} {n e : ℕ} {rs : List Row} → Decides F n e rs → Firstly F n e (firstFit rs)
+pub decides-first : {F : ℕ → Type 0} {n e : ℕ} {rs : List Row} → KindDecided F n e rs → Firstly F n e (firstFit rs)
 unfolding firstFit
 decides-first end = none refl (λ l a b. absurd (omega arith))
 decides-first (next {n} {b = b} {rs} d r) =

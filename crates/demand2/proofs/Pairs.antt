@@ -96,13 +96,13 @@ module _ {h : History} (ok : LawfulHistory h) where
       record { judged = r .judged; kind-0 = clean-iff ok (r .judged) .1 c; other = λ e. r .other (sym (source-is (r .source)) ∙ e ∙ r .in-tx) }
 
 -- a clean read in t3 from t1
-pub record CleanRead (h : History) (t1 t3 i : ℕ) : Type 0 where
+pub record CleanFrom (h : History) (t1 t3 i : ℕ) : Type 0 where
   pub clean : Clean h i
   pub reads : ReadFrom h t1 t3 (op h i .key) i
 
 module _ {h : History} (ok : LawfulHistory h) {t1 t3 i : ℕ} where
   -- the test for such a read is right
-  pub reads-at : 1 ≤ i → i ≤ opCount h → readsFrom h t3 t1 i ≡ true → CleanRead h t1 t3 i
+  pub reads-at : 1 ≤ i → i ≤ opCount h → readsFrom h t3 t1 i ≡ true → CleanFrom h t1 t3 i
   unfolding readsFrom
   reads-at a b e =
       let f = and-left _ _ e in
@@ -164,7 +164,7 @@ module _ (h : History) (a b : ℕ) where
 -- a basic pair in parts: session order or a clean read
 pub data Based (h : History) (a b : ℕ) : Type 0 where
   by-so : SO h a b → Based h a b
-  by-read : {i : ℕ} → CleanRead h a b i → Based h a b
+  by-read : {i : ℕ} → CleanFrom h a b i → Based h a b
 
 -- it is of two different committed transactions, and in SO ∪ WR
 pub based-members : {h : History} {a b : ℕ} → Based h a b → Member h a × Member h b
@@ -255,13 +255,13 @@ settles-is s =
     (s .seen)
 
 -- a forced pair in parts: a basic pair, or a rival that a read settles
-pub data Forced (h : History) (level a b : ℕ) : Type 0 where
-  is-basic : Based h a b → Forced h level a b
-  is-rival : {i : ℕ} → Member h a → Settles h level a b i → Forced h level a b
+pub data ForcedBy (h : History) (level a b : ℕ) : Type 0 where
+  is-basic : Based h a b → ForcedBy h level a b
+  is-rival : {i : ℕ} → Member h a → Settles h level a b i → ForcedBy h level a b
 
 module _ {h : History} (ok : LawfulHistory h) (level : ℕ) where
   -- the test for a forced pair is right
-  pub forced-at : (a b : ℕ) → forced h level a b ≡ true → Forced h level a b
+  pub forced-at : (a b : ℕ) → forced h level a b ≡ true → ForcedBy h level a b
   unfolding forced isRival
   forced-at a b e =
       ⊎-elim (λ s. is-basic (basic-at ok s))
@@ -271,13 +271,13 @@ module _ {h : History} (ok : LawfulHistory h) (level : ℕ) where
       (or-cases _ _ e)
 
   -- forced pairs are of two different committed transactions
-  forced-members : {a b : ℕ} → Forced h level a b → Member h a × Member h b
+  forced-members : {a b : ℕ} → ForcedBy h level a b → Member h a × Member h b
   forced-members (is-basic s) = based-members s
   forced-members (is-rival m s) =
       let x = s .external in
       (m, source-member (external-reads ok x refl (s .source)) (clean-iff ok (x .judged) .0 (x .kind-0)))
 
-  forced-differ : {a b : ℕ} → Forced h level a b → a ≡ b → ⊥
+  forced-differ : {a b : ℕ} → ForcedBy h level a b → a ≡ b → ⊥
   forced-differ (is-basic s) = based-apart s
   forced-differ (is-rival m s) = s .not-source
 

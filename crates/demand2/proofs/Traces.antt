@@ -11,7 +11,7 @@ use Rattle.rules.specs.Numbers.{over}
 use Rattle.rules.specs.History.{History}
 use Rattle.rules.specs.Reading.{Stretch, Reading, refused, read, reading}
 use Rattle.rules.specs.Outcome.{findingList, pairList, order, isAccepted, Verdict, declines, rejects, accepts, Report, accepting, Outcome, outcome, acceptance, rejection, judgedRead, judged}
-use Rattle.demand1.specs.Rows.{Reads}
+use Rattle.demand1.specs.Rows.{ReadInto}
 use Rattle.demand1.proofs.Lawful.{lawful-history}
 use Rattle.demand1.proofs.Readings.{refuses-iff, reads-iff, one-outcome}
 use Rattle.demand1.proofs.Judged.{judged-level, judged-no-level, judged-refused, judged-accepted, judged-rejected, acceptance-short, acceptance-fits, rejection-short, rejection-short-pairs, rejection-fits}
@@ -74,7 +74,7 @@ module _ (s : List ℕ) (level : ℕ) (fs ps os : List ℕ) where
   judged-by : 1 ≤ level → level ≤ 3 → {r : Reading} → reading s ≡ r → judged s level fs ps os ≡ judgedRead r level fs ps os
   judged-by low high e = judged-level s level fs ps os low high ∙ ap (λ (r : Reading). judgedRead r level fs ps os) e
 
-  module _ (low : 1 ≤ level) (high : level ≤ 3) {h : History} {notes : List Stretch} (r : Reads s h notes) where
+  module _ (low : 1 ≤ level) (high : level ≤ 3) {h : History} {notes : List Stretch} (r : ReadInto s h notes) where
     judged-is : judged s level fs ps os ≡ judgedRead (read h notes) level fs ps os
     judged-is = judged-by low high (reads-iff s h notes .1 r)
 

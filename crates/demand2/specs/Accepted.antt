@@ -7,7 +7,7 @@ use Rattle.rules.specs.Numbers.{over}
 use Rattle.rules.specs.History.{History, size, committed}
 use Rattle.rules.specs.Reading.{Stretch}
 use Rattle.rules.specs.Outcome.{Outcome}
-use Rattle.demand1.specs.Rows.{Reads}
+use Rattle.demand1.specs.Rows.{ReadInto}
 use Rattle.demand2.specs.Kinds.{AllClean}
 use Rattle.demand2.specs.Axiom.{Shows, FirstShown}
 
@@ -24,7 +24,7 @@ pub record AcceptsTrace (s : List ℕ) (level n room : ℕ) : Type 0 where
   pub high : level ≤ 3
   pub history : History
   pub notes : List Stretch
-  pub reads : Reads s history notes
+  pub reads : ReadInto s history notes
   pub accepts : Accepts history level n room
 
 -- "only the order is written", and it is the first commit order; fs, ps and os are what the buffers held before

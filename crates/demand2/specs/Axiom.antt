@@ -85,14 +85,14 @@ pub record Lists (h : History) (o : List ℕ) : Type 0 where
   pub all : (a : ℕ) → Member h a → place a o < length o
   pub zero-first : place 0 o ≡ 0
 
-pub record Before (o : List ℕ) (a b : ℕ) : Type 0 where
+pub record StandsBefore (o : List ℕ) (a b : ℕ) : Type 0 where
   pub earlier : place a o < place b o
   pub there : place b o < length o
 
 -- a list that is a commit order of the level; the first such in dictionary order
 pub record Shows (h : History) (level : ℕ) (o : List ℕ) : Type 0 where
   pub lists : Lists h o
-  pub commits : Commits h level (Before o)
+  pub commits : Commits h level (StandsBefore o)
 
 pub record FirstShown (h : History) (level : ℕ) (o : List ℕ) : Type 0 where
   pub shows : Shows h level o

@@ -22,17 +22,17 @@ use Rattle.demand3.proofs.Pairs.{listed-members, pairs-are}
 -- ── entries of four bytes ──
 
 -- every entry is a byte
-abbrev Below : List ℕ → Type 0
-Below l = (k : ℕ) → getD l k 0 < 256
+abbrev Shorter : List ℕ → Type 0
+Shorter l = (k : ℕ) → getD l k 0 < 256
 
 -- two lists of bytes in one are bytes
-below-append : (l k : List ℕ) → Below l → Below k → Below (l ++ k)
+below-append : (l k : List ℕ) → Shorter l → Shorter k → Shorter (l ++ k)
 below-append [] k u v i = v i
 below-append (x ∷ l) k u v zero = u zero
 below-append (x ∷ l) k u v (suc i) = below-append l k (λ j. u (suc j)) v i
 
 -- four numbers below 256 are bytes
-below-four : {a b c d : ℕ} → a < 256 → b < 256 → c < 256 → d < 256 → Below (a ∷ b ∷ c ∷ d ∷ [])
+below-four : {a b c d : ℕ} → a < 256 → b < 256 → c < 256 → d < 256 → Shorter (a ∷ b ∷ c ∷ d ∷ [])
 below-four p q r s zero = p
 below-four p q r s (suc zero) = q
 below-four p q r s (suc (suc zero)) = r
@@ -48,7 +48,7 @@ pub record FourAt (l : List ℕ) (j : ℕ) (m : List ℕ) : Type 0 where
 
 module _ {A : Type 0} (f : A → List ℕ) where
   -- what is joined of bytes is bytes
-  joined-below : (xs : List A) → ((x : A) → In x xs → Below (f x)) → Below (joined f xs)
+  joined-below : (xs : List A) → ((x : A) → In x xs → Shorter (f x)) → Shorter (joined f xs)
   unfolding joined
   joined-below [] h = λ k. omega arith
   joined-below (x ∷ xs) h = below-append (f x) (joined f xs) (h x (here refl)) (joined-below xs (λ y i. h y (there i)))
@@ -96,7 +96,7 @@ pair-four h level = four-at (pairBytes h level) (λ p. refl) noPair (pairs h lev
 
 module _ {h : History} (ok : LawfulHistory h) where
   -- a transaction is below 128, a kind at most 6, and an operation number at most 1,024
-  finding-below : (i : ℕ) → Finding h i → Below (findingBytes h i)
+  finding-below : (i : ℕ) → Finding h i → Shorter (findingBytes h i)
   unfolding findingBytes
   finding-below i x =
       let j = x .judged in
@@ -123,7 +123,7 @@ module _ {h : History} (ok : LawfulHistory h) where
 
   module _ {level : ℕ} (low : 1 ≤ level) (high : level ≤ 3) where
     -- transactions are below 128, and reasons sum up to 15 at most
-    pair-below : (p : Pair) → In p (pairs h level) → Below (pairBytes h level p)
+    pair-below : (p : Pair) → In p (pairs h level) → Shorter (pairBytes h level p)
     unfolding pairBytes
     pair-below p i =
         let m = listed-members ok low high (pairs-are ok low high .entries p .0 i) in
@@ -168,7 +168,7 @@ module _ {A : Type 0} {At : List ℕ → ℕ → A → Type 0} {d : A} {xs : Lis
           by e q = ap (λ (n : ℕ). getD l n 0) e ∙ q ∙ ap (λ (n : ℕ). getD k n 0) (sym e)
 
 -- two bytes that spell one number are the same
-bytes-one : (l k : List ℕ) (n : ℕ) → Below l → Below k → le 2 l n ≡ le 2 k n → (getD l n 0 ≡ getD k n 0) × (getD l (n + 1) 0 ≡ getD k (n + 1) 0)
+bytes-one : (l k : List ℕ) (n : ℕ) → Shorter l → Shorter k → le 2 l n ≡ le 2 k n → (getD l n 0 ≡ getD k n 0) × (getD l (n + 1) 0 ≡ getD k (n + 1) 0)
 unfolding le
 bytes-one l k n u v e = (omega (arith, u n, v n, u (n + 1), v (n + 1)), omega (arith, u n, v n, u (n + 1), v (n + 1)))
 

@@ -155,7 +155,7 @@ module _ {A : Type 0} (p : ℕ → Bool) (f : ℕ → A) where
       ifso (p i) (λ t. rw (pick-on (p i) (f i ∷ []) [] t) (next (λ y j. absurd (in-none j)) none)) (λ t. rw (pick-off (p i) (f i ∷ []) [] t) none)
 
   -- x is what f gives for one of them
-  pub record Kept (a e : ℕ) (x : A) : Type 0 where
+  pub record KeptEntry (a e : ℕ) (x : A) : Type 0 where
     pub at : ℕ
     pub from : a ≤ at
     pub to : at < e
@@ -163,7 +163,7 @@ module _ {A : Type 0} (p : ℕ → Bool) (f : ℕ → A) where
     pub is : x ≡ f at
 
   -- the entries of such a listing
-  pub kept-iff : (e a : ℕ) (x : A) → In x (listed a e kept) ↔ Kept a e x
+  pub kept-iff : (e a : ℕ) (x : A) → In x (listed a e kept) ↔ KeptEntry a e x
   kept-iff e a x = (
     λ i.
         let m = listed-iff kept e a x .0 i in

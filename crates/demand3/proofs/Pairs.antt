@@ -18,7 +18,7 @@ use Rattle.demand2.specs.Axiom.{Member, Shows}
 use Rattle.demand2.proofs.Pairs.{forced-apart, forces}
 use Rattle.demand2.proofs.Accepted.{pairs-iff, no-pairs-iff}
 use Rattle.demand3.specs.Forced.{Way, one, more, IsForced, ListedPair}
-use Rattle.demand3.specs.Lists.{In, Before, by-first, by-second, Pairs}
+use Rattle.demand3.specs.Lists.{In, PairBefore, by-first, by-second, Pairs}
 use Rattle.demand3.proofs.Entries.{listed-iff as among-iff, listed-ascends, ascending-one, kept, kept-iff, kept-all-ascend}
 use Rattle.demand3.proofs.Forced.{leads-way, way-leads, forced-iff}
 
@@ -50,7 +50,7 @@ abbrev pair : ℕ → ℕ → Pair
 pair a b = record { one = a; two = b }
 
 -- it has one order
-before-never : (p q : Pair) → Before p q → Before q p → ⊥
+before-never : (p q : Pair) → PairBefore p q → PairBefore q p → ⊥
 before-never p q (by-first l) (by-first k) = omega arith
 before-never p q (by-first l) (by-second e k) = omega arith
 before-never p q (by-second e l) (by-first k) = omega arith
@@ -114,8 +114,8 @@ module _ {h : History} (ok : LawfulHistory h) {level : ℕ} (low : 1 ≤ level) 
               λ l. m .1 (record { at = p .one; from = omega arith; to = listed-members l .0 .below; is = pairsOf-in l }),
             );
         ascend =
-            listed-ascends Before (pairsOf h level) (size h) 0
-            (λ a. rw (pairsOf-is a) (kept-all-ascend (test a) (pair a) Before (size h) 0 (λ i j l. by-second refl l)))
+            listed-ascends PairBefore (pairsOf h level) (size h) 0
+            (λ a. rw (pairsOf-is a) (kept-all-ascend (test a) (pair a) PairBefore (size h) 0 (λ i j l. by-second refl l)))
             (λ i j x y l u v. by-first (omega (arith, pairsOf-at i u .0, pairsOf-at j v .0)));
       }
 
@@ -135,4 +135,4 @@ module _ {h : History} (ok : LawfulHistory h) {level : ℕ} (low : 1 ≤ level) 
 
 -- no other list is that
 pub pairs-one : {h : History} {level : ℕ} {l k : List Pair} → Pairs h level l → Pairs h level k → l ≡ k
-pairs-one x y = ascending-one Before before-never (x .ascend) (y .ascend) (x .entries) (y .entries)
+pairs-one x y = ascending-one PairBefore before-never (x .ascend) (y .ascend) (x .entries) (y .entries)

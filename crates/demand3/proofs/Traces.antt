@@ -12,7 +12,7 @@ use Rattle.rules.specs.History.{History}
 use Rattle.rules.specs.Reading.{Stretch, Reading, refused, read, reading}
 use Rattle.rules.specs.Outcome.{Pair, findings, pairs, findingList, pairList, order, isEmpty, isAccepted, declines, rejects, accepts, Report, rejecting, Outcome, outcome, acceptance, rejection, judgedRead, judged}
 use Rattle.demand1.specs.Lawful.{LawfulHistory}
-use Rattle.demand1.specs.Rows.{Reads}
+use Rattle.demand1.specs.Rows.{ReadInto}
 use Rattle.demand1.proofs.Lawful.{lawful-history}
 use Rattle.demand1.proofs.Readings.{reads-iff}
 use Rattle.demand1.proofs.Judged.{judged-level, judged-no-level, judged-refused, judged-accepted, judged-rejected, acceptance-short, acceptance-fits, rejection-short, rejection-short-pairs, rejection-fits}
@@ -106,7 +106,7 @@ module _ (s : List ℕ) (level : ℕ) (fs ps os : List ℕ) where
   -- an outcome that is no rejection, or one of a history with a fault whose lists fit
   data Came : Outcome → Type 0 where
     other : {o : Outcome} → (o .report .verdict ≡ rejects → ⊥) → Came o
-    rejected : {h : History} {notes : List Stretch} → 1 ≤ level → level ≤ 3 → Reads s h notes → isAccepted h level ≡ false
+    rejected : {h : History} {notes : List Stretch} → 1 ≤ level → level ≤ 3 → ReadInto s h notes → isAccepted h level ≡ false
         → length (findingList h) ≤ length fs → length (pairList h level) ≤ length ps
         → Came (outcome (rejecting (length (findings h)) (length (pairs h level))) (over (findingList h) fs) (over (pairList h level) ps) os)
 
@@ -118,7 +118,7 @@ module _ (s : List ℕ) (level : ℕ) (fs ps os : List ℕ) where
         (split (length os) (length (order h level)))
 
     -- a rejection does where both lists fit
-    came-rejected : {h : History} {notes : List Stretch} → Reads s h notes → isAccepted h level ≡ false → Came (rejection h level fs ps os)
+    came-rejected : {h : History} {notes : List Stretch} → ReadInto s h notes → isAccepted h level ≡ false → Came (rejection h level fs ps os)
     came-rejected {h} r t =
         ⊎-elim (λ l. rw (rejection-short s level fs ps os h l) (other declines-apart))
         (λ g.

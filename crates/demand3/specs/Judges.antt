@@ -6,7 +6,7 @@ use lib.ListN.{length}
 use Rattle.rules.specs.History.{History}
 use Rattle.rules.specs.Reading.{Stretch}
 use Rattle.rules.specs.Outcome.{Verdict, declines, rejecting, Outcome, judged}
-use Rattle.demand1.specs.Rows.{Reads}
+use Rattle.demand1.specs.Rows.{ReadInto}
 use Rattle.demand3.specs.Rejected.{Faults}
 
 -- a trace, a level and what the three buffers hold give an outcome
@@ -47,7 +47,7 @@ module _ (J : Judge) where
     pub os : List ℕ
     pub history : History
     pub notes : List Stretch
-    pub reads : Reads bytes history notes
+    pub reads : ReadInto bytes history notes
     pub f : ℕ
     pub p : ℕ
     pub says : J bytes level fs ps os .report ≡ rejecting f p

@@ -33,14 +33,14 @@ pub record Findings (h : History) (l : List ℕ) : Type 0 where
   pub ascend : Ascends _<_ l
 
 -- by first and then second
-pub data Before (p q : Pair) : Type 0 where
-  by-first : p .one < q .one → Before p q
-  by-second : p .one ≡ q .one → p .two < q .two → Before p q
+pub data PairBefore (p q : Pair) : Type 0 where
+  by-first : p .one < q .one → PairBefore p q
+  by-second : p .one ≡ q .one → p .two < q .two → PairBefore p q
 
 -- the listed pairs
 pub record Pairs (h : History) (level : ℕ) (l : List Pair) : Type 0 where
   pub entries : (p : Pair) → In p l ↔ ListedPair h level (p .one) (p .two)
-  pub ascend : Ascends Before l
+  pub ascend : Ascends PairBefore l
 
 -- ── bytes ──
 

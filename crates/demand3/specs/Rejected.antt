@@ -7,7 +7,7 @@ use Rattle.rules.specs.Numbers.{over}
 use Rattle.rules.specs.History.{History}
 use Rattle.rules.specs.Reading.{Stretch}
 use Rattle.rules.specs.Outcome.{Pair, Outcome}
-use Rattle.demand1.specs.Rows.{Reads}
+use Rattle.demand1.specs.Rows.{ReadInto}
 use Rattle.demand3.specs.Forced.{ListedPair}
 use Rattle.demand3.specs.Lists.{Finding, Findings, Pairs, FindingBytes, PairBytes}
 
@@ -38,7 +38,7 @@ pub record RejectsTrace (s : List ℕ) (level f p n m : ℕ) : Type 0 where
   pub high : level ≤ 3
   pub history : History
   pub notes : List Stretch
-  pub reads : Reads s history notes
+  pub reads : ReadInto s history notes
   pub rejects : Rejects history level f p n m
 
 -- "only the two lists are written", of these findings and pairs; fs, ps and os are what the buffers held before

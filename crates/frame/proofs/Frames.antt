@@ -15,7 +15,7 @@ use Rattle.rules.specs.Records.{lenAt, kindAt, nextAt, lows, highs, eventAt, br
 use Rattle.rules.specs.declared.Event.{Event}
 use Rattle.frame.specs.Framing.{Fit, framing}
 use Rattle.frame.specs.declared.Framed.the-variants as F
-use Rattle.frame.proofs.Rows.{fit-past, fit-here, fit-unfit, Counted, fit-behind}
+use Rattle.frame.proofs.Rows.{fit-past, fit-here, fit-unfit, RowsCounted, fit-behind}
 
 or-off-left : (a b : Bool) → a or b ≡ false → a ≡ false
 unfolding _or_
@@ -154,8 +154,8 @@ module _ (s : List ℕ) (at e : ℕ) where
   good-fit h = fit (is-good h .0)
 
   -- rows behind those of the framing: where it passed they decide, where not they do not matter
-  counted : Counted (frameRows s at e)
-  unfolding frameRows Counted
+  counted : RowsCounted (frameRows s at e)
+  unfolding frameRows RowsCounted
   counted = (omega arith, (omega arith, (omega arith, (omega arith, (omega arith, (omega arith, tt))))))
 
   pub behind : (k : List Row) → firstFit (frameRows s at e) ≡ 0 → firstFit (frameRows s at e ++ k) ≡ firstFit k

@@ -35,12 +35,12 @@ fit-append (row true n ∷ l) k h = refl
 fit-append (row false n ∷ l) k h = fit-append l k h
 
 -- where none does, and no number is 0, they decide
-unfoldable pub Counted : List Row → Type 0
-Counted [] = Unit
-Counted (row b n ∷ rs) = (1 ≤ n) × Counted rs
+unfoldable pub RowsCounted : List Row → Type 0
+RowsCounted [] = Unit
+RowsCounted (row b n ∷ rs) = (1 ≤ n) × RowsCounted rs
 
-pub fit-behind : (l k : List Row) → Counted l → firstFit l ≡ 0 → firstFit (l ++ k) ≡ firstFit k
-unfolding firstFit Counted
+pub fit-behind : (l k : List Row) → RowsCounted l → firstFit l ≡ 0 → firstFit (l ++ k) ≡ firstFit k
+unfolding firstFit RowsCounted
 fit-behind [] k c h = refl
 fit-behind (row true n ∷ l) k c h = absurd (omega (arith, c .0))
 fit-behind (row false n ∷ l) k c h = fit-behind l k (c .1) h

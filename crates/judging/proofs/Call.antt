@@ -11,8 +11,8 @@ use Rattle.rules.specs.declared.Answer.the-variants.{Refused}
 use Rattle.table.specs.Table.{historyOf}
 use Rattle.trace.specs.declared.Out.{Out}
 use Rattle.trace.specs.declared.Out.the-variants.{Good, Bad}
-use Rattle.trace.specs.Trace.{good, answered, Reads}
-use Rattle.judging.specs.Judging.{Decides}
+use Rattle.trace.specs.Trace.{good, answered, TraceRead}
+use Rattle.judging.specs.Judging.{OnReading}
 use Rattle.judging.proofs.Cases.{judged-level, judged-refused}
 
 -- the reading q, to which the answer is r
@@ -22,17 +22,17 @@ module _ (level : ℕ) (f p o : List ℕ) (k : ℕ) where
   when-refused n at (refused m b) e = let x : n ≡ m = cc in let y : at ≡ b = cc in rw (x, y) (sym (judged-refused level f p o m b))
   when-refused n at (read h notes) e = let z : _≡_ {A = ℕ} 0 1 = cc in absurd (omega arith)
 
-  when-read : (x y z : ℕ) {g : History} {r : Answer} {f2 p2 o2 : List ℕ} → Decides g level f p o f2 p2 o2 r → (q : Reading) → Good x y z ≡ answered k q
+  when-read : (x y z : ℕ) {g : History} {r : Answer} {f2 p2 o2 : List ℕ} → OnReading g level f p o f2 p2 o2 r → (q : Reading) → Good x y z ≡ answered k q
       → ((h : History) (notes : List Stretch) → q ≡ read h notes → g ≡ h) → outcome (reported r) f2 p2 o2 ≡ judgedRead q level f p o
   unfolding answered
   when-read x y z d (refused m b) e w = let z : _≡_ {A = ℕ} 0 1 = cc in absurd (omega arith)
   when-read x y z d (read h notes) e w = rw (← w h notes refl) (d .is notes)
 
-module _ {s g g0 : List ℕ} {r : Out} {k : ℕ} (w : Reads r g g0 s k) {level : ℕ} (a : 1 ≤ level) (b : level ≤ 3) (f p o : List ℕ) where
+module _ {s g g0 : List ℕ} {r : Out} {k : ℕ} (w : TraceRead r g g0 s k) {level : ℕ} (a : 1 ≤ level) (b : level ≤ 3) (f p o : List ℕ) where
   pub call-refused : (n at : ℕ) → r ≡ Bad n at → outcome (reported (Refused n at)) f p o ≡ judged s level f p o
   unfolding reported
   call-refused n at e = when-refused level f p o k n at (reading s) (sym e ∙ w .is) ∙ sym (judged-level s level f p o a b)
 
-  pub call-read : (x y z : ℕ) → r ≡ Good x y z → {v : Answer} {f2 p2 o2 : List ℕ} → Decides (historyOf g) level f p o f2 p2 o2 v
+  pub call-read : (x y z : ℕ) → r ≡ Good x y z → {v : Answer} {f2 p2 o2 : List ℕ} → OnReading (historyOf g) level f p o f2 p2 o2 v
       → outcome (reported v) f2 p2 o2 ≡ judged s level f p o
   call-read x y z e d = when-read level f p o k x y z d (reading s) (sym e ∙ w .is) (w .history) ∙ sym (judged-level s level f p o a b)

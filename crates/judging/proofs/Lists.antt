@@ -16,7 +16,7 @@ use Rattle.lists.specs.Lists.{pairCount, pairsIn, Judging}
 use Rattle.lists.proofs.Findings.{findings-four}
 use Rattle.lists.proofs.Levels.{pairs-four, told-pairs, told-count}
 use Rattle.judging.specs.declared.Counts.{Counts}
-use Rattle.judging.specs.Judging.{Counted, Accepts, Rejects, Decides}
+use Rattle.judging.specs.Judging.{Counted, OnAcceptance, OnRejection, OnReading}
 use Rattle.judging.proofs.Cases.{appended-over, rejection-short, rejection-short-pairs, rejection-fits, read-accepted, read-found, read-listed}
 
 -- x: the number of transactions
@@ -42,12 +42,12 @@ module _ {h k f c v : List ℕ} {n : Counts} (m : Counted h f c n) (level : ℕ)
   -- ── rejection, with buffers fo and po ──
 
   module _ (fo po : List ℕ) where
-    pub reject-findings : length fo < 4 * n .findings → Rejects H level fo po fo po (Refused 12 (4 * n .findings))
+    pub reject-findings : length fo < 4 * n .findings → OnRejection H level fo po fo po (Refused 12 (4 * n .findings))
     unfolding reported
     reject-findings l = record { is = λ o. rw findings-bytes (sym (rejection-short H level fo po o (omega (arith, findings-bytes)))) }
 
     module _ (l : 4 * n .findings ≤ length fo) where
-      pub reject-pairs : length po < 4 * n .pairs → Rejects H level fo po fo po (Refused 13 (4 * n .pairs))
+      pub reject-pairs : length po < 4 * n .pairs → OnRejection H level fo po fo po (Refused 13 (4 * n .pairs))
       unfolding reported
       reject-pairs l2 =
           record {
@@ -58,7 +58,7 @@ module _ {h k f c v : List ℕ} {n : Counts} (m : Counted h f c n) (level : ℕ)
           }
 
       pub reject-fits : 4 * n .pairs ≤ length po → {fo2 po2 : List ℕ} {a b : ℕ} → Appended fo 0 fo2 a (findingList H) → Appended po 0 po2 b (pairsIn H f c v)
-          → Rejects H level fo po fo2 po2 (Rejected (n .findings) (n .pairs))
+          → OnRejection H level fo po fo2 po2 (Rejected (n .findings) (n .pairs))
       unfolding reported
       reject-fits l2 x y =
           record {
@@ -71,13 +71,13 @@ module _ {h k f c v : List ℕ} {n : Counts} (m : Counted h f c n) (level : ℕ)
   -- ── "Accepted: no finding and no listed pair" ──
 
   module _ {fo po oo : List ℕ} {r : Answer} where
-    pub decide-accepts : n .findings + n .pairs ≡ 0 → {oo2 : List ℕ} → Accepts H level oo oo2 r → Decides H level fo po oo fo po oo2 r
+    pub decide-accepts : n .findings + n .pairs ≡ 0 → {oo2 : List ℕ} → OnAcceptance H level oo oo2 r → OnReading H level fo po oo fo po oo2 r
     decide-accepts e a =
         record {
           is = λ notes. a .is fo po ∙ sym (read-accepted H level fo po oo notes (omega (arith, m .found)) (omega (arith, pairs-count)));
         }
 
-    pub decide-rejects : (n .findings + n .pairs ≡ 0 → ⊥) → {fo2 po2 : List ℕ} → Rejects H level fo po fo2 po2 r → Decides H level fo po oo fo2 po2 oo r
+    pub decide-rejects : (n .findings + n .pairs ≡ 0 → ⊥) → {fo2 po2 : List ℕ} → OnRejection H level fo po fo2 po2 r → OnReading H level fo po oo fo2 po2 oo r
     decide-rejects e a =
         record {
           is =

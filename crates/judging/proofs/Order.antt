@@ -20,7 +20,7 @@ use Rattle.order.specs.declared.Words.{Words}
 use Rattle.order.specs.Sets.{inWords, Gathered}
 use Rattle.order.specs.Ordering.{standsBefore}
 use Rattle.order.proofs.Sets.{gather-end}
-use Rattle.judging.specs.Judging.{Accepts}
+use Rattle.judging.specs.Judging.{OnAcceptance}
 use Rattle.judging.proofs.Cases.{appended-over, acceptance-short, acceptance-fits}
 
 -- ── a front that is copied byte by byte ──
@@ -49,11 +49,11 @@ module _ {h : List ℕ} {x : ℕ} (p : Held h) (e : x ≡ txCount (historyOf h))
       as-long : n ≡ length (order (historyOf h) level)
       as-long = omega (arith, s .end, ap length order-is)
 
-      pub accept-short : length o < n → Accepts (historyOf h) level o o (Refused 14 n)
+      pub accept-short : length o < n → OnAcceptance (historyOf h) level o o (Refused 14 n)
       unfolding reported
       accept-short l = record { is = λ fs ps. rw as-long (sym (acceptance-short (historyOf h) level fs ps o (omega (arith, as-long)))) }
 
-      pub accept-fits : n ≤ length o → {o2 : List ℕ} → Appended o 0 o2 n (take n b) → Accepts (historyOf h) level o o2 (Accepted n)
+      pub accept-fits : n ≤ length o → {o2 : List ℕ} → Appended o 0 o2 n (take n b) → OnAcceptance (historyOf h) level o o2 (Accepted n)
       unfolding reported
       accept-fits l {o2} y =
           let shown : take n b ≡ order (historyOf h) level = appended-front s ∙ order-is in

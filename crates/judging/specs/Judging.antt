@@ -37,13 +37,13 @@ pub record Counted (h f c : List ℕ) (n : Counts) : Type 0 where
 -- ── what is answered ──
 
 -- on acceptance: the answer r, and the order's buffer o, which became o2; the lists' buffers stay, whatever they hold
-pub record Accepts (h : History) (level : ℕ) (o o2 : List ℕ) (r : Answer) : Type 0 where
+pub record OnAcceptance (h : History) (level : ℕ) (o o2 : List ℕ) (r : Answer) : Type 0 where
   pub is : (f p : List ℕ) → outcome (reported r) f p o2 ≡ acceptance h level f p o
 
 -- on rejection: the answer r, and the lists' buffers f and p, which became f2 and p2; the order's buffer stays
-pub record Rejects (h : History) (level : ℕ) (f p f2 p2 : List ℕ) (r : Answer) : Type 0 where
+pub record OnRejection (h : History) (level : ℕ) (f p f2 p2 : List ℕ) (r : Answer) : Type 0 where
   pub is : (o : List ℕ) → outcome (reported r) f2 p2 o ≡ rejection h level f p o
 
 -- on either, of a trace that was read
-pub record Decides (h : History) (level : ℕ) (f p o f2 p2 o2 : List ℕ) (r : Answer) : Type 0 where
+pub record OnReading (h : History) (level : ℕ) (f p o f2 p2 o2 : List ℕ) (r : Answer) : Type 0 where
   pub is : (notes : List Stretch) → outcome (reported r) f2 p2 o2 ≡ judgedRead (read h notes) level f p o

@@ -12,7 +12,7 @@ ghost use Rattle.bits.specs.Bits.{bitOf, Holds, Under};
 ghost use Rattle.order.specs.Sets.{Gathered};
 ghost use Rattle.pairs.specs.Pairs.{Ready, before};
 ghost use Rattle.lists.specs.Lists.{Tables, Listing, Judging};
-ghost use Rattle.judging.specs.Judging.{Known, AtLevel, Counted, Accepts, Rejects, Decides};
+ghost use Rattle.judging.specs.Judging.{Known, AtLevel, Counted, OnAcceptance, OnRejection, OnReading};
 use order::Words;
 use rules::Answer;
 use trace::Out;
@@ -65,7 +65,7 @@ fn copy(from: &[u8], n: usize, to: &mut [u8])
 // The order is worked out beside the caller's buffer, so that one that is too short is not touched: "on acceptance only, 14".
 fn accept(h: &[u64], f: &[u64; 256], out: &mut [u8]) -> Answer
     requires { ⌜ Held (now h) × Under (size (historyOf (now h))) (now f) ⌝ }
-    ensures { λ r. ⌜ ((level : ℕ) → Holds (now (f .entry)) (before (forced (historyOf (now (h .entry))) level)) → Accepts (historyOf (now (h .entry))) level (now (out .entry)) (now (out .exit)) r) ⌝ }
+    ensures { λ r. ⌜ ((level : ℕ) → Holds (now (f .entry)) (before (forced (historyOf (now (h .entry))) level)) → OnAcceptance (historyOf (now (h .entry))) level (now (out .entry)) (now (out .exit)) r) ⌝ }
 {
     let mut shown = [0u8; 128];
     let n = order::order_all(f, table::txs(h) + 1, members(h), &mut shown);
@@ -108,7 +108,7 @@ fn reject(
     pairs: &mut [u8],
 ) -> Answer
     requires { ⌜ Listing (now h) (now k) (now f) (now c) (now v) × Counted (now h) (now f) (now c) n ⌝ }
-    ensures { λ r. ⌜ ((level : ℕ) → Judging (now (h .entry)) (now (k .entry)) (now (f .entry)) (now (c .entry)) (now (v .entry)) level → Rejects (historyOf (now (h .entry))) level (now (findings .entry)) (now (pairs .entry)) (now (findings .exit)) (now (pairs .exit)) r) ⌝ }
+    ensures { λ r. ⌜ ((level : ℕ) → Judging (now (h .entry)) (now (k .entry)) (now (f .entry)) (now (c .entry)) (now (v .entry)) level → OnRejection (historyOf (now (h .entry))) level (now (findings .entry)) (now (pairs .entry)) (now (findings .exit)) (now (pairs .exit)) r) ⌝ }
 {
     if findings.len() < 4 * n.findings {
         return Answer::Refused(12, 4 * n.findings);
@@ -135,7 +135,7 @@ fn decide(
     order: &mut [u8],
 ) -> Answer
     requires { ⌜ Listing (now h) (now k) (now f) (now c) (now v) × Under (size (historyOf (now h))) (now f) ⌝ }
-    ensures { λ r. ⌜ ((level : ℕ) → Judging (now (h .entry)) (now (k .entry)) (now (f .entry)) (now (c .entry)) (now (v .entry)) level → Decides (historyOf (now (h .entry))) level (now (findings .entry)) (now (pairs .entry)) (now (order .entry)) (now (findings .exit)) (now (pairs .exit)) (now (order .exit)) r) ⌝ }
+    ensures { λ r. ⌜ ((level : ℕ) → Judging (now (h .entry)) (now (k .entry)) (now (f .entry)) (now (c .entry)) (now (v .entry)) level → OnReading (historyOf (now (h .entry))) level (now (findings .entry)) (now (pairs .entry)) (now (order .entry)) (now (findings .exit)) (now (pairs .exit)) (now (order .exit)) r) ⌝ }
 {
     let n = count(h, k, f, c);
     if n.findings + n.pairs == 0 {
@@ -217,7 +217,7 @@ fn judge_history(
     order: &mut [u8],
 ) -> Answer
     requires { ⌜ Held (now h) × (1 ≤ level) × (level ≤ 3) ⌝ }
-    ensures { λ r. ⌜ Decides (historyOf (now (h .entry))) level (now (findings .entry)) (now (pairs .entry)) (now (order .entry)) (now (findings .exit)) (now (pairs .exit)) (now (order .exit)) r ⌝ }
+    ensures { λ r. ⌜ OnReading (historyOf (now (h .entry))) level (now (findings .entry)) (now (pairs .entry)) (now (order .entry)) (now (findings .exit)) (now (pairs .exit)) (now (order .exit)) r ⌝ }
 {
     let mut k = [0u8; 1025];
     reads::classify(h, &mut k);

@@ -12,11 +12,11 @@ use Rattle.rules.specs.declared.NoteAnswer.{NoteAnswer}
 use Rattle.rules.specs.declared.NoteAnswer.the-variants.{Refused, Text}
 use Rattle.trace.specs.declared.Out.{Out}
 use Rattle.trace.specs.declared.Out.the-variants.{Good, Bad}
-use Rattle.trace.specs.Trace.{Reads}
+use Rattle.trace.specs.Trace.{TraceRead}
 use Rattle.trace.proofs.Answers.{read-bad, read-good}
 use Rattle.notes.proofs.Within.{noted-in}
 
-module _ {r : Out} {g g₀ s : List ℕ} {k : ℕ} (x : Reads r g g₀ s k) where
+module _ {r : Out} {g g₀ s : List ℕ} {k : ℕ} (x : TraceRead r g g₀ s k) where
   pub asked-refused : {n p : ℕ} → r ≡ Bad n p → told (Refused n p) ≡ noted s k
   unfolding told noted notedRead
   asked-refused q = rw (read-bad x q)

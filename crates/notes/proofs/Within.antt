@@ -20,22 +20,22 @@ use Rattle.trace.proofs.Turning.{fit-at}
 -- ── stretches ──
 
 -- the stretch x lies within n bytes; so does each of these, and the empty one that stands for a note that is not there
-abbrev In : ℕ → Stretch → Type 0
-In n x = x .start + x .length ≤ n
+abbrev EndsBy : ℕ → Stretch → Type 0
+EndsBy n x = x .start + x .length ≤ n
 
 pub record AllIn (n : ℕ) (notes : List Stretch) : Type 0 where
-  pub at : (k : ℕ) → In n (nth notes k nowhere)
+  pub at : (k : ℕ) → EndsBy n (nth notes k nowhere)
 
 none-in : (n : ℕ) → AllIn n []
-none-in n = record { at = λ k. subst (In n) (sym (nth-none k)) (omega arith) }
+none-in n = record { at = λ k. subst (EndsBy n) (sym (nth-none k)) (omega arith) }
 
-one-in : (n : ℕ) (b : Bool) (x y : Stretch) → In n x → In n y → In n (pick b x y)
+one-in : (n : ℕ) (b : Bool) (x y : Stretch) → EndsBy n x → EndsBy n y → EndsBy n (pick b x y)
 unfolding pick
 one-in n true x y p q = p
 one-in n false x y p q = q
 
-more-in : {n : ℕ} {l : List Stretch} (x : Stretch) → AllIn n l → In n x → AllIn n (l ++ (x ∷ []))
-more-in {n} {l} x a p = record { at = λ k. subst (In n) (sym (nth-more l x k)) (one-in n _ x (nth l k nowhere) p (a .at k)) }
+more-in : {n : ℕ} {l : List Stretch} (x : Stretch) → AllIn n l → EndsBy n x → AllIn n (l ++ (x ∷ []))
+more-in {n} {l} x a p = record { at = λ k. subst (EndsBy n) (sym (nth-more l x k)) (one-in n _ x (nth l k nowhere) p (a .at k)) }
 
 -- behind a record that lies within the trace
 text-in : (s : List ℕ) (at : ℕ) (l : List Stretch) → Fit s at → AllIn (length s) l → (e : Event) → AllIn (length s) (l ++ textAt s at e)
@@ -84,7 +84,7 @@ all-in s {h} {notes} q = kept-pick s _ _ _ (λ t. kept-refused s _ _) (λ t. kep
 
 -- ── what is handed back ──
 
-handed-in : (n : ℕ) (b : Bool) (x : Stretch) → In n x → In n (pick b (handed x) (declined 15 0) .stretch)
+handed-in : (n : ℕ) (b : Bool) (x : Stretch) → EndsBy n x → EndsBy n (pick b (handed x) (declined 15 0) .stretch)
 unfolding pick
 handed-in n true x p = p
 handed-in n false x p = omega arith
@@ -93,6 +93,6 @@ pub noted-in : (s : List ℕ) (k : ℕ) → noted s k .stretch .start + noted s 
 unfolding noted notedRead
 noted-in s k = go (reading s) refl
   where
-    go : (r : Reading) → reading s ≡ r → In (length s) (notedRead r k .stretch)
+    go : (r : Reading) → reading s ≡ r → EndsBy (length s) (notedRead r k .stretch)
     go (refused n p) q = omega arith
     go (read h notes) q = handed-in (length s) (isNote notes k) (nth notes k nowhere) (all-in s q .at k)

@@ -13,7 +13,7 @@ use Rattle.base.proofs.Chains.{last-passes, top-hit, top-miss, top-chain}
 use Rattle.rules.specs.History.{History, op, opCount}
 use Rattle.rules.specs.Reads.{writesAt, wroteBetween}
 use Rattle.table.specs.Table.{ofTx, lastBelow, lastOf, prevOf}
-use Rattle.reads.specs.Verdicts.{writesKey, wroteUpTo}
+use Rattle.reads.specs.Verdicts.{writesKeyAt, wroteUpTo}
 
 -- t writes by its own operations only
 writes-own : (h : History) (t x i : ℕ) → writesAt h t x i ≡ true → ofTx h t i ≡ true
@@ -25,8 +25,8 @@ unfolding _and_
 and-middle true b c e = rw e
 and-middle false b c e = refl
 
-own-key : (h : History) (x i : ℕ) → writesAt h (op h i .tx) x i ≡ writesKey h x i
-unfolding writesAt writesKey
+own-key : (h : History) (x i : ℕ) → writesAt h (op h i .tx) x i ≡ writesKeyAt h x i
+unfolding writesAt writesKeyAt
 own-key h x i = and-middle (op h i .isWrite) (eqb (op h i .tx) (op h i .tx)) (eqb (op h i .key) x) (eq-eqb (op h i .tx) (op h i .tx) refl)
 
 -- what t writes below e it writes up to its last operation below e, number j
@@ -57,11 +57,11 @@ module _ (h : History) (x a : ℕ) where
   wrote-after t j q = wrote-below h t x a (opCount h + 1) j q
 
   -- one step: operation i writes x; it does not; no operation is left
-  pub up-to-hit : (i : ℕ) → a < i → writesKey h x i ≡ true → wroteUpTo h x a i ≡ true
+  pub up-to-hit : (i : ℕ) → a < i → writesKeyAt h x i ≡ true → wroteUpTo h x a i ≡ true
   unfolding wroteUpTo wroteBetween
   up-to-hit i l e = top-hit (writesAt h (op h i .tx) x) (a + 1) i (omega arith) (own-key h x i ∙ e)
 
-  pub up-to-miss : (i j : ℕ) → writesKey h x i ≡ false → j ≡ prevOf h i → wroteUpTo h x a i ≡ wroteUpTo h x a j
+  pub up-to-miss : (i j : ℕ) → writesKeyAt h x i ≡ false → j ≡ prevOf h i → wroteUpTo h x a i ≡ wroteUpTo h x a j
   unfolding wroteUpTo wroteBetween
   up-to-miss i j e q = top-miss (writesAt h (op h i .tx) x) (a + 1) i (own-key h x i ∙ e) ∙ wrote-before i j q
 

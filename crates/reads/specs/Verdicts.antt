@@ -11,8 +11,8 @@ use Rattle.rules.specs.History.{History, op, opCount}
 use Rattle.rules.specs.Reads.{wroteBetween, sourceOf, kindOf, isFinding, isExternal}
 
 -- operation i is a write of the key x
-unfoldable pub writesKey : History → ℕ → ℕ → Bool
-writesKey h x i = op h i .isWrite and eqb (op h i .key) x
+unfoldable pub writesKeyAt : History → ℕ → ℕ → Bool
+writesKeyAt h x i = op h i .isWrite and eqb (op h i .key) x
 
 -- operation j's transaction writes x above operation a, by j or an earlier operation
 unfoldable pub wroteUpTo : History → ℕ → ℕ → ℕ → Bool

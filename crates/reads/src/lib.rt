@@ -4,7 +4,7 @@ ghost use lib.ListN.{length};
 ghost use Rattle.rules.specs.History.{op, txCount, opCount, committed};
 ghost use Rattle.rules.specs.Reads.{wroteBetween, originOf, sourceOf, kindBy, kindOf};
 ghost use Rattle.table.specs.Table.{historyOf, Held, HasTx, HasOp, Below};
-ghost use Rattle.reads.specs.Verdicts.{writesKey, wroteUpTo, verdictOf, Classified};
+ghost use Rattle.reads.specs.Verdicts.{writesKeyAt, wroteUpTo, verdictOf, Classified};
 
 // The six kinds of unclean reads. A clean read has the kind 0.
 const THIN_AIR: u8 = 1;
@@ -36,7 +36,7 @@ pub fn is_committed(h: &[u64], t: usize) -> bool
 // Whether operation i is a write of x.
 fn writes_key(h: &[u64], x: u64, i: usize) -> bool
     requires { ⌜ HasOp (now h) i ⌝ }
-    ensures { λ r. ⌜ r ≡ writesKey (historyOf (now (h .entry))) x i ⌝ }
+    ensures { λ r. ⌜ r ≡ writesKeyAt (historyOf (now (h .entry))) x i ⌝ }
 {
     if !table::is_write(h, i) {
         return false;

@@ -170,10 +170,10 @@ notes =
     ∷ asked (noteful ++ (7 ∷ [])) 1 (declined 11 47)
     ∷ []
 
-abbrev pub answered : Asked → Asked
-answered c = asked (c .bytes) (c .k) (noted (c .bytes) (c .k))
+abbrev pub notesAnswered : Asked → Asked
+notesAnswered c = asked (c .bytes) (c .k) (noted (c .bytes) (c .k))
 
-pub notes-as-they-should : map answered notes ≡ notes
+pub notes-as-they-should : map notesAnswered notes ≡ notes
 unfolding le over tx op committed isOpen current writesValue writeOf opened closed withOp eventOf eventAt breaks isUnknown isMisfit frameRows misplaced unlawful excess repeats stepRows entered isEnd textAt refusalNo after finished walk reading writesAt wroteBetween originOf sourceOf kindBy kindOf isJudged isFinding isExternal readsFrom isStart isSession isRead basic leads writesKey sees settles isRival forced reasons findings findingBytes pairsOf pairs pairBytes order findingList pairList isEmpty isAccepted acceptance rejection judgedRead isLevel judged via isListed mem misses ready isUnplaced unplaced next fill rest _and_ _or_ pick someOf firstOf countOf listOf some first count listed those last joined numbered nth firstFit isNote notedRead noted
 notes-as-they-should = refl
 

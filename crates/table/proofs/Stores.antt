@@ -15,14 +15,14 @@ use Rattle.base.specs.Base.{pick, numbered}
 use Rattle.base.proofs.Tests.{clash, ifso, split, and-left, and-right, and-on, pick-on, pick-off}
 use Rattle.base.proofs.Numbered.{numbered-length, numbered-same, numbered-more}
 use Rattle.rules.specs.History.{History, Tx, Op, tx, op, txCount, opCount, empty, opened, closed, withOp}
-use Rattle.table.specs.Table.{tableWords, txAt, opAt, opOf, historyOf, lastAt, prevAt, headAt, linkAt, ofTx, lastBelow, lastOf, prevOf, bucketOf, inBucket, headOf, linkOf, Held, HasTx, Holds, Becomes, noHeads, cleared, putTx, closeTx, putWords, putRead, putWrite, putOp}
+use Rattle.table.specs.Table.{tableWords, txAt, opAt, opOf, historyOf, lastAt, prevAt, headAt, linkAt, ofTx, lastBelow, lastOf, prevOf, bucketOf, inBucket, headOf, linkOf, Held, HasTx, HoldsHistory, Becomes, noHeads, cleared, putTx, closeTx, putWords, putRead, putWrite, putOp}
 use Rattle.table.proofs.Grown.{last-less, retold, retold-op, retold-last, retold-prev, retold-head, retold-link, last-of-none, byTx, byBucket, bucket-low, with-op-old, with-op-new, with-op-last, with-op-prev}
 use Rattle.table.proofs.Words.{tx-count, op-count, tx-is, last-small}
 
 -- ── a table that holds x, from its parts ──
 
 -- the numbers that g keeps are those of x
-record Keeps (g : List ℕ) (x : History) : Type 0 where
+record KeepsRest (g : List ℕ) (x : History) : Type 0 where
   room : length g ≡ tableWords
   txs : historyOf g .txs ≡ x .txs
   ops : historyOf g .ops ≡ x .ops
@@ -33,7 +33,7 @@ record Keeps (g : List ℕ) (x : History) : Type 0 where
   heads : (b : ℕ) → b < 128 → headAt g b ≡ headOf x b
   links : (i : ℕ) → 1 ≤ i → i ≤ opCount x → op x i .isWrite ≡ true → linkAt g i ≡ linkOf x i
 
-holds : {g : List ℕ} {x : History} → Keeps g x → Holds g x
+holds : {g : List ℕ} {x : History} → KeepsRest g x → HoldsHistory g x
 holds {g} {x} k =
     let e : historyOf g ≡ x = joined (historyOf g) x (k .txs) (k .ops) in
     record {
@@ -79,7 +79,7 @@ module _ {h g : List ℕ} (w : Behind h g) where
   -- .. so that g holds other transactions, a, where it has their words
   retold-holds : (a : List Tx) → Held h → length g ≡ length h → historyOf g .txs ≡ a
       → ((i : ℕ) → 1 ≤ i → i ≤ opCount (historyOf h) → (1 ≤ op (historyOf h) i .tx) × (op (historyOf h) i .tx ≤ length a))
-      → ((t : ℕ) → 1 ≤ t → t ≤ length a → lastAt g t ≡ lastOf (historyOf h) t) → Holds g (retold (historyOf h) a)
+      → ((t : ℕ) → 1 ≤ t → t ≤ length a → lastAt g t ≡ lastOf (historyOf h) t) → HoldsHistory g (retold (historyOf h) a)
   retold-holds a p r txs txs-in lasts =
       holds (record {
         room = r ∙ p .room;
@@ -114,7 +114,7 @@ no-heads-at (suc n) h b l r =
     (λ m. let e : b ≡ n = omega arith in rw e (getD-set-same (noHeads n h) (2178 + n) 0 0 (omega (arith, no-heads-length n h))))
     (split b n)
 
-cleared-holds : (h : List ℕ) → length h ≡ tableWords → Holds (cleared h) empty
+cleared-holds : (h : List ℕ) → length h ≡ tableWords → HoldsHistory (cleared h) empty
 unfolding cleared historyOf numbered headAt headOf
 cleared-holds h r =
     let g = set h 0 0 in
@@ -195,7 +195,7 @@ module _ (h : List ℕ) (p : Held h) (s : ℕ) (small : s < 65536) (few : txCoun
       rw (e, open-word, d) (sym (last-of-none (historyOf h) open-tx (λ i u v q. omega (arith, q, p .txs-in i u v .1, tx-count h)))))
       (split k (txCount (historyOf h) + 1))
 
-  pub put-tx-holds : Holds (putTx h s) (opened (historyOf h) s)
+  pub put-tx-holds : HoldsHistory (putTx h s) (opened (historyOf h) s)
   unfolding putTx opened
   put-tx-holds =
       let n = length-append (historyOf h .txs) (record { session = s; status = 3 } ∷ []) in
@@ -241,7 +241,7 @@ module _ (h : List ℕ) (t x : ℕ) (p : HasTx h t) (small : x < 4) where
   unfolding closed
   close-few = numbered-length (txCount (historyOf h)) _
 
-  pub close-tx-holds : Holds (closeTx h t x) (closed (historyOf h) t x)
+  pub close-tx-holds : HoldsHistory (closeTx h t x) (closed (historyOf h) t x)
   unfolding closeTx closed
   close-tx-holds =
       retold-holds close-behind _ (p .held) (length-set h t _) close-txs (λ i a b. rw close-few (p .held .txs-in i a b))
@@ -440,7 +440,7 @@ module _ (h : List ℕ) (o : Op) (p : HasTx h (o .tx)) (small : o .key < 4294967
           let c : i ≡ put-op = l ∙ omega (arith, op-count h) in
           rw c (put-keeps .1) ∙ link (sym (ap (λ (x : Op). x .isWrite) (with-op-new (historyOf h) o)) ∙ rw l at t) ∙ p .held .heads _ (bucket-low (o .key) (o .value)))
 
-      entered-holds : Holds g (withOp (historyOf h) o)
+      entered-holds : HoldsHistory g (withOp (historyOf h) o)
       unfolding withOp
       entered-holds =
           let n = length-append (historyOf h .ops) (o ∷ []) in
@@ -457,14 +457,14 @@ module _ (h : List ℕ) (o : Op) (p : HasTx h (o .tx)) (small : o .key < 4294967
           })
 
   -- a read: no bucket changes
-  put-read-holds : o .isWrite ≡ false → Holds (putRead h o) (withOp (historyOf h) o)
+  put-read-holds : o .isWrite ≡ false → HoldsHistory (putRead h o) (withOp (historyOf h) o)
   unfolding putRead
   put-read-holds f =
       let w : o .tx + 256 * o .key ≡ o .tx + pick (o .isWrite) 128 0 + 256 * o .key + 2251799813685248 * 0 = rw (pick-off {X = ℕ} (o .isWrite) 128 0 f) (omega arith) in
       entered-holds 0 _ (words-entered _ 0 w) (λ t. absurd (clash t f)) (λ b t. absurd (clash (and-left _ _ t) f)) (λ b t. words-heads _ 0 w b)
 
   -- a write: its bucket's word is stored anew
-  put-write-holds : o .isWrite ≡ true → Holds (putWrite h o) (withOp (historyOf h) o)
+  put-write-holds : o .isWrite ≡ true → HoldsHistory (putWrite h o) (withOp (historyOf h) o)
   unfolding putWrite headAt
   put-write-holds f =
       let c = bucketOf (o .key) (o .value) in
@@ -480,7 +480,7 @@ module _ (h : List ℕ) (o : Op) (p : HasTx h (o .tx)) (small : o .key < 4294967
       let d : (c ≡ b → ⊥) = eqb-false c b (sym (and-on (o .isWrite) (eqb c b) f) ∙ t) in
       getD-set-other g (2178 + c) (2178 + b) put-op 0 (λ k. d (omega arith)) ∙ words-heads _ q w b)
 
-  pub put-op-holds : Holds (putOp h o) (withOp (historyOf h) o)
+  pub put-op-holds : HoldsHistory (putOp h o) (withOp (historyOf h) o)
   unfolding putOp
   put-op-holds =
       ifso (o .isWrite) (λ t. rw (pick-on (o .isWrite) (putWrite h o) (putRead h o) t) (put-write-holds t))

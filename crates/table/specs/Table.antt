@@ -114,7 +114,7 @@ pub record HasWrite (h : List ℕ) (i : ℕ) : Type 0 where
   pub writes : op (historyOf h) i .isWrite ≡ true
 
 -- .. that hold x
-pub record Holds (h : List ℕ) (x : History) : Type 0 where
+pub record HoldsHistory (h : List ℕ) (x : History) : Type 0 where
   pub held : Held h
   pub is : historyOf h ≡ x
 
@@ -168,4 +168,4 @@ pub record Below (r x n : ℕ) : Type 0 where
 -- the table's words are now g, and hold x
 pub record Becomes (h g : List ℕ) (x : History) : Type 0 where
   pub is : h ≡ g
-  pub holds : Holds h x
+  pub holds : HoldsHistory h x

@@ -20,19 +20,19 @@ use Rattle.theory.proofs.Places.{mem-last, mem-snoc, mem-other, place-i
 -- ── what may come next ──
 
 -- `ready` in parts: a member, not placed, its forced predecessors placed
-pub record Ready (n : ℕ) (m : ℕ → Bool) (f : ℕ → ℕ → Bool) (p : List ℕ) (a : ℕ) : Type 0 where
+pub record NextReady (n : ℕ) (m : ℕ → Bool) (f : ℕ → ℕ → Bool) (p : List ℕ) (a : ℕ) : Type 0 where
   pub below : a < n
   pub member : m a ≡ true
   pub new : mem a p ≡ false
   pub after : (b : ℕ) → b < n → f b a ≡ true → mem b p ≡ true
 
-pub ready-is : {n : ℕ} {m : ℕ → Bool} {f : ℕ → ℕ → Bool} {p : List ℕ} {a : ℕ} → Ready n m f p a → ready n m f p a ≡ true
+pub ready-is : {n : ℕ} {m : ℕ → Bool} {f : ℕ → ℕ → Bool} {p : List ℕ} {a : ℕ} → NextReady n m f p a → ready n m f p a ≡ true
 unfolding ready misses
 ready-is {n} {m} {f} {p} {a} r =
     both _ _ (both _ _ (r .member) (ap not (r .new)))
     (ap not (some-none (misses f p a) n 0 (λ b _ h. is-false _ (λ t. clash (r .after b h (and-left _ _ t)) (not-true _ (and-right _ _ t))))))
 
-pub ready-parts : (n : ℕ) (m : ℕ → Bool) (f : ℕ → ℕ → Bool) (p : List ℕ) (a : ℕ) → a < n → ready n m f p a ≡ true → Ready n m f p a
+pub ready-parts : (n : ℕ) (m : ℕ → Bool) (f : ℕ → ℕ → Bool) (p : List ℕ) (a : ℕ) → a < n → ready n m f p a ≡ true → NextReady n m f p a
 unfolding ready misses
 ready-parts n m f p a l e =
     record {
@@ -77,7 +77,7 @@ module _ (n : ℕ) (m : ℕ → Bool) where
       count-less (isUnplaced m p) (isUnplaced m (p ++ (a ∷ []))) a n 0 (omega arith) l (unplaced-is m p a x y)
       (is-false _ (λ t. clash (mem-last a p) (unplaced-parts m (p ++ (a ∷ [])) a t .1))) (λ b _ d. ap (λ t. m b and not t) (mem-other b p a d))
 
-ready-less : {n : ℕ} {m : ℕ → Bool} {f : ℕ → ℕ → Bool} {p : List ℕ} {a : ℕ} → Ready n m f p a → unplaced n m p ≡ suc (unplaced n m (p ++ (a ∷ [])))
+ready-less : {n : ℕ} {m : ℕ → Bool} {f : ℕ → ℕ → Bool} {p : List ℕ} {a : ℕ} → NextReady n m f p a → unplaced n m p ≡ suc (unplaced n m (p ++ (a ∷ [])))
 ready-less {n} {m} {p = p} {a} r = unplaced-less n m p a (r .below) (r .member) (r .new)
 
 -- ── the smallest that may come next ──
@@ -88,7 +88,7 @@ module _ (n : ℕ) (m : ℕ → Bool) (f : ℕ → ℕ → Bool) (p : List ℕ) 
   unfolding next
   next-le = ⊎-elim (λ z. omega (arith, z .0)) (λ g. omega (arith, g .to)) (first-cases n (ready n m f p) n 0)
 
-  pub next-ready : next n m f p < n → Ready n m f p (next n m f p)
+  pub next-ready : next n m f p < n → NextReady n m f p (next n m f p)
   unfolding next
   next-ready l =
       ⊎-elim (λ z. absurd (omega (arith, z .0))) (λ g. ready-parts n m f p _ l (g .passes)) (first-cases n (ready n m f p) n 0)
@@ -117,7 +117,7 @@ module _ (n : ℕ) (m : ℕ → Bool) (f : ℕ → ℕ → Bool) (p : List ℕ) 
   rest-end l = fill-end (unplaced n m p) l
 
 -- it is the smallest
-pub next-first : {n : ℕ} {m : ℕ → Bool} {f : ℕ → ℕ → Bool} {p : List ℕ} {a : ℕ} → Ready n m f p a → next n m f p ≤ a
+pub next-first : {n : ℕ} {m : ℕ → Bool} {f : ℕ → ℕ → Bool} {p : List ℕ} {a : ℕ} → NextReady n m f p a → next n m f p ≤ a
 unfolding next
 next-first {n} {m} {f} {p} {a} r =
     ⊎-elim (λ z. absurd (clash (ready-is r) (z .1 a (omega arith) (r .below))))
@@ -160,9 +160,9 @@ module _ (n : ℕ) (m : ℕ → Bool) (f : ℕ → ℕ → Bool) where
 -- ── ways to fill the rest ──
 
 -- o fills the places after those of p: each may come next, and at the end all are placed
-pub data Fits (n : ℕ) (m : ℕ → Bool) (f : ℕ → ℕ → Bool) : List ℕ → List ℕ → Type 0 where
-  done : {p : List ℕ} → ((a : ℕ) → a < n → m a ≡ true → mem a p ≡ true) → Fits n m f p []
-  more : {p o : List ℕ} {x : ℕ} → Ready n m f p x → Fits n m f (p ++ (x ∷ [])) o → Fits n m f p (x ∷ o)
+pub data NextFits (n : ℕ) (m : ℕ → Bool) (f : ℕ → ℕ → Bool) : List ℕ → List ℕ → Type 0 where
+  done : {p : List ℕ} → ((a : ℕ) → a < n → m a ≡ true → mem a p ≡ true) → NextFits n m f p []
+  more : {p o : List ℕ} {x : ℕ} → NextReady n m f p x → NextFits n m f (p ++ (x ∷ [])) o → NextFits n m f p (x ∷ o)
 
 -- p starts an order: what a lawful order asks, so far
 record Starts (n : ℕ) (m : ℕ → Bool) (f : ℕ → ℕ → Bool) (p : List ℕ) : Type 0 where
@@ -172,12 +172,12 @@ record Starts (n : ℕ) (m : ℕ → Bool) (f : ℕ → ℕ → Bool) (p : List 
 
 module _ {n : ℕ} {m : ℕ → Bool} {f : ℕ → ℕ → Bool} where
   -- it has as many as are unplaced
-  pub fits-length : {p o : List ℕ} → Fits n m f p o → length o ≡ unplaced n m p
+  pub fits-length : {p o : List ℕ} → NextFits n m f p o → length o ≡ unplaced n m p
   fits-length {p} (done h) = sym (unplaced-none n m p h)
   fits-length (more r t) = omega (arith, ready-less r, fits-length t)
 
   -- `fill` goes before every other
-  fill-first : (k : ℕ) {p o : List ℕ} → Fits n m f p o → Lex (fill n m f k p) o
+  fill-first : (k : ℕ) {p o : List ℕ} → NextFits n m f p o → Lex (fill n m f k p) o
   unfolding fill
   fill-first zero t = short
   fill-first (suc k) {p} (done h) =
@@ -188,7 +188,7 @@ module _ {n : ℕ} {m : ℕ → Bool} {f : ℕ → ℕ → Bool} where
       (⊎-elim (λ e. same e (rw e (fill-first k t))) (λ l. less l) (eq-or-lt-of-le (next-first r)))
 
   -- a lawful order fits
-  pub lawful-fits : (o p : List ℕ) → Lawful n m f (p ++ o) → Fits n m f p o
+  pub lawful-fits : (o p : List ℕ) → Lawful n m f (p ++ o) → NextFits n m f p o
   lawful-fits [] p l = done (λ a h x. in-place a p (rw append-nil at (l .has a h x)))
   lawful-fits (x ∷ o) p l =
       more (record { below = x-in .0; member = x-in .1; new = new; after = after }) (lawful-fits o (p ++ (x ∷ [])) (rw append-assoc l))
@@ -216,7 +216,7 @@ module _ {n : ℕ} {m : ℕ → Bool} {f : ℕ → ℕ → Bool} where
   unfolding mem
   starts-none = record { lists = λ i h. absurd (omega arith); once = λ i h. absurd (omega arith); before = λ a b e h. absurd (clash h refl) }
 
-  starts-more : {p : List ℕ} {x : ℕ} → Forces n m f → Ready n m f p x → Starts n m f p → Starts n m f (p ++ (x ∷ []))
+  starts-more : {p : List ℕ} {x : ℕ} → Forces n m f → NextReady n m f p x → Starts n m f p → Starts n m f (p ++ (x ∷ []))
   starts-more {p} {x} w r s =
       record {
         lists = λ i h. ⊎-elim (λ c. rw (c .1) (s .lists i (c .0))) (λ c. rw (c .1) (r .below, r .member)) (entry-snoc p x i h);
@@ -257,7 +257,7 @@ module _ {n : ℕ} {m : ℕ → Bool} {f : ℕ → ℕ → Bool} where
           omega (arith, head, s .before 0 (getD p 0 0) f0 (in-place (getD p 0 0) p (omega (arith, head, some-in))))
 
   -- what fits is lawful
-  fits-lawful : {o p : List ℕ} → Forces n m f → Starts n m f p → Fits n m f p o → Lawful n m f (p ++ o)
+  fits-lawful : {o p : List ℕ} → Forces n m f → Starts n m f p → NextFits n m f p o → Lawful n m f (p ++ o)
   fits-lawful {p = p} w s (done h) =
       rw append-nil
       (record {
@@ -298,7 +298,7 @@ module _ {n : ℕ} {m : ℕ → Bool} {f : ℕ → ℕ → Bool} where
           (λ l. omega (arith, next-first (at-ready l), l .under))
           (lowest (via f n) n (via-on f n) (λ a h. is-false (via f n a a) (λ x. free a (via-leads f n a a x))) (isUnplaced m p) n (omega arith))
         where
-          at-ready : (l : Lowest (via f n) (isUnplaced m p) n) → Ready n m f p (l .at)
+          at-ready : (l : Lowest (via f n) (isUnplaced m p) n) → NextReady n m f p (l .at)
           at-ready l =
               let u = unplaced-parts m p (l .at) (l .passes) in
               record {
@@ -312,7 +312,7 @@ module _ {n : ℕ} {m : ℕ → Bool} {f : ℕ → ℕ → Bool} where
               }
 
       -- so `fill` fits
-      fill-fits : (k : ℕ) (p : List ℕ) → unplaced n m p ≡ k → Fits n m f p (fill n m f k p)
+      fill-fits : (k : ℕ) (p : List ℕ) → unplaced n m p ≡ k → NextFits n m f p (fill n m f k p)
       unfolding fill
       fill-fits zero p e = done (none-unplaced n m p e)
       fill-fits (suc k) p e =

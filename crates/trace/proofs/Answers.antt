@@ -11,7 +11,7 @@ use Rattle.table.specs.Table.{historyOf}
 use Rattle.trace.specs.declared.Out.{Out}
 use Rattle.trace.specs.declared.Out.the-variants.{Good, Bad}
 use Rattle.trace.specs.Turns.{tally}
-use Rattle.trace.specs.Trace.{good, answered, Reads}
+use Rattle.trace.specs.Trace.{good, answered, TraceRead}
 
 -- the trace was read: it has n notes, number k of them from a on and l long, and the table g holds its history
 pub record IsRead (s g : List ℕ) (k n a l : ℕ) : Type 0 where
@@ -20,7 +20,7 @@ pub record IsRead (s g : List ℕ) (k n a l : ℕ) : Type 0 where
   pub count : n ≡ length notes
   pub stretch : record { start = a; length = l } ≡ nth notes k nowhere
 
-module _ {r : Out} {g g₀ s : List ℕ} {k : ℕ} (x : Reads r g g₀ s k) where
+module _ {r : Out} {g g₀ s : List ℕ} {k : ℕ} (x : TraceRead r g g₀ s k) where
   pub read-bad : {n p : ℕ} → r ≡ Bad n p → reading s ≡ refused n p
   unfolding answered good
   read-bad {n} {p} q = go (reading s) (sym q ∙ x .is)

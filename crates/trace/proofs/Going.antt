@@ -15,7 +15,7 @@ use Rattle.rules.specs.Records.{nextAt, eventAt}
 use Rattle.rules.specs.Reading.{Stretch, State, refused, read, begin, isEnd, textAt, entered, refusalNo, after, finished, walk, reading}
 use Rattle.rules.specs.declared.Event.{Event}
 use Rattle.rules.specs.declared.Event.the-variants as E
-use Rattle.table.specs.Table.{historyOf, Held, Holds, cleared, Becomes}
+use Rattle.table.specs.Table.{historyOf, Held, HoldsHistory, cleared, Becomes}
 use Rattle.steps.specs.Steps.{put}
 use Rattle.trace.specs.declared.Tally.{Tally}
 use Rattle.trace.specs.declared.Out.{Out}
@@ -23,7 +23,7 @@ use Rattle.trace.specs.declared.Out.the-variants.{Bad}
 use Rattle.trace.specs.declared.Turn.{Turn}
 use Rattle.trace.specs.declared.Turn.the-variants.{More, Stop}
 use Rattle.trace.specs.Turns.{tally, stateAt, noAt, finish, putAt, enteredAt, Turned}
-use Rattle.trace.specs.Trace.{good, answered, recordFrom, recorded, Reads}
+use Rattle.trace.specs.Trace.{good, answered, recordFrom, recorded, TraceRead}
 use Rattle.trace.proofs.Tallies.{tally-none, tally-all, one-note}
 use Rattle.trace.proofs.Turning.{fit-at, Onward, Refused, Ended, more-says, stop-says}
 
@@ -108,7 +108,7 @@ pub record Going (s : List ℕ) (k : ℕ) (g₁ : List ℕ) (at serial : ℕ) (c
   pub whole : reading s ≡ walk fuel s (stateAt at serial (historyOf g) notes)
   pub words : recordFrom (length s + 1) s begin g₁ ≡ recordFrom fuel s (stateAt at serial (historyOf g) notes) g
 
-pub going-first : (s : List ℕ) (k : ℕ) (g : List ℕ) → Holds g empty → length s ≤ 32768 → Going s k g 0 0 (record { notes = 0; start = 0; length = 0 }) g
+pub going-first : (s : List ℕ) (k : ℕ) (g : List ℕ) → HoldsHistory g empty → length s ≤ 32768 → Going s k g 0 0 (record { notes = 0; start = 0; length = 0 }) g
 unfolding reading pick
 going-first s k g b l =
     let t = le-ltb _ _ l in
@@ -125,7 +125,7 @@ going-first s k g b l =
     }
 
 -- row 2
-pub too-long : (s : List ℕ) (k : ℕ) (g₀ g : List ℕ) → Becomes g (cleared g₀) empty → 32768 < length s → Reads (Bad 2 32768) g g₀ s k
+pub too-long : (s : List ℕ) (k : ℕ) (g₀ g : List ℕ) → Becomes g (cleared g₀) empty → 32768 < length s → TraceRead (Bad 2 32768) g g₀ s k
 unfolding reading recorded answered pick
 too-long s k g₀ g b l =
     let t = lt-ltb _ _ l in
@@ -155,7 +155,7 @@ module _ (s : List ℕ) (k : ℕ) (g₁ : List ℕ) (at serial : ℕ) (c : Tally
   words-here = y .words ∙ ap (λ (f : ℕ). recordFrom f s (stateAt at serial (historyOf g) (y .notes)) g) one-more
 
   module _ (g₀ : List ℕ) (w : recorded s g₀ ≡ recordFrom (length s + 1) s begin g₁) where
-    refused-here : {o : Out} → Refused s at serial (historyOf g) o → Reads o g2 g₀ s k
+    refused-here : {o : Out} → Refused s at serial (historyOf g) o → TraceRead o g2 g₀ s k
     unfolding answered putAt pick
     refused-here x =
         let v = whole-here ∙ walk-refused left s g at serial (historyOf g) (y .notes) (x .refuses) in
@@ -166,7 +166,7 @@ module _ (s : List ℕ) (k : ℕ) (g₁ : List ℕ) (at serial : ℕ) (c : Tally
           history = λ h n q. let u = sym v ∙ q in let z : _≡_ {A = ℕ} 0 1 = cc in absurd (omega arith);
         }
 
-    ended-here : {o : Out} → Ended s at serial c (historyOf g) o → Reads o g2 g₀ s k
+    ended-here : {o : Out} → Ended s at serial c (historyOf g) o → TraceRead o g2 g₀ s k
     unfolding putAt enteredAt pick
     ended-here x =
         let v = whole-here ∙ walk-end left s g at serial (historyOf g) (y .notes) (x .passes) (x .ends) in
@@ -177,7 +177,7 @@ module _ (s : List ℕ) (k : ℕ) (g₁ : List ℕ) (at serial : ℕ) (c : Tally
           history = λ h n q. (rw (x .passes) at (t .history)) ∙ end-history s k at serial (historyOf g) (y .notes) (sym v ∙ q);
         }
 
-  pub going-stop : {o : Out} → r ≡ Stop o → (g₀ : List ℕ) → g₁ ≡ cleared g₀ → length s ≤ 32768 → Reads o g2 g₀ s k
+  pub going-stop : {o : Out} → r ≡ Stop o → (g₀ : List ℕ) → g₁ ≡ cleared g₀ → length s ≤ 32768 → TraceRead o g2 g₀ s k
   unfolding recorded pick
   going-stop q g₀ e l =
       let u = le-ltb _ _ l in

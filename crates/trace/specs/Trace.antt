@@ -35,7 +35,7 @@ unfoldable pub recorded : List ℕ → List ℕ → List ℕ
 recorded s g = pick (ltb 32768 (length s)) (cleared g) (recordFrom (length s + 1) s begin (cleared g))
 
 -- the answer r to the trace s, of which the table g was made out of g₀
-pub record Reads (r : Out) (g g₀ s : List ℕ) (k : ℕ) : Type 0 where
+pub record TraceRead (r : Out) (g g₀ s : List ℕ) (k : ℕ) : Type 0 where
   pub is : r ≡ answered k (reading s)
   pub words : g ≡ recorded s g₀
   pub held : Held g

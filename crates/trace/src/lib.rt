@@ -4,7 +4,7 @@ ghost use mathlib.Core.Path.{_≡_};
 ghost use lib.ListN.{length};
 ghost use Rattle.table.specs.Table.{tableWords, Held};
 ghost use Rattle.trace.specs.Turns.{counted, finish as finishing, Turned};
-ghost use Rattle.trace.specs.Trace.{Reads};
+ghost use Rattle.trace.specs.Trace.{TraceRead};
 use frame::Framed;
 use steps::Next;
 
@@ -84,7 +84,7 @@ fn turn_at(s: &[u8], k: usize, at: usize, serial: u32, c: Tally, h: &mut [u64]) 
 // The whole trace: row 2, then record by record.
 pub fn read_trace(s: &[u8], k: usize, h: &mut [u64]) -> Out
     requires { ⌜ length (now h) ≡ tableWords ⌝ }
-    ensures { λ r. ⌜ Reads r (now (h .exit)) (now (h .entry)) (now (s .entry)) k ⌝ }
+    ensures { λ r. ⌜ TraceRead r (now (h .exit)) (now (h .entry)) (now (s .entry)) k ⌝ }
 {
     table::clear(h);
     if 32768 < s.len() {

@@ -1,4 +1,4 @@
-use Rattle.table.proofs.Walks.{Walk, walk-start, walk-hit, walk-miss, walk-end, walk-has}
+use Rattle.table.proofs.Walks.{ChainWalk, walk-start, walk-hit, walk-miss, walk-end, walk-has}
 use Rattle.table.specs.Table.{historyOf}
 use borrow.Author.Needs.{needs}
 use native.Mathlib.Omega.{arith}
@@ -7,7 +7,7 @@ use Rattle.table.proofs.write_of.Statement.{statement}
 use Rattle.table.proofs.write_of.Tie as tie
 
 abbrev Inv-loop : tie.InvT-loop
-Inv-loop h x v i₀ i = Walk (historyOf h) x v i
+Inv-loop h x v i₀ i = ChainWalk (historyOf h) x v i
 
 abbrev μ-loop : tie.MeasureT-loop
 μ-loop h x v i₀ i = i

@@ -5,5 +5,4 @@ pub mod Lawful
 pub mod Checks
 pub mod Refusals
 pub mod Readings
-pub mod Judged
 pub mod Notes

@@ -8,7 +8,6 @@ use lib.ListN.{length}
 use Rattle.rules.specs.Numbers.{le}
 use Rattle.rules.specs.History.{History, Op, tx, txCount, opCount, opened, closed, withOp}
 use Rattle.rules.specs.Reading.{State, begin, Stretch}
-use Rattle.rules.specs.Outcome.{isAccepted, findingList, pairList, order}
 use Rattle.demand1.specs.Lawful.{IsWrite}
 
 -- ── a record's fields, by their offsets ──
@@ -180,17 +179,6 @@ pub record OneOutcome (s : List ℕ) : Type 0 where
   pub not-both : (n p : ℕ) (h : History) (notes : List Stretch) → Refuses s n p → ReadInto s h notes → ⊥
   pub one-refusal : (n p m q : ℕ) → Refuses s n p → Refuses s m q → (n ≡ m) × (p ≡ q)
   pub one-reading : (h g : History) (notes texts : List Stretch) → ReadInto s h notes → ReadInto s g texts → (h ≡ g) × (notes ≡ texts)
-
--- the outcome of judging is a refusal with number n and place p: rows 1 to 14, with buffers of f, p and o bytes
-pub data Declines (s : List ℕ) (level f p o : ℕ) : ℕ → ℕ → Type 0 where
-  no-level : ((1 ≤ level) × (level ≤ 3) → ⊥) → Declines s level f p o 1 0
-  reading-refused : {n at : ℕ} → 1 ≤ level → level ≤ 3 → Refuses s n at → Declines s level f p o n at
-  findings-short : {h : History} {notes : List Stretch} → 1 ≤ level → level ≤ 3 → ReadInto s h notes → isAccepted h level ≡ false
-      → f < length (findingList h) → Declines s level f p o 12 (length (findingList h))
-  pairs-short : {h : History} {notes : List Stretch} → 1 ≤ level → level ≤ 3 → ReadInto s h notes → isAccepted h level ≡ false
-      → length (findingList h) ≤ f → p < length (pairList h level) → Declines s level f p o 13 (length (pairList h level))
-  order-short : {h : History} {notes : List Stretch} → 1 ≤ level → level ≤ 3 → ReadInto s h notes → isAccepted h level ≡ true
-      → o < length (order h level) → Declines s level f p o 14 (length (order h level))
 
 -- asking for note k is refused with number n and place p: "it takes 2 to 11 and then 15"
 pub data NoteDeclines (s : List ℕ) (k : ℕ) : ℕ → ℕ → Type 0 where

@@ -1,25 +1,31 @@
 -- A history is accepted exactly if its reads are clean and it has a commit order; the order that is shown is the first one.
 use Prim.Native.Nat.{ℕ, _<_, _≤_}
-use mathlib.Core.Path.{_≡_, refl}
+use mathlib.Core.Path.{_≡_, ap, sym, _∙_}
 use mathlib.Core.Bool.{Bool, true}
 use mathlib.Core.Logic.{inl, inr, ⊎-elim, _↔_}
 use mathlib.Core.List.{List, [], _∷_}
 use native.Mathlib.Omega.{arith}
 use lib.ListN.{length}
-use Rattle.base.specs.Base.{count, those}
+use lib.Dec.{ltb}
+use borrow.Author.Tests.{ltb-true, lt-ltb}
+use Rattle.base.specs.Base.{_and_, count, those}
 use Rattle.base.proofs.Tests.{clash, is-false, both, and-left, and-right, split}
 use Rattle.theory.specs.Leads.{Leads, step, then, Listed, isListed}
 use Rattle.theory.specs.Order.{place, Lawful}
 use Rattle.theory.proofs.Leads.{listed-iff, none-listed}
 use Rattle.theory.proofs.Places.{place-at, place-same}
+use Rattle.theory.proofs.Entries.{number-one, those-all-of, number-those}
 use Rattle.theory.proofs.Order.{rest-is-first, lawful-iff, lawful-length, lex-both}
 use Rattle.rules.specs.History.{History, size, committed}
 use Rattle.rules.specs.Levels.{forced}
-use Rattle.rules.specs.Outcome.{findings, Pair, pairsOf, pairs, order, isEmpty, isAccepted}
+use Rattle.rules.specs.Numbers.{over}
+use Rattle.rules.specs.Outcome.{Pair, pairsOf, pairs, order, isAccepted, Outcome}
+use Rattle.rules.proofs.Outcome.{accepted-empty}
 use Rattle.demand1.specs.Lawful.{LawfulHistory}
 use Rattle.demand2.specs.Kinds.{AllClean}
-use Rattle.demand2.specs.Axiom.{Member, StrictTotal, Commits, Lists, StandsBefore, Shows, FirstShown}
-use Rattle.demand2.proofs.Lists.{not-empty, listed-none as parts-none, those-none, joined-empty}
+use Rattle.demand2.specs.Axiom.{Member, StrictTotal, Commits, SomeOrder, ByTest, HasOrder, Lists, StandsBefore, Shows, FirstShown}
+use Rattle.demand2.specs.Accepted.{CommittedCount, OrderWritten}
+use Rattle.demand2.proofs.Lists.{listed-none as parts-none, those-none, joined-empty}
 use Rattle.demand2.proofs.Kind.{findings-iff}
 use Rattle.demand2.proofs.Pairs.{forces}
 use Rattle.demand2.proofs.Axiom.{obeys-iff}
@@ -131,40 +137,84 @@ module _ {h : History} (ok : LawfulHistory h) {level : ℕ} (low : 1 ≤ level) 
   pub shown-length : {o : List ℕ} → Shows h level o → length o ≡ count 0 (size h) (committed h)
   shown-length {o} s = lawful-length (shows-iff o .0 s)
 
+-- the committed transactions are as many as are counted
+pub committed-number : (h : History) → CommittedCount h (count 0 (size h) (committed h))
+committed-number h =
+    number-those (committed h) 0 (size h)
+    (those-all-of (committed h) 0 (size h) (λ i. (λ m. (omega arith, m .below, m .is-in), λ a l t. record { below = l; is-in = t })))
+
 -- no other list is the first
 pub first-only : {h : History} {level : ℕ} {o q : List ℕ} → FirstShown h level o → FirstShown h level q → o ≡ q
 first-only x y = lex-both (x .first _ (y .shows)) (y .first _ (x .shows))
 
 -- ── acceptance ──
 
-empty-iff : {A : Type 0} (l : List A) → (isEmpty l ≡ true) ↔ (l ≡ [])
-unfolding isEmpty
-empty-iff [] = (λ e. refl, λ e. refl)
-empty-iff (x ∷ l) = (λ e. absurd (clash e refl), λ e. absurd (not-empty e))
+-- what holds of a relation holds of one with the same pairs
+commits-as : {h : History} {level : ℕ} {C D : ℕ → ℕ → Type 0} → ((a b : ℕ) → C a b ↔ D a b) → Commits h level C → Commits h level D
+commits-as e c =
+    record {
+      order =
+          record {
+            members = λ a b x. c .order .members a b (e a b .1 x);
+            never = λ a x. c .order .never a (e a a .1 x);
+            on = λ a b d x y. e a d .0 (c .order .on a b d (e a b .1 x) (e b d .1 y));
+            either = λ a b m n d. ⊎-elim (λ x. inl (e a b .0 x)) (λ x. inr (e b a .0 x)) (c .order .either a b m n d);
+          };
+      obeys =
+          record {
+            holds-so = λ a b x. e a b .0 (c .obeys .holds-so a b x);
+            holds-wr = λ a b x. e a b .0 (c .obeys .holds-wr a b x);
+            published = λ t1 t2 t3 x i d r m w s. e t2 t1 .0 (c .obeys .published t1 t2 t3 x i d r m w s);
+          };
+    }
+
+-- whether a stands before b in the list o
+abbrev stands : List ℕ → ℕ → ℕ → Bool
+stands o a b = ltb (place a o) (place b o) and ltb (place b o) (length o)
+
+stands-iff : (o : List ℕ) (a b : ℕ) → StandsBefore o a b ↔ ByTest (stands o) a b
+stands-iff o a b = (
+  λ x. both _ _ (lt-ltb _ _ (x .earlier)) (lt-ltb _ _ (x .there)),
+  λ t. record { earlier = ltb-true _ _ (and-left _ _ t); there = ltb-true _ _ (and-right _ _ t) },
+)
 
 module _ {h : History} (ok : LawfulHistory h) {level : ℕ} (low : 1 ≤ level) (high : level ≤ 3) where
-  -- accepted exactly if every read is clean and some list shows a commit order
-  pub accepted-shows : (isAccepted h level ≡ true) ↔ (AllClean h × ((o : List ℕ) × Shows h level o))
-  unfolding isAccepted
-  accepted-shows =
-      let f = findings-iff ok in (
-        λ e.
-            let clean = f .0 (empty-iff (findings h) .0 (and-left _ _ e)) in
-            (clean, no-pairs-iff ok low high clean .0 (empty-iff (pairs h level) .0 (and-right _ _ e))),
-        λ a.
-            both _ _ (empty-iff (findings h) .1 (f .1 (a .0))) (empty-iff (pairs h level) .1 (no-pairs-iff ok low high (a .0) .1 (a .1))),
-      )
+  module _ (clean : AllClean h) where
+    -- a commit order that a test gives exists exactly if some list shows one
+    has-order-iff : HasOrder h level ↔ ((o : List ℕ) × Shows h level o)
+    has-order-iff =
+        (λ c. commits-iff ok low high clean .0 (ByTest (c .0), c .1), λ s. (stands (s .0), commits-as (stands-iff (s .0)) (s .1 .commits)))
+
+    -- so one exists exactly if there is a commit order of any kind
+    pub any-order-iff : HasOrder h level ↔ SomeOrder h level
+    any-order-iff = (λ c. (ByTest (c .0), c .1), λ c. has-order-iff .1 (commits-iff ok low high clean .0 c))
+
+    -- and exactly if the list of pairs is empty
+    pub empty-pairs-iff : (pairs h level ≡ []) ↔ HasOrder h level
+    empty-pairs-iff = (λ e. has-order-iff .1 (no-pairs-iff ok low high clean .0 e), λ c. no-pairs-iff ok low high clean .1 (has-order-iff .0 c))
 
   -- accepted exactly if every read is clean and there is a commit order
-  pub accepted-iff : (isAccepted h level ≡ true) ↔ (AllClean h × ((C : ℕ → ℕ → Type 0) × Commits h level C))
-  accepted-iff = (
-    λ e. let a = accepted-shows .0 e in (a .0, commits-iff ok low high (a .0) .1 (a .1)),
-    λ a. accepted-shows .1 (a .0, commits-iff ok low high (a .0) .0 (a .1)),
-  )
+  pub accepted-iff : (isAccepted h level ≡ true) ↔ (AllClean h × HasOrder h level)
+  accepted-iff =
+      let f = findings-iff ok in
+      let a = accepted-empty h level in (
+        λ t. let e = a .0 t in let clean = f .0 (e .0) in (clean, empty-pairs-iff clean .0 (e .1)),
+        λ x. a .1 (f .1 (x .0), empty-pairs-iff (x .0) .1 (x .1)),
+      )
 
   -- and then the order that is computed is the first one
   pub order-first : isAccepted h level ≡ true → FirstShown h level (order h level)
-  order-first e = let a = accepted-shows .0 e in order-is-first ok low high (a .0) (a .1 .1)
+  order-first t = let a = accepted-iff .0 t in order-is-first ok low high (a .0) (has-order-iff (a .0) .0 (a .1) .1)
 
-  pub order-length : isAccepted h level ≡ true → length (order h level) ≡ count 0 (size h) (committed h)
-  order-length e = shown-length ok low high (accepted-shows .0 e .0) (order-first e .shows)
+  -- with one entry a committed transaction
+  pub order-number : isAccepted h level ≡ true → {n : ℕ} → CommittedCount h n → length (order h level) ≡ n
+  order-number t c =
+      shown-length ok low high (accepted-iff .0 t .0) (order-first t .shows) ∙ number-one _<_ (λ i j a b. omega arith) (committed-number h) c
+
+-- ── written ──
+
+-- the first commit order leaves one content of each buffer
+pub order-written-one : {h : History} {level n : ℕ} {fs ps os : List ℕ} {x y : Outcome} → OrderWritten h level n fs ps os x → OrderWritten h level n fs ps os y
+    → (x .findings ≡ y .findings) × (x .pairs ≡ y .pairs) × (x .order ≡ y .order)
+order-written-one {os = os} a b =
+    (a .findings ∙ sym (b .findings), a .pairs ∙ sym (b .pairs), a .order ∙ ap (λ (z : List ℕ). over z os) (first-only (a .first) (b .first)) ∙ sym (b .order))

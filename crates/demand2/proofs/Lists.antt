@@ -8,11 +8,9 @@ use native.Mathlib.Omega.{arith}
 use Rattle.base.specs.Base.{pick, listed, those, joined}
 use Rattle.base.proofs.Tests.{is-false, pick-on, pick-off, split}
 use Rattle.base.proofs.Searches.{downward, listed-step, listed-end}
+use Rattle.rules.proofs.Outcome.{not-empty}
 
--- a list with an entry is not empty; two lists in one are empty exactly if both are
-pub not-empty : {A : Type 0} {x : A} {xs : List A} → x ∷ xs ≡ [] → ⊥
-not-empty e = let z : _≡_ {A = ℕ} 0 1 = cc in omega arith
-
+-- two lists in one are empty exactly if both are
 both-empty : {A : Type 0} (xs ys : List A) → xs ++ ys ≡ [] → (xs ≡ []) × (ys ≡ [])
 both-empty [] ys e = (refl, e)
 both-empty (x ∷ xs) ys e = absurd (not-empty e)

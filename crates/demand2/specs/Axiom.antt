@@ -1,7 +1,7 @@
 -- The axioms of the three levels as Biswas and Enea published them (OOPSLA 2019), over a history: no forced pair is mentioned here.
 use Prim.Native.Nat.{ℕ, _<_}
 use mathlib.Core.Path.{_≡_}
-use mathlib.Core.Bool.{true}
+use mathlib.Core.Bool.{Bool, true}
 use mathlib.Core.List.{List}
 use mathlib.Core.Logic.{_⊎_}
 use lib.ListN.{length, getD}
@@ -77,6 +77,17 @@ pub record Obeys (h : History) (level : ℕ) (C : ℕ → ℕ → Type 0) : Type
 pub record Commits (h : History) (level : ℕ) (C : ℕ → ℕ → Type 0) : Type 0 where
   pub order : StrictTotal h C
   pub obeys : Obeys h level C
+
+-- "some total order .. obeys the level's axiom", whatever kind of relation it is
+abbrev pub SomeOrder : History → ℕ → Type 1
+SomeOrder h level = (C : ℕ → ℕ → Type 0) × Commits h level C
+
+-- the same of a relation that a test gives: a contract can speak of it
+abbrev pub ByTest : (ℕ → ℕ → Bool) → ℕ → ℕ → Type 0
+ByTest c a b = c a b ≡ true
+
+abbrev pub HasOrder : History → ℕ → Type 0
+HasOrder h level = (c : ℕ → ℕ → Bool) × Commits h level (ByTest c)
 
 -- the committed transactions in a list, each once, 0 first; a stands before b in it
 pub record Lists (h : History) (o : List ℕ) : Type 0 where

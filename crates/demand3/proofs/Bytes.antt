@@ -9,12 +9,13 @@ use lib.Seq.{getD-append-add, ext-getD}
 use Rattle.base.specs.Base.{joined}
 use Rattle.base.proofs.Tests.{split}
 use Rattle.base.proofs.Searches.{joined-length}
+use Rattle.theory.specs.Entries.{In, here, there}
+use Rattle.theory.proofs.Entries.{entry-in}
 use Rattle.rules.specs.Numbers.{le}
 use Rattle.rules.specs.History.{History}
 use Rattle.rules.specs.Outcome.{Pair, findings, findingBytes, findingList, pairs, pairBytes, pairList}
 use Rattle.demand1.specs.Lawful.{LawfulHistory}
-use Rattle.demand3.specs.Lists.{In, here, there, Finding, Fours, noPair, FindingBytes, PairBytes}
-use Rattle.demand3.proofs.Entries.{entry-in}
+use Rattle.demand3.specs.Lists.{Finding, Fours, noPair, FindingBytes, PairBytes}
 use Rattle.demand3.proofs.Findings.{kind-low, kind-one, finding-kind, findings-are}
 use Rattle.demand3.proofs.Forced.{reasons-are, reasons-one, reasons-most}
 use Rattle.demand3.proofs.Pairs.{listed-members, pairs-are}

@@ -2,18 +2,17 @@
 use Prim.Native.Nat.{ℕ, _+_, _<_, _≤_}
 use mathlib.Core.Path.{_≡_, refl}
 use mathlib.Core.List.{List}
-use mathlib.Core.Logic.{⊎-elim, _↔_}
+use mathlib.Core.Logic.{⊎-elim}
 use native.Mathlib.Omega.{arith}
-use Rattle.base.specs.Base.{those}
 use Rattle.base.proofs.Tests.{split}
+use Rattle.theory.proofs.Entries.{all-of-one, those-all-of}
 use Rattle.rules.specs.History.{History, opCount}
 use Rattle.rules.specs.Reads.{kindOf, isFinding}
 use Rattle.rules.specs.Outcome.{findings}
 use Rattle.demand1.specs.Lawful.{LawfulHistory}
 use Rattle.demand2.specs.Kinds.{Fits, thin-air, aborted, future, not-my-last, not-my-own, intermediate, HasKind}
 use Rattle.demand2.proofs.Kind.{kind-iff, clean-iff, finding-iff}
-use Rattle.demand3.specs.Lists.{In, Finding, Findings}
-use Rattle.demand3.proofs.Entries.{ascending-one, kept-iff, kept-all-ascend}
+use Rattle.demand3.specs.Lists.{Finding, Findings}
 
 -- the kinds are numbered up to 6
 fits-low : {h : History} {i k : ℕ} → Fits h i k → k ≤ 6
@@ -39,22 +38,16 @@ module _ {h : History} (ok : LawfulHistory h) where
   pub finding-kind : {i : ℕ} → Finding h i → HasKind h i (kindOf h i)
   finding-kind {i} x = kind-iff ok (x .judged) (kindOf h i) (λ e. x .unclean (clean-iff ok (x .judged) .0 e)) .0 refl
 
-  -- the findings' entries
-  finding-entries : (i : ℕ) → In i (findings h) ↔ Finding h i
-  unfolding findings those
-  finding-entries i =
-      let k = kept-iff (isFinding h) (λ j. j) (opCount h + 1) 1 i in (
-        λ m. let r = k .0 m in let f = finding-iff ok (r .from) (omega (arith, r .to)) .0 (r .passes) in rw (r .is) (record { judged = f .0; unclean = f .1 }),
-        λ f.
-            let j = f .judged in
-            k .1 (record { at = i; from = j .from; to = omega (arith, j .to); passes = finding-iff ok (j .from) (j .to) .1 (j, f .unclean); is = refl }),
-      )
-
   -- each judged read that is not clean, by operation number
   pub findings-are : Findings h (findings h)
-  unfolding findings those
-  findings-are = record { entries = finding-entries; ascend = kept-all-ascend (isFinding h) (λ j. j) _<_ (opCount h + 1) 1 (λ i j l. l) }
+  unfolding findings
+  findings-are =
+      those-all-of (isFinding h) 1 (opCount h + 1)
+      (λ i. (
+        λ f. let j = f .judged in (j .from, omega (arith, j .to), finding-iff ok (j .from) (j .to) .1 (j, f .unclean)),
+        λ a l t. let f = finding-iff ok a (omega arith) .0 t in record { judged = f .0; unclean = f .1 },
+      ))
 
 -- no other list is that
 pub findings-one : {h : History} {l k : List ℕ} → Findings h l → Findings h k → l ≡ k
-findings-one x y = ascending-one _<_ (λ i j a b. omega arith) (x .ascend) (y .ascend) (x .entries) (y .entries)
+findings-one = all-of-one _<_ (λ i j a b. omega arith)

@@ -8,18 +8,19 @@ use native.Mathlib.Omega.{arith}
 use Rattle.base.specs.Base.{listed}
 use Rattle.base.proofs.Searches.{joined-those}
 use Rattle.theory.specs.Leads.{isListed}
+use Rattle.theory.specs.Entries.{In}
+use Rattle.theory.proofs.Entries.{listed-iff as among-iff, listed-ascends, all-of-one, kept, kept-iff, kept-all-ascend}
 use Rattle.theory.proofs.Leads.{listed-iff}
 use Rattle.rules.specs.History.{History, size}
 use Rattle.rules.specs.Levels.{forced}
 use Rattle.rules.specs.Outcome.{Pair, pairsOf, pairs}
 use Rattle.demand1.specs.Lawful.{LawfulHistory}
 use Rattle.demand2.specs.Kinds.{AllClean}
-use Rattle.demand2.specs.Axiom.{Member, Shows}
+use Rattle.demand2.specs.Axiom.{Member, HasOrder}
 use Rattle.demand2.proofs.Pairs.{forced-apart, forces}
-use Rattle.demand2.proofs.Accepted.{pairs-iff, no-pairs-iff}
+use Rattle.demand2.proofs.Accepted.{pairs-iff, empty-pairs-iff}
 use Rattle.demand3.specs.Forced.{Way, one, more, IsForced, ListedPair}
-use Rattle.demand3.specs.Lists.{In, PairBefore, by-first, by-second, Pairs}
-use Rattle.demand3.proofs.Entries.{listed-iff as among-iff, listed-ascends, ascending-one, kept, kept-iff, kept-all-ascend}
+use Rattle.demand3.specs.Lists.{PairBefore, by-first, by-second, Pairs}
 use Rattle.demand3.proofs.Forced.{leads-way, way-leads, forced-iff}
 
 -- ── ways back ──
@@ -50,7 +51,7 @@ abbrev pair : ℕ → ℕ → Pair
 pair a b = record { one = a; two = b }
 
 -- it has one order
-before-never : (p q : Pair) → PairBefore p q → PairBefore q p → ⊥
+pub before-never : (p q : Pair) → PairBefore p q → PairBefore q p → ⊥
 before-never p q (by-first l) (by-first k) = omega arith
 before-never p q (by-first l) (by-second e k) = omega arith
 before-never p q (by-second e l) (by-first k) = omega arith
@@ -124,10 +125,10 @@ module _ {h : History} (ok : LawfulHistory h) {level : ℕ} (low : 1 ≤ level) 
   back-in-list {p} i = way-as (λ a b l. pairs-are .entries (pair a b) .1 l) (back-listed (pairs-are .entries p .0 i))
 
   -- when all reads are clean, no pair is listed exactly if there is a commit order
-  pub none-listed-iff : AllClean h → ((a b : ℕ) → ListedPair h level a b → ⊥) ↔ ((o : List ℕ) × Shows h level o)
+  pub none-listed-iff : AllClean h → ((a b : ℕ) → ListedPair h level a b → ⊥) ↔ HasOrder h level
   none-listed-iff clean =
       let p = pairs-iff ok level in
-      let n = no-pairs-iff ok low high clean in
+      let n = empty-pairs-iff ok low high clean in
       let t = listed-iff (forces ok level) in (
         λ f. n .0 (p .1 (λ a b l. f a b (listed-pair-iff a b .0 (t a b .1 l)))),
         λ s a b l. p .0 (n .1 s) a b (t a b .0 (listed-pair-iff a b .1 l)),
@@ -135,4 +136,4 @@ module _ {h : History} (ok : LawfulHistory h) {level : ℕ} (low : 1 ≤ level) 
 
 -- no other list is that
 pub pairs-one : {h : History} {level : ℕ} {l k : List Pair} → Pairs h level l → Pairs h level k → l ≡ k
-pairs-one x y = ascending-one PairBefore before-never (x .ascend) (y .ascend) (x .entries) (y .entries)
+pairs-one = all-of-one PairBefore before-never

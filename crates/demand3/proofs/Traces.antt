@@ -1,92 +1,87 @@
 -- For any bytes: a trace is rejected exactly if it is read into a history with a finding or a listed pair and the lists fit; they are then written.
-use Prim.Native.Nat.{ℕ, _*_, _≤_}
+use Prim.Native.Nat.{ℕ, _*_, _<_, _≤_}
 use mathlib.Core.Path.{_≡_, refl, ap, sym, _∙_}
-use mathlib.Core.Bool.{true, false}
-use mathlib.Core.Logic.{⊎-elim, _↔_}
-use mathlib.Core.List.{List}
+use mathlib.Core.Bool.{false}
+use mathlib.Core.Logic.{_↔_, ⊎-elim}
+use mathlib.Core.List.{List, [], _∷_}
 use native.Mathlib.Omega.{arith}
 use lib.ListN.{length}
-use Rattle.base.proofs.Tests.{ifso, is-false, is-true, and-left, and-right, both, clash, split}
+use Rattle.base.proofs.Tests.{is-false, is-true, clash, split}
+use Rattle.theory.specs.Entries.{In, here}
+use Rattle.theory.proofs.Entries.{in-none, number-one}
 use Rattle.rules.specs.Numbers.{over}
 use Rattle.rules.specs.History.{History}
-use Rattle.rules.specs.Reading.{Stretch, Reading, refused, read, reading}
-use Rattle.rules.specs.Outcome.{Pair, findings, pairs, findingList, pairList, order, isEmpty, isAccepted, declines, rejects, accepts, Report, rejecting, Outcome, outcome, acceptance, rejection, judgedRead, judged}
+use Rattle.rules.specs.Outcome.{Pair, findings, pairs, findingList, pairList, isAccepted, Report, rejecting, Outcome, outcome, judged}
+use Rattle.rules.proofs.Outcome.{verdictNo, accepted-empty, is-accepted, Came, came-no-level, came-refused, came-short, came-short-pairs, came-rejected, came-short-order, came-accepted, came, came-is}
 use Rattle.demand1.specs.Lawful.{LawfulHistory}
-use Rattle.demand1.specs.Rows.{ReadInto}
 use Rattle.demand1.proofs.Lawful.{lawful-history}
 use Rattle.demand1.proofs.Readings.{reads-iff}
-use Rattle.demand1.proofs.Judged.{judged-level, judged-no-level, judged-refused, judged-accepted, judged-rejected, acceptance-short, acceptance-fits, rejection-short, rejection-short-pairs, rejection-fits}
 use Rattle.demand2.specs.Kinds.{AllClean}
-use Rattle.demand2.specs.Axiom.{Shows}
-use Rattle.demand2.proofs.Accepted.{accepted-shows}
-use Rattle.demand3.specs.Rejected.{Fault, finding, pair, Faults, RejectsTrace, ListsWritten}
-use Rattle.demand3.proofs.Entries.{empty-none, some-in}
+use Rattle.demand2.specs.Axiom.{HasOrder}
+use Rattle.demand2.proofs.Accepted.{accepted-iff}
+use Rattle.demand3.specs.Rejected.{Fault, finding, pair, FindingCount, PairCount, RejectsTrace, ListsWritten}
+use Rattle.demand3.specs.Lists.{PairBefore}
 use Rattle.demand3.proofs.Findings.{findings-are, findings-one}
-use Rattle.demand3.proofs.Pairs.{pairs-are, pairs-one}
-use Rattle.demand3.proofs.One.{verdictNo}
+use Rattle.demand3.proofs.Pairs.{before-never, pairs-are, pairs-one}
 use Rattle.demand3.proofs.Bytes.{findings-spelt, pairs-spelt, finding-bytes-one, pair-bytes-one}
 
 -- ── a history ──
 
+-- a list with a length has an entry
+some-in : {A : Type 0} (l : List A) → 0 < length l → (x : A) × In x l
+some-in [] h = absurd (omega arith)
+some-in (x ∷ l) h = (x, here refl)
+
 module _ {h : History} (ok : LawfulHistory h) {level : ℕ} (low : 1 ≤ level) (high : level ≤ 3) where
   -- it is rejected exactly if there is a fault: "Accepted: no finding and no listed pair"
   pub fault-iff : (isAccepted h level ≡ false) ↔ Fault h level
-  unfolding isAccepted
   fault-iff = (
     λ e.
-        ifso (isEmpty (findings h))
-        (λ t.
-        let x = some-in (pairs h level) (is-false _ (λ u. clash (both _ _ t u) e)) in
-        pair (pairs-are ok low high .entries (x .0) .0 (x .1)))
-        (λ t. let x = some-in (findings h) t in finding (findings-are ok .entries (x .0) .0 (x .1))),
-    λ f. is-false _ (λ t. none (and-left _ _ t) (and-right _ _ t) f),
+        ⊎-elim (λ l. let x = some-in (findings h) l in finding (findings-are ok .entries (x .0) .0 (x .1)))
+        (λ f.
+        ⊎-elim (λ l. let x = some-in (pairs h level) l in pair (pairs-are ok low high .entries (x .0) .0 (x .1)))
+        (λ g. absurd (clash (is-accepted h level (omega arith) (omega arith)) e)) (split 0 (length (pairs h level))))
+        (split 0 (length (findings h))),
+    λ f. is-false _ (λ t. let e = accepted-empty h level .0 t in none (e .0) (e .1) f),
   )
     where
-      none : isEmpty (findings h) ≡ true → isEmpty (pairs h level) ≡ true → Fault h level → ⊥
-      none t u (finding {i} x) = empty-none (findings h) t i (findings-are ok .entries i .1 x)
-      none t u (pair {a} {b} x) = let p : Pair = record { one = a; two = b } in empty-none (pairs h level) u p (pairs-are ok low high .entries p .1 x)
+      none : findings h ≡ [] → pairs h level ≡ [] → Fault h level → ⊥
+      none e d (finding {i} x) = in-none (rw e at (findings-are ok .entries i .1 x))
+      none e d (pair {a} {b} x) = let p : Pair = record { one = a; two = b } in in-none (rw d at (pairs-are ok low high .entries p .1 x))
 
-  -- there is none exactly if every read is clean and some list shows a commit order
-  pub no-fault-iff : (Fault h level → ⊥) ↔ (AllClean h × ((o : List ℕ) × Shows h level o))
+  -- there is none exactly if every read is clean and there is a commit order
+  pub no-fault-iff : (Fault h level → ⊥) ↔ (AllClean h × HasOrder h level)
   no-fault-iff =
-      let a = accepted-shows ok low high in (λ d. a .0 (is-true _ (λ e. d (fault-iff .0 e))), λ x f. clash (a .1 x) (fault-iff .1 f))
+      let a = accepted-iff ok low high in (λ d. a .0 (is-true _ (λ e. d (fault-iff .0 e))), λ x f. clash (a .1 x) (fault-iff .1 f))
 
-  -- the two lists as they are computed
-  abbrev pub faults-are : Faults h level
-  faults-are = record { findings = findings h; pairs = pairs h level; are-findings = findings-are ok; are-pairs = pairs-are ok low high }
+  -- the lists that are computed have the numbers of the document
+  pub finding-count : FindingCount h (length (findings h))
+  finding-count = record { list = findings h; all-of = findings-are ok; long = refl }
 
-  -- the findings have one list
-  faults-findings : (l : Faults h level) → l .findings ≡ findings h
-  faults-findings l = findings-one (l .are-findings) (findings-are ok)
+  pub pair-count : PairCount h level (length (pairs h level))
+  pair-count = record { list = pairs h level; all-of = pairs-are ok low high; long = refl }
 
-  -- and the pairs
-  faults-pairs : (l : Faults h level) → l .pairs ≡ pairs h level
-  faults-pairs l = pairs-one (l .are-pairs) (pairs-are ok low high)
+  -- so any such number is a list's length, and the bytes are four times that
+  module _ {f : ℕ} (x : FindingCount h f) where
+    pub findings-counted : length (findings h) ≡ f
+    findings-counted = number-one _<_ (λ i j a b. omega arith) finding-count x
 
-  -- the counts are their lengths, and the bytes four each
-  pub list-lengths : (length (findingList h) ≡ 4 * length (findings h)) × (length (pairList h level) ≡ 4 * length (pairs h level))
-  list-lengths = (findings-spelt ok .long, pairs-spelt ok low high .long)
+    pub findings-bytes : length (findingList h) ≡ 4 * f
+    findings-bytes = findings-spelt ok .long ∙ ap (λ (n : ℕ). 4 * n) findings-counted
 
-  -- so this is what a rejection writes
-  pub written-are : (l : Faults h level) {fs ps os : List ℕ} {r : Report} {x : Outcome}
-      → x ≡ outcome r (over (findingList h) fs) (over (pairList h level) ps) os → ListsWritten h level l fs ps os x
-  written-are l e =
-      record {
-        finding-bytes = findingList h;
-        pair-bytes = pairList h level;
-        spell-findings = rw (faults-findings l) (findings-spelt ok);
-        spell-pairs = rw (faults-pairs l) (pairs-spelt ok low high);
-        findings = ap (λ (o : Outcome). o .findings) e;
-        pairs = ap (λ (o : Outcome). o .pairs) e;
-        order = ap (λ (o : Outcome). o .order) e;
-      }
+  module _ {p : ℕ} (x : PairCount h level p) where
+    pub pairs-counted : length (pairs h level) ≡ p
+    pairs-counted = number-one PairBefore before-never pair-count x
 
--- no other contents of the buffers are
-pub written-one : {h : History} {level : ℕ} {l k : Faults h level} {fs ps os : List ℕ} {x y : Outcome} → ListsWritten h level l fs ps os x
-    → ListsWritten h level k fs ps os y → (x .findings ≡ y .findings) × (x .pairs ≡ y .pairs) × (x .order ≡ y .order)
-written-one {l = l} {k} {fs} {ps} a b =
-    let e = findings-one (l .are-findings) (k .are-findings) in
-    let d = pairs-one (l .are-pairs) (k .are-pairs) in (
+    pub pairs-bytes : length (pairList h level) ≡ 4 * p
+    pairs-bytes = pairs-spelt ok low high .long ∙ ap (λ (n : ℕ). 4 * n) pairs-counted
+
+-- the two lists leave one content of each buffer
+pub lists-written-one : {h : History} {level f p : ℕ} {fs ps os : List ℕ} {x y : Outcome} → ListsWritten h level f p fs ps os x
+    → ListsWritten h level f p fs ps os y → (x .findings ≡ y .findings) × (x .pairs ≡ y .pairs) × (x .order ≡ y .order)
+lists-written-one {fs = fs} {ps} a b =
+    let e = findings-one (a .are-findings) (b .are-findings) in
+    let d = pairs-one (a .are-pairs) (b .are-pairs) in (
       a .findings ∙ ap (λ (z : List ℕ). over z fs) (finding-bytes-one (a .spell-findings) (rw e (b .spell-findings))) ∙ sym (b .findings),
       a .pairs ∙ ap (λ (z : List ℕ). over z ps) (pair-bytes-one (a .spell-pairs) (rw d (b .spell-pairs))) ∙ sym (b .pairs),
       a .order ∙ sym (b .order),
@@ -94,99 +89,79 @@ written-one {l = l} {k} {fs} {ps} a b =
 
 -- ── a trace ──
 
--- to decline is not to reject
-declines-apart : declines ≡ rejects → ⊥
-declines-apart v = omega (arith, ap verdictNo v)
-
--- nor is to accept
-accepts-apart : accepts ≡ rejects → ⊥
-accepts-apart v = omega (arith, ap verdictNo v)
+-- an outcome with another verdict is no rejection
+other : {r : Report} {f p : ℕ} → r ≡ rejecting f p → (verdictNo (r .verdict) ≡ 1 → ⊥) → ⊥
+other e d = d (ap (λ (x : Report). verdictNo (x .verdict)) e)
 
 module _ (s : List ℕ) (level : ℕ) (fs ps os : List ℕ) where
-  -- an outcome that is no rejection, or one of a history with a fault whose lists fit
-  data Came : Outcome → Type 0 where
-    other : {o : Outcome} → (o .report .verdict ≡ rejects → ⊥) → Came o
-    rejected : {h : History} {notes : List Stretch} → 1 ≤ level → level ≤ 3 → ReadInto s h notes → isAccepted h level ≡ false
-        → length (findingList h) ≤ length fs → length (pairList h level) ≤ length ps
-        → Came (outcome (rejecting (length (findings h)) (length (pairs h level))) (over (findingList h) fs) (over (pairList h level) ps) os)
-
-  module _ (low : 1 ≤ level) (high : level ≤ 3) where
-    -- an acceptance rejects nothing
-    came-accepted : (h : History) → Came (acceptance h level fs ps os)
-    came-accepted h =
-        ⊎-elim (λ l. rw (acceptance-short s level fs ps os h l) (other declines-apart)) (λ g. rw (acceptance-fits s level fs ps os h g) (other accepts-apart))
-        (split (length os) (length (order h level)))
-
-    -- a rejection does where both lists fit
-    came-rejected : {h : History} {notes : List Stretch} → ReadInto s h notes → isAccepted h level ≡ false → Came (rejection h level fs ps os)
-    came-rejected {h} r t =
-        ⊎-elim (λ l. rw (rejection-short s level fs ps os h l) (other declines-apart))
-        (λ g.
-        ⊎-elim (λ l. rw (rejection-short-pairs s level fs ps os h g l) (other declines-apart))
-        (λ k. rw (rejection-fits s level fs ps os h g k) (rejected low high r t g k)) (split (length ps) (length (pairList h level))))
-        (split (length fs) (length (findingList h)))
-
-    -- so a reading decides
-    came-read : (r : Reading) → reading s ≡ r → Came (judgedRead r level fs ps os)
-    came-read (refused n p) e = rw (judged-refused s level fs ps os n p) (other declines-apart)
-    came-read (read h notes) e =
-        ifso (isAccepted h level) (λ t. rw (judged-accepted s level fs ps os h notes t) (came-accepted h))
-        (λ t. rw (judged-rejected s level fs ps os h notes t) (came-rejected (reads-iff s h notes .0 e) t))
-
-  -- and the level before it
-  came : Came (judged s level fs ps os)
-  came =
-      ⊎-elim (λ l. none (λ x. omega (arith, x .0)))
-      (λ low. ⊎-elim (λ l. none (λ x. omega (arith, x .1))) (λ high. rw (judged-level s level fs ps os low high) (came-read low high (reading s) refl)) (split 3 level))
-      (split level 1)
-    where
-      none : ((1 ≤ level) × (level ≤ 3) → ⊥) → Came (judged s level fs ps os)
-      none d = rw (judged-no-level s level fs ps os d) (other declines-apart)
-
   -- the whole outcome of a trace that is rejected
-  pub rejected-outcome : {f p : ℕ} (a : RejectsTrace s level f p (length fs) (length ps))
+  rejected-outcome : {f p : ℕ} (a : RejectsTrace s level f p (length fs) (length ps))
       → judged s level fs ps os ≡ outcome (rejecting f p) (over (findingList (a .history)) fs) (over (pairList (a .history) level) ps) os
   rejected-outcome {f} {p} a =
       let h = a .history in
       let j = a .rejects in
       let ok = lawful-history (a .reads) in
-      let m : f ≡ length (findings h) = j .count-findings ∙ ap length (faults-findings ok (a .low) (a .high) (j .faults)) in
-      let n : p ≡ length (pairs h level) = j .count-pairs ∙ ap length (faults-pairs ok (a .low) (a .high) (j .faults)) in
-      let l = list-lengths ok (a .low) (a .high) in
-      judged-level s level fs ps os (a .low) (a .high)
-      ∙ rw (reads-iff s h (a .notes) .1 (a .reads), m, n)
-      (judged-rejected s level fs ps os h (a .notes) (fault-iff ok (a .low) (a .high) .1 (j .fault))
-      ∙ rejection-fits s level fs ps os h (omega (arith, l .0, m, j .findings-fit)) (omega (arith, l .1, n, j .pairs-fit)))
+      let m = findings-counted ok (a .low) (a .high) (j .findings) in
+      let n = pairs-counted ok (a .low) (a .high) (j .pairs) in
+      let u = findings-bytes ok (a .low) (a .high) (j .findings) in
+      let v = pairs-bytes ok (a .low) (a .high) (j .pairs) in
+      rw (← m, ← n)
+      (came-is s level fs ps os
+      (came-rejected (a .low) (a .high) (reads-iff s h (a .notes) .1 (a .reads)) (fault-iff ok (a .low) (a .high) .1 (j .fault)) (omega (arith, u, j .findings-fit)) (omega (arith, v, j .pairs-fit))))
 
-  -- a trace is rejected, with f and p, exactly if it is read into a history with a fault, and those are the counts of its lists, which fit
+  -- it is rejected, with f and p, exactly if it is read into a history with a fault, and those are the numbers of its faults, which fit
   pub rejected-trace : (f p : ℕ) → (judged s level fs ps os .report ≡ rejecting f p) ↔ RejectsTrace s level f p (length fs) (length ps)
-  rejected-trace f p = (of came, λ a. ap (λ (o : Outcome). o .report) (rejected-outcome a))
+  rejected-trace f p = (of (came s level fs ps os), λ a. ap (λ (o : Outcome). o .report) (rejected-outcome a))
     where
-      of : {o : Outcome} → Came o → o .report ≡ rejecting f p → RejectsTrace s level f p (length fs) (length ps)
-      of (other d) e = absurd (d (ap (λ (r : Report). r .verdict) e))
-      of (rejected {h} {notes} low high r t g k) e =
-          let ok = lawful-history r in
-          let m = ap (λ (x : Report). x .findings) e in
-          let n = ap (λ (x : Report). x .pairs) e in
-          let l = list-lengths ok low high in
+      of : {o : Outcome} → Came s level fs ps os o → o .report ≡ rejecting f p → RejectsTrace s level f p (length fs) (length ps)
+      of (came-no-level d) e = absurd (other e (λ z. omega arith))
+      of (came-refused a b r) e = absurd (other e (λ z. omega arith))
+      of (came-short a b r t l) e = absurd (other e (λ z. omega arith))
+      of (came-short-pairs a b r t g l) e = absurd (other e (λ z. omega arith))
+      of (came-short-order a b r t l) e = absurd (other e (λ z. omega arith))
+      of (came-accepted a b r t g) e = absurd (other e (λ z. omega arith))
+      of (came-rejected {h} {notes} a b r t g k) e =
+          let i = reads-iff s h notes .0 r in
+          let ok = lawful-history i in
+          let m : length (findings h) ≡ f = ap (λ (x : Report). x .findings) e in
+          let n : length (pairs h level) ≡ p = ap (λ (x : Report). x .pairs) e in
+          let x : FindingCount h f = rw m at (finding-count ok a b) in
+          let y : PairCount h level p = rw n at (pair-count ok a b) in
           record {
-            low = low;
-            high = high;
+            low = a;
+            high = b;
             history = h;
             notes = notes;
-            reads = r;
+            reads = i;
             rejects =
                 record {
-                  fault = fault-iff ok low high .0 t;
-                  faults = faults-are ok low high;
-                  count-findings = sym m;
-                  count-pairs = sym n;
-                  findings-fit = omega (arith, l .0, m, g);
-                  pairs-fit = omega (arith, l .1, n, k);
+                  fault = fault-iff ok a b .0 t;
+                  findings = x;
+                  pairs = y;
+                  findings-fit = omega (arith, findings-bytes ok a b x, g);
+                  pairs-fit = omega (arith, pairs-bytes ok a b y, k);
                 };
           }
 
   -- and then the two lists are written, and nothing else
-  pub lists-trace : {f p : ℕ} (a : RejectsTrace s level f p (length fs) (length ps))
-      → ListsWritten (a .history) level (a .rejects .faults) fs ps os (judged s level fs ps os)
-  lists-trace a = written-are (lawful-history (a .reads)) (a .low) (a .high) (a .rejects .faults) (rejected-outcome a)
+  pub lists-trace : {f p : ℕ} (a : RejectsTrace s level f p (length fs) (length ps)) → ListsWritten (a .history) level f p fs ps os (judged s level fs ps os)
+  lists-trace a =
+      let h = a .history in
+      let j = a .rejects in
+      let ok = lawful-history (a .reads) in
+      let e = rejected-outcome a in
+      record {
+        reads = findings h;
+        are-findings = findings-are ok;
+        reads-long = sym (findings-counted ok (a .low) (a .high) (j .findings));
+        finding-bytes = findingList h;
+        spell-findings = findings-spelt ok;
+        listed = pairs h level;
+        are-pairs = pairs-are ok (a .low) (a .high);
+        listed-long = sym (pairs-counted ok (a .low) (a .high) (j .pairs));
+        pair-bytes = pairList h level;
+        spell-pairs = pairs-spelt ok (a .low) (a .high);
+        findings = ap (λ (o : Outcome). o .findings) e;
+        pairs = ap (λ (o : Outcome). o .pairs) e;
+        order = ap (λ (o : Outcome). o .order) e;
+      }

@@ -1,4 +1,3 @@
 pub mod Forced
 pub mod Lists
 pub mod Rejected
-pub mod Judges

@@ -1,9 +1,9 @@
 -- Document 01, "Lists and order": what the two lists of a rejection hold, in its own terms.
 use Prim.Native.Nat.{ℕ, _+_, _*_, _<_}
 use mathlib.Core.Path.{_≡_}
-use mathlib.Core.List.{List, [], _∷_}
-use mathlib.Core.Logic.{_↔_}
+use mathlib.Core.List.{List}
 use lib.ListN.{length, getD}
+use Rattle.theory.specs.Entries.{AllOf}
 use Rattle.rules.specs.Numbers.{le}
 use Rattle.rules.specs.History.{History, op}
 use Rattle.rules.specs.Outcome.{Pair}
@@ -12,35 +12,27 @@ use Rattle.demand3.specs.Forced.{ListedPair, Reasons}
 
 -- ── entries ──
 
--- x is an entry of the list
-pub data In {A : Type 0} (x : A) : List A → Type 0 where
-  here : {y : A} {l : List A} → x ≡ y → In x (y ∷ l)
-  there : {y : A} {l : List A} → In x l → In x (y ∷ l)
-
--- each entry comes before all later ones: so the list has each once
-pub data Ascends {A : Type 0} (R : A → A → Type 0) : List A → Type 0 where
-  none : Ascends R []
-  next : {x : A} {l : List A} → ((y : A) → In y l → R x y) → Ascends R l → Ascends R (x ∷ l)
-
 -- an unclean read
 pub record Finding (h : History) (i : ℕ) : Type 0 where
   pub judged : JudgedRead h i
   pub unclean : Clean h i → ⊥
 
--- the findings, "by operation number"
-pub record Findings (h : History) (l : List ℕ) : Type 0 where
-  pub entries : (i : ℕ) → In i l ↔ Finding h i
-  pub ascend : Ascends _<_ l
+-- the findings, "by operation number": every unclean read once, nothing else
+abbrev pub Findings : History → List ℕ → Type 0
+Findings h = AllOf _<_ (Finding h)
 
 -- by first and then second
 pub data PairBefore (p q : Pair) : Type 0 where
   by-first : p .one < q .one → PairBefore p q
   by-second : p .one ≡ q .one → p .two < q .two → PairBefore p q
 
--- the listed pairs
-pub record Pairs (h : History) (level : ℕ) (l : List Pair) : Type 0 where
-  pub entries : (p : Pair) → In p l ↔ ListedPair h level (p .one) (p .two)
-  pub ascend : Ascends PairBefore l
+-- the pair is listed
+abbrev pub PairListed : History → ℕ → Pair → Type 0
+PairListed h level p = ListedPair h level (p .one) (p .two)
+
+-- the listed pairs: every one once, nothing else
+abbrev pub Pairs : History → ℕ → List Pair → Type 0
+Pairs h level = AllOf PairBefore (PairListed h level)
 
 -- ── bytes ──
 

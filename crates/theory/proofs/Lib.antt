@@ -2,3 +2,4 @@ pub mod Leads
 pub mod Places
 pub mod Order
 pub mod Same
+pub mod Entries

@@ -1,16 +1,15 @@
 -- Entries of lists that are put together, and their order.
 use Prim.Native.Nat.{ℕ, zero, suc, _+_, _<_, _≤_}
 use mathlib.Core.Path.{_≡_, refl, ap, sym, _∙_}
-use mathlib.Core.Bool.{Bool, true, false}
+use mathlib.Core.Bool.{Bool, true}
 use mathlib.Core.Logic.{_⊎_, inl, inr, ⊎-elim, _↔_}
 use mathlib.Core.List.{List, [], _∷_, _++_}
 use native.Mathlib.Omega.{arith}
-use lib.ListN.{length, getD}
-use Rattle.base.specs.Base.{pick, listed}
-use Rattle.base.proofs.Tests.{ifso, clash, pick-on, pick-off, split}
-use Rattle.base.proofs.Searches.{downward, listed-step, listed-end}
-use Rattle.rules.specs.Outcome.{isEmpty}
-use Rattle.demand3.specs.Lists.{In, here, there, Ascends, none, next}
+use lib.ListN.{length, getD, length-append}
+use Rattle.base.specs.Base.{pick, listed, those, count}
+use Rattle.base.proofs.Tests.{ifso, pick-on, pick-off, split}
+use Rattle.base.proofs.Searches.{downward, listed-step, listed-end, count-hit, count-miss, count-end}
+use Rattle.theory.specs.Entries.{In, here, there, Ascends, none, next, AllOf, Number}
 
 -- ── entries ──
 
@@ -18,18 +17,6 @@ module _ {A : Type 0} where
   -- an empty list has none
   pub in-none : {x : A} → In x [] → ⊥
   in-none i = elim i [ ]
-
-  -- nor has one that is tested to be empty
-  pub empty-none : (l : List A) → isEmpty l ≡ true → (x : A) → In x l → ⊥
-  unfolding isEmpty
-  empty-none [] e x i = in-none i
-  empty-none (y ∷ l) e x i = clash e refl
-
-  -- one that is not has one
-  pub some-in : (l : List A) → isEmpty l ≡ false → (x : A) × In x l
-  unfolding isEmpty
-  some-in [] e = absurd (clash refl e)
-  some-in (y ∷ l) e = (y, here refl)
 
   -- the entry at each place is one
   pub entry-in : (l : List A) (j : ℕ) (d : A) → j < length l → In (getD l j d) l
@@ -126,9 +113,14 @@ module _ {A : Type 0} (R : A → A → Type 0) where
         same (there i) (here e) = sym e
         same (there i) (there j) = absurd (never x y (f y j) (g x i))
 
-    -- so an ascending list is known by what its entries are
-    pub ascending-one : {P : A → Type 0} {l k : List A} → Ascends R l → Ascends R k → ((x : A) → In x l ↔ P x) → ((x : A) → In x k ↔ P x) → l ≡ k
-    ascending-one {P} {l} {k} u v f g = ascends-one l k u v (λ x. (λ i. g x .1 (f x .0 i), λ i. f x .1 (g x .0 i)))
+    -- so such a list is known by what its entries are
+    pub all-of-one : {P : A → Type 0} {l k : List A} → AllOf R P l → AllOf R P k → l ≡ k
+    all-of-one {P} {l} {k} a b =
+        ascends-one l k (a .ascend) (b .ascend) (λ x. (λ i. b .entries x .1 (a .entries x .0 i), λ i. a .entries x .1 (b .entries x .0 i)))
+
+    -- and there is one number
+    pub number-one : {P : A → Type 0} {n m : ℕ} → Number R P n → Number R P m → n ≡ m
+    number-one a b = a .long ∙ ap length (all-of-one (a .all-of) (b .all-of)) ∙ sym (b .long)
 
 -- ── what f gives for each number that passes ──
 
@@ -177,3 +169,36 @@ module _ {A : Type 0} (p : ℕ → Bool) (f : ℕ → A) where
   kept-all-ascend R e a h =
       listed-ascends R kept e a (kept-ascends R)
       (λ i j x y l u v. let d = kept-at i u .1 in let c = kept-at j v .1 in rw (d, c) (h i j l))
+
+-- ── the numbers that pass ──
+
+module _ (p : ℕ → Bool) (a e : ℕ) {P : ℕ → Type 0} (is : (i : ℕ) → (P i → (a ≤ i) × (i < e) × (p i ≡ true)) × (a ≤ i → i < e → p i ≡ true → P i)) where
+  -- they are those for which P holds, where the test says so from a to before e and P holds nowhere else
+  pub those-all-of : AllOf _<_ P (those a e p)
+  unfolding those
+  those-all-of =
+      record {
+        entries =
+            λ i.
+            let k = kept-iff p (λ j. j) e a i in (
+              λ m. let r = k .0 m in rw (r .is) (is (r .at) .1 (r .from) (r .to) (r .passes)),
+              λ x. let y = is i .0 x in k .1 (record { at = i; from = y .0; to = y .1; passes = y .2; is = refl }),
+            );
+        ascend = kept-all-ascend p (λ j. j) _<_ e a (λ i j l. l);
+      }
+
+-- as many as are counted
+pub those-length : (p : ℕ → Bool) (e a : ℕ) → length (those a e p) ≡ count a e p
+unfolding those
+those-length p e =
+    downward (λ j. length (listed j e f) ≡ count j e p) e (λ j g. ap length (listed-end f j e g) ∙ sym (count-end p j e g))
+    (λ j l ih.
+    let s = ap length (listed-step f j e l) ∙ length-append (f j) (listed (j + 1) e f) in
+    ifso (p j) (λ t. omega (arith, s, ih, ap length (pick-on (p j) (j ∷ []) [] t), count-hit p j e l t))
+    (λ t. omega (arith, s, ih, ap length (pick-off (p j) (j ∷ []) [] t), count-miss p j e l t)))
+  where
+    f : ℕ → List ℕ
+    f i = pick (p i) (i ∷ []) []
+
+pub number-those : (p : ℕ → Bool) (a e : ℕ) {P : ℕ → Type 0} → AllOf _<_ P (those a e p) → Number _<_ P (count a e p)
+number-those p a e x = record { list = those a e p; all-of = x; long = sym (those-length p e a) }

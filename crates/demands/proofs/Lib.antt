@@ -1,0 +1,5 @@
+pub mod Declined
+pub mod Meets
+pub mod One
+pub mod Any
+pub mod Worthless

@@ -8,12 +8,12 @@ use Rattle.rules.specs.Reading.{Reading, refused, read, reading, Stretch}
 use Rattle.rules.specs.Outcome.{declining, reported, outcome, judgedRead, judged}
 use Rattle.rules.specs.declared.Answer.{Answer}
 use Rattle.rules.specs.declared.Answer.the-variants.{Refused}
+use Rattle.rules.proofs.Outcome.{judged-level, judged-refused}
 use Rattle.table.specs.Table.{historyOf}
 use Rattle.trace.specs.declared.Out.{Out}
 use Rattle.trace.specs.declared.Out.the-variants.{Good, Bad}
 use Rattle.trace.specs.Trace.{good, answered, TraceRead}
 use Rattle.judging.specs.Judging.{OnReading}
-use Rattle.judging.proofs.Cases.{judged-level, judged-refused}
 
 -- the reading q, to which the answer is r
 module _ (level : ℕ) (f p o : List ℕ) (k : ℕ) where

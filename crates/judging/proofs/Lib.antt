@@ -1,4 +1,3 @@
-pub mod Cases
 pub mod Order
 pub mod Lists
 pub mod Forced

@@ -11,13 +11,14 @@ use Rattle.rules.specs.History.{History, txCount}
 use Rattle.rules.specs.Outcome.{findings, findingList, pairs, pairList, reported}
 use Rattle.rules.specs.declared.Answer.{Answer}
 use Rattle.rules.specs.declared.Answer.the-variants.{Refused, Rejected}
+use Rattle.rules.proofs.Numbers.{appended-over}
+use Rattle.rules.proofs.Outcome.{is-accepted, found-rejected, listed-rejected, judged-accepted, judged-rejected, rejection-short, rejection-short-pairs, rejection-fits}
 use Rattle.table.specs.Table.{historyOf}
 use Rattle.lists.specs.Lists.{pairCount, pairsIn, Judging}
 use Rattle.lists.proofs.Findings.{findings-four}
 use Rattle.lists.proofs.Levels.{pairs-four, told-pairs, told-count}
 use Rattle.judging.specs.declared.Counts.{Counts}
 use Rattle.judging.specs.Judging.{Counted, OnAcceptance, OnRejection, OnReading}
-use Rattle.judging.proofs.Cases.{appended-over, rejection-short, rejection-short-pairs, rejection-fits, read-accepted, read-found, read-listed}
 
 -- x: the number of transactions
 pub counted : {h f c : List ℕ} {n : Counts} {x : ℕ} → x ≡ txCount (historyOf h) → (n .findings ≡ length (findings (historyOf h))) × (n .findings ≤ 1024)
@@ -44,7 +45,7 @@ module _ {h k f c v : List ℕ} {n : Counts} (m : Counted h f c n) (level : ℕ)
   module _ (fo po : List ℕ) where
     pub reject-findings : length fo < 4 * n .findings → OnRejection H level fo po fo po (Refused 12 (4 * n .findings))
     unfolding reported
-    reject-findings l = record { is = λ o. rw findings-bytes (sym (rejection-short H level fo po o (omega (arith, findings-bytes)))) }
+    reject-findings l = record { is = λ o. rw findings-bytes (sym (rejection-short level fo po o H (omega (arith, findings-bytes)))) }
 
     module _ (l : 4 * n .findings ≤ length fo) where
       pub reject-pairs : length po < 4 * n .pairs → OnRejection H level fo po fo po (Refused 13 (4 * n .pairs))
@@ -54,7 +55,7 @@ module _ {h k f c v : List ℕ} {n : Counts} (m : Counted h f c n) (level : ℕ)
             is =
                 λ o.
                 rw pairs-bytes
-                (sym (rejection-short-pairs H level fo po o (omega (arith, findings-bytes)) (omega (arith, pairs-bytes))));
+                (sym (rejection-short-pairs level fo po o H (omega (arith, findings-bytes)) (omega (arith, pairs-bytes))));
           }
 
       pub reject-fits : 4 * n .pairs ≤ length po → {fo2 po2 : List ℕ} {a b : ℕ} → Appended fo 0 fo2 a (findingList H) → Appended po 0 po2 b (pairsIn H f c v)
@@ -65,7 +66,7 @@ module _ {h k f c v : List ℕ} {n : Counts} (m : Counted h f c n) (level : ℕ)
             is =
                 λ o.
                 rw (m .found, pairs-count, appended-over x, appended-over (rw (told-pairs j) at y))
-                (sym (rejection-fits H level fo po o (omega (arith, findings-bytes)) (omega (arith, pairs-bytes))));
+                (sym (rejection-fits level fo po o H (omega (arith, findings-bytes)) (omega (arith, pairs-bytes))));
           }
 
   -- ── "Accepted: no finding and no listed pair" ──
@@ -74,7 +75,7 @@ module _ {h k f c v : List ℕ} {n : Counts} (m : Counted h f c n) (level : ℕ)
     pub decide-accepts : n .findings + n .pairs ≡ 0 → {oo2 : List ℕ} → OnAcceptance H level oo oo2 r → OnReading H level fo po oo fo po oo2 r
     decide-accepts e a =
         record {
-          is = λ notes. a .is fo po ∙ sym (read-accepted H level fo po oo notes (omega (arith, m .found)) (omega (arith, pairs-count)));
+          is = λ notes. a .is fo po ∙ sym (judged-accepted level fo po oo H notes (is-accepted H level (omega (arith, m .found)) (omega (arith, pairs-count))));
         }
 
     pub decide-rejects : (n .findings + n .pairs ≡ 0 → ⊥) → {fo2 po2 : List ℕ} → OnRejection H level fo po fo2 po2 r → OnReading H level fo po oo fo2 po2 oo r
@@ -83,6 +84,7 @@ module _ {h k f c v : List ℕ} {n : Counts} (m : Counted h f c n) (level : ℕ)
           is =
               λ notes.
               a .is oo
-              ∙ ⊎-elim (λ l. sym (read-found H level fo po oo notes (omega (arith, m .found))))
-              (λ l. sym (read-listed H level fo po oo notes (omega (arith, e, pairs-count)))) (split 0 (n .findings));
+              ∙ sym (judged-rejected level fo po oo H notes
+              (⊎-elim (λ l. found-rejected H level (omega (arith, m .found))) (λ l. listed-rejected H level (omega (arith, e, pairs-count)))
+              (split 0 (n .findings))));
         }

@@ -13,6 +13,8 @@ use Rattle.rules.specs.History.{txCount, size, committed}
 use Rattle.rules.specs.Levels.{forced}
 use Rattle.rules.specs.Outcome.{order, reported}
 use Rattle.rules.specs.declared.Answer.the-variants.{Refused, Accepted}
+use Rattle.rules.proofs.Numbers.{appended-over}
+use Rattle.rules.proofs.Outcome.{acceptance-short, acceptance-fits}
 use Rattle.table.specs.Table.{historyOf, Held}
 use Rattle.bits.specs.Bits.{Holds}
 use Rattle.pairs.specs.Pairs.{before}
@@ -21,7 +23,6 @@ use Rattle.order.specs.Sets.{inWords, Gathered}
 use Rattle.order.specs.Ordering.{standsBefore}
 use Rattle.order.proofs.Sets.{gather-end}
 use Rattle.judging.specs.Judging.{OnAcceptance}
-use Rattle.judging.proofs.Cases.{appended-over, acceptance-short, acceptance-fits}
 
 -- ── a front that is copied byte by byte ──
 
@@ -51,7 +52,7 @@ module _ {h : List ℕ} {x : ℕ} (p : Held h) (e : x ≡ txCount (historyOf h))
 
       pub accept-short : length o < n → OnAcceptance (historyOf h) level o o (Refused 14 n)
       unfolding reported
-      accept-short l = record { is = λ fs ps. rw as-long (sym (acceptance-short (historyOf h) level fs ps o (omega (arith, as-long)))) }
+      accept-short l = record { is = λ fs ps. rw as-long (sym (acceptance-short level fs ps o (historyOf h) (omega (arith, as-long)))) }
 
       pub accept-fits : n ≤ length o → {o2 : List ℕ} → Appended o 0 o2 n (take n b) → OnAcceptance (historyOf h) level o o2 (Accepted n)
       unfolding reported
@@ -60,5 +61,5 @@ module _ {h : List ℕ} {x : ℕ} (p : Held h) (e : x ≡ txCount (historyOf h))
           record {
             is =
                 λ fs ps.
-                rw (appended-over (rw shown at y), as-long) (sym (acceptance-fits (historyOf h) level fs ps o (omega (arith, as-long))));
+                rw (appended-over (rw shown at y), as-long) (sym (acceptance-fits level fs ps o (historyOf h) (omega (arith, as-long))));
           }

@@ -1,6 +1,7 @@
 use mathlib.Core.Path.{sym}
 use Rattle.rules.specs.Outcome.{reported}
-use Rattle.judging.proofs.Cases.{judged-below, judged-above}
+use native.Mathlib.Omega.{arith}
+use Rattle.rules.proofs.Outcome.{judged-no-level}
 use Rattle.judging.proofs.Call.{call-refused, call-read}
 use borrow.Author.Needs.{needs}
 use Rattle.judging.proofs.judge.Statement.{statement}
@@ -9,12 +10,12 @@ use Rattle.judging.proofs.judge.Tie as tie
 returns : tie.Need-returns
 unfolding reported
 returns c =
-    sym (judged-below _ _ _ _ _ (c .if1 .taken))
+    sym (judged-no-level _ _ _ _ _ (λ l. omega (arith, l .0, c .if1 .taken)))
 
 returns-2 : tie.Need-returns-2
 unfolding reported
 returns-2 c =
-    sym (judged-above _ _ _ _ _ (c .if2 .taken))
+    sym (judged-no-level _ _ _ _ _ (λ l. omega (arith, l .1, c .if2 .taken)))
 
 returns-3 : tie.Need-returns-3
 returns-3 c =

@@ -74,10 +74,13 @@ fn lists_of_more_transactions_follow_their_definitions() {
 
 #[test]
 fn readable_traces_survive_decoding_and_encoding() {
+    let mut readable = 0;
     for stream in 0..4_000 {
         let (_, bytes) = generate::any(&mut Random::new(3, stream));
         if let Ok(notation) = text::decode(&bytes) {
             assert_eq!(text::encode(notation.as_bytes()), Ok(bytes), "{stream}");
+            readable += 1;
         }
     }
+    assert!(readable > 2_000);
 }

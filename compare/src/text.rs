@@ -542,6 +542,9 @@ mod tests {
                     }
                 }
             }
+            let bytes = encode(text.as_bytes()).unwrap();
+            let decoded = decode(&bytes).unwrap();
+            assert_eq!(encode(decoded.as_bytes()), Ok(bytes), "{text}");
         }
     }
 

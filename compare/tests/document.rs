@@ -30,6 +30,42 @@ pair 2 1 8
 }
 
 #[test]
+fn the_example_of_the_readme_is_accepted() {
+    let bytes = text::encode(b"T1 w1=5; T2 r1=5 aborted; T3 s1 r1=0").unwrap();
+    let expected = "rc accepted 0 1 3\nra accepted 0 1 3\ntcc accepted 0 1 3\n";
+    assert_eq!(judge_text(&bytes), expected);
+}
+
+#[test]
+fn reasons_that_meet_in_one_pair_are_added() {
+    let at_level_2 = |notation: &str| {
+        let bytes = text::encode(notation.as_bytes()).unwrap();
+        match judge_one(&bytes, Level::ReadAtomicity).unwrap() {
+            Verdict::Accepted(_) => Vec::new(),
+            Verdict::Rejected { pairs, .. } => pairs
+                .iter()
+                .map(|pair| (pair.first, pair.second, pair.reasons))
+                .collect(),
+        }
+    };
+    // Start and read: 0 is the source of T1's read.
+    assert_eq!(
+        at_level_2("T1 s1 r2=0 w1=5; T2 s1 r1=0"),
+        [(0, 1, 1 + 4), (1, 0, 8)]
+    );
+    // Start, read and rival: T2 read T1's value though 0 is before T2 too.
+    assert_eq!(
+        at_level_2("T1 r2=0 w1=5; T2 r1=5 r1=0"),
+        [(0, 1, 1 + 4 + 8), (1, 0, 8)]
+    );
+    // Session and rival: T3 read both.
+    assert_eq!(
+        at_level_2("T1 s9 w1=5; T2 s9 w1=6; T3 r1=5 r1=6"),
+        [(1, 2, 2 + 8), (2, 1, 8)]
+    );
+}
+
+#[test]
 fn the_two_deciders_agree_on_random_traces() {
     let mut checked = 0;
     for stream in 0..4_000 {

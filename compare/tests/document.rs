@@ -84,8 +84,8 @@ fn the_two_deciders_agree_on_random_traces() {
 }
 
 #[test]
-fn lists_of_more_transactions_follow_their_definitions() {
-    let mut rejected = 0;
+fn answers_of_more_transactions_follow_their_definitions() {
+    let (mut accepted, mut rejected) = (0, 0);
     for stream in 0..3_000 {
         let (_, bytes) = generate::any(&mut Random::new(4, stream));
         let Ok(trace) = Trace::parse(&bytes) else {
@@ -96,8 +96,14 @@ fn lists_of_more_transactions_follow_their_definitions() {
         }
         for level in Level::ALL {
             let (findings, pairs) = brute::lists(&trace, level);
+            let placed = brute::order(&trace, level);
+            assert_eq!(placed.is_some(), pairs.is_empty(), "{stream}");
             match judge_one(&bytes, level).unwrap() {
-                Verdict::Accepted(_) => assert!(findings.is_empty() && pairs.is_empty()),
+                Verdict::Accepted(order) => {
+                    assert!(findings.is_empty() && pairs.is_empty());
+                    assert_eq!(placed, Some(order), "{stream}");
+                    accepted += 1;
+                }
                 listed => {
                     assert_eq!(listed, Verdict::Rejected { findings, pairs }, "{stream}");
                     rejected += 1;
@@ -105,7 +111,7 @@ fn lists_of_more_transactions_follow_their_definitions() {
             }
         }
     }
-    assert!(rejected > 100);
+    assert!(accepted > 100 && rejected > 100);
 }
 
 #[test]

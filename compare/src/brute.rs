@@ -56,6 +56,12 @@ pub fn lists(trace: &Trace, level: Level) -> (Vec<Finding>, Vec<Pair>) {
     (small.findings, pairs)
 }
 
+/// The order by its rule alone, unclean reads left aside, for any number of
+/// transactions; nothing if some are never placed.
+pub fn order(trace: &Trace, level: Level) -> Option<Vec<u8>> {
+    Small::new(trace).order(level)
+}
+
 /// Where a clean external read stands and what it came from.
 struct ExternalRead {
     index: usize,
@@ -264,8 +270,8 @@ impl<'a> Small<'a> {
         .sum()
     }
 
-    /// The forced pairs whose second leads to their first through forced pairs.
-    fn listed(&self, level: Level) -> Vec<Pair> {
+    /// The forced pairs, by first and then second.
+    fn forced(&self, level: Level) -> Vec<Pair> {
         let mut forced = Vec::new();
         for &first in &self.committed {
             for &second in &self.committed {
@@ -279,12 +285,33 @@ impl<'a> Small<'a> {
                 }
             }
         }
-        let all_forced = forced.clone();
-        let is_forced = Relation::new(&self.committed, |a, b| {
-            all_forced.iter().any(|p| (p.first, p.second) == (a, b))
-        });
-        forced.retain(|p| self.leads(p.second, p.first, &is_forced));
         forced
+    }
+
+    /// The forced pairs whose second leads to their first through forced pairs.
+    fn listed(&self, level: Level) -> Vec<Pair> {
+        let mut listed = self.forced(level);
+        let forced = listed.clone();
+        let is_forced = Relation::new(&self.committed, |a, b| {
+            forced.iter().any(|p| (p.first, p.second) == (a, b))
+        });
+        listed.retain(|p| self.leads(p.second, p.first, &is_forced));
+        listed
+    }
+
+    /// Each next place has the smallest number not yet placed whose forced
+    /// predecessors all are.
+    fn order(&self, level: Level) -> Option<Vec<u8>> {
+        let forced = self.forced(level);
+        let mut order = Vec::new();
+        while order.len() < self.committed.len() {
+            let is_placed = |t: u8| order.contains(&t);
+            let is_free = |t: u8| forced.iter().all(|p| p.second != t || is_placed(p.first));
+            let mut candidates = self.committed.iter().copied();
+            let next = candidates.find(|&t| !is_placed(t) && is_free(t))?;
+            order.push(next);
+        }
+        Some(order)
     }
 }
 

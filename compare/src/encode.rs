@@ -33,6 +33,12 @@ impl Writer {
         self.record(OPEN, &session.to_le_bytes());
     }
 
+    /// Puts another session into the open record that begins at this byte.
+    pub fn set_session(&mut self, open: usize, session: u16) {
+        let payload = open + 8;
+        self.bytes[payload..payload + 2].copy_from_slice(&session.to_le_bytes());
+    }
+
     pub fn read(&mut self, key: u32, value: u64) {
         self.operation(READ, key, value);
     }

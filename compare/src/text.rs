@@ -10,6 +10,7 @@
 
 use crate::encode::Writer;
 use crate::trace::{self, Refusal, Trace};
+use std::collections::HashSet;
 use std::fmt;
 use std::str::FromStr;
 
@@ -18,7 +19,8 @@ pub const GRAMMAR: &str = r#"Items, parted by ';' or by line ends:
   serial N          the first serial; only as the first item; default 0
   T1 ...            a transaction; they are numbered T1, T2, .. in order. Then
                     may follow, parted by blanks and in this order:
-      sN            its session; default: the transaction's own number
+      sN            its session; default: one that no other transaction has,
+                    its own number or, where that is taken, the next free one
       rK=V  wK=V    reads and writes of key K, value V, in any number
       note "text"   a note, anywhere among the reads and writes
       committed, aborted or status N     default: committed
@@ -76,18 +78,28 @@ enum Token {
 
 /// Turns a text into the bytes of a trace.
 pub fn encode(text: &[u8]) -> Result<Vec<u8>, TextError> {
-    let tokens = Tokens::cut(text)?;
-    Encoder {
-        tokens,
+    let mut encoder = Encoder {
+        tokens: Tokens::cut(text)?,
         writer: Writer::new(0),
         transactions: 0,
-    }
-    .run()
+        sessions: HashSet::new(),
+        left_out: Vec::new(),
+    };
+    let end = encoder.items()?;
+    encoder.choose_sessions();
+    Ok(match end {
+        None => encoder.writer.end(),
+        Some(number) => encoder.writer.end_with(number),
+    })
 }
 
 /// The text of a trace that is not refused: encoding it gives its bytes again.
 pub fn decode(bytes: &[u8]) -> Result<String, Refusal> {
-    Trace::parse(bytes)?;
+    let trace = Trace::parse(bytes)?;
+    let is_shared = |session: u16| {
+        let of_session = trace.transactions.iter().filter(|t| t.session == session);
+        of_session.count() > 1
+    };
     let mut out = String::new();
     let mut number = 0;
     let mut inside = false;
@@ -102,7 +114,8 @@ pub fn decode(bytes: &[u8]) -> Result<String, Refusal> {
                 inside = true;
                 out.push_str(&format!("T{number}"));
                 let session = u16::from_le_bytes([payload[0], payload[1]]);
-                if session != number {
+                // Encoding chooses the own number where no other has it.
+                if session != number || is_shared(session) {
                     out.push_str(&format!(" s{session}"));
                 }
             }
@@ -302,15 +315,21 @@ struct Encoder {
     tokens: Tokens,
     writer: Writer,
     transactions: u16,
+    /// The sessions that transactions have: those written out, then the others.
+    sessions: HashSet<u16>,
+    /// The transactions whose session is left out: the number of each and the
+    /// byte at which its open record begins.
+    left_out: Vec<(u16, usize)>,
 }
 
 impl Encoder {
-    fn run(mut self) -> Result<Vec<u8>, TextError> {
+    /// All items. Answers the number of the end record if it is written out.
+    fn items(&mut self) -> Result<Option<u16>, TextError> {
         let mut first_item = true;
         loop {
             self.tokens.skip_separators();
             let Some((at, token)) = self.tokens.peek() else {
-                return Ok(self.writer.end());
+                return Ok(None);
             };
             let Token::Word(word) = token else {
                 return Err(at.error("a quoted text needs the word 'note' before it"));
@@ -336,7 +355,7 @@ impl Encoder {
                     if let Some((at, _)) = self.tokens.peek() {
                         return Err(at.error("nothing can follow 'end'"));
                     }
-                    return Ok(self.writer.end_with(number));
+                    return Ok(Some(number));
                 }
                 _ => self.transaction(&word, at)?,
             }
@@ -358,14 +377,16 @@ impl Encoder {
             return Err(at.error(format!("{name} is out of turn; T{next} comes next")));
         }
         self.transactions = given;
-        let mut session = given;
-        if let Some((at, word)) = self.tokens.peek_word() {
-            if let Some(digits) = word.strip_prefix('s').filter(|_| word != "status") {
-                session = number(digits, at, "session", u16::MAX)?;
-                self.tokens.next += 1;
+        match self.session()? {
+            Some(session) => {
+                self.sessions.insert(session);
+                self.writer.open(session);
+            }
+            None => {
+                self.left_out.push((given, self.writer.bytes.len()));
+                self.writer.open(0); // until all that are written out are known
             }
         }
-        self.writer.open(session);
         let mut status = 1;
         while let Some((at, word)) = self.tokens.peek_word() {
             self.tokens.next += 1;
@@ -388,6 +409,31 @@ impl Encoder {
         }
         self.writer.close(status);
         Ok(())
+    }
+
+    /// A transaction's session if it is written out.
+    fn session(&mut self) -> Result<Option<u16>, TextError> {
+        let Some((at, word)) = self.tokens.peek_word() else {
+            return Ok(None);
+        };
+        let Some(digits) = word.strip_prefix('s').filter(|_| word != "status") else {
+            return Ok(None);
+        };
+        self.tokens.next += 1;
+        number(digits, at, "session", u16::MAX).map(Some)
+    }
+
+    /// Gives each transaction that leaves its session out one that no other
+    /// has: its own number or, where that is taken, the next that is free,
+    /// 0 coming after 65,535.
+    fn choose_sessions(&mut self) {
+        for &(number, open) in &self.left_out {
+            let session = (number..=u16::MAX)
+                .chain(0..number)
+                .find(|&session| self.sessions.insert(session))
+                .expect("there are more sessions than transactions");
+            self.writer.set_session(open, session);
+        }
     }
 
     fn operation(&mut self, word: &str, at: Position) -> Result<(), TextError> {
@@ -413,6 +459,15 @@ impl Encoder {
 #[cfg(test)]
 mod tests {
     use super::*;
+    use crate::random::Random;
+
+    /// The sessions of the transactions that a text has, lawful or not.
+    fn sessions_of(text: &str) -> Vec<u16> {
+        trace::records(&encode(text.as_bytes()).unwrap())
+            .filter(|record| record.kind == trace::OPEN)
+            .map(|record| u16::from_le_bytes([record.payload[0], record.payload[1]]))
+            .collect()
+    }
 
     fn error_of(text: &str) -> String {
         encode(text.as_bytes()).unwrap_err().to_string()
@@ -432,6 +487,79 @@ mod tests {
         let bytes = encode(text.as_bytes()).unwrap();
         assert_eq!(decode(&bytes).unwrap(), text);
         assert_eq!(decode(&encode(b"").unwrap()).unwrap(), "");
+    }
+
+    #[test]
+    fn a_session_left_out_is_no_other_transactions() {
+        // Nothing is taken: the own numbers.
+        assert_eq!(sessions_of("T1; T2; T3"), [1, 2, 3]);
+        // README's example: taken by one that is written out later.
+        assert_eq!(
+            sessions_of("T1 w1=5; T2 r1=5 aborted; T3 s1 r1=0"),
+            [2, 3, 1]
+        );
+        // Taken by one that is written out earlier, with a gap behind it.
+        assert_eq!(sessions_of("T1 s2; T2; T3 s4; T4"), [2, 3, 4, 5]);
+        // A session that is shared stays shared, and 0 is one like others.
+        assert_eq!(
+            sessions_of("T1 s0; T2 s3; T3; T4 s3; T5 s0"),
+            [0, 3, 4, 3, 0]
+        );
+    }
+
+    #[test]
+    fn after_the_last_session_comes_the_first() {
+        let left_out: String = (3..=65_535).map(|n| format!("; T{n}")).collect();
+        let last = |first_two: &str| {
+            *sessions_of(&(first_two.to_owned() + &left_out))
+                .last()
+                .unwrap()
+        };
+        assert_eq!(last("T1; T2"), 65_535);
+        assert_eq!(last("T1 s65535; T2"), 0);
+        assert_eq!(last("T1 s65535; T2 s0"), 1);
+    }
+
+    #[test]
+    fn sessions_left_out_at_random_are_no_others() {
+        for stream in 0..2_000 {
+            let mut random = Random::new(5, stream);
+            let written: Vec<Option<usize>> = (0..random.from_to(1, 12))
+                .map(|_| random.percent(50).then(|| random.below(14)))
+                .collect();
+            let transaction = |(number, session): (usize, &Option<usize>)| match session {
+                Some(session) => format!("T{number} s{session}\n"),
+                None => format!("T{number}\n"),
+            };
+            let text: String = (1..).zip(&written).map(transaction).collect();
+            let sessions = sessions_of(&text);
+            for (session, written) in sessions.iter().zip(&written) {
+                match written {
+                    Some(written) => assert_eq!(usize::from(*session), *written, "{text}"),
+                    None => {
+                        let with_it = sessions.iter().filter(|other| *other == session);
+                        assert_eq!(with_it.count(), 1, "{text}");
+                    }
+                }
+            }
+            let bytes = encode(text.as_bytes()).unwrap();
+            let decoded = decode(&bytes).unwrap();
+            assert_eq!(encode(decoded.as_bytes()), Ok(bytes), "{text}");
+        }
+    }
+
+    #[test]
+    fn decoding_leaves_out_only_what_encoding_chooses() {
+        for (text, decoded) in [
+            ("T1 s1; T2 s2", "T1\nT2\n"),
+            ("T1 s1; T2 s2; T3 s1", "T1 s1\nT2\nT3 s1\n"),
+            ("T1 s2; T2 s1", "T1 s2\nT2 s1\n"),
+            ("T1; T2; T3 s1", "T1 s2\nT2 s3\nT3 s1\n"),
+        ] {
+            let bytes = encode(text.as_bytes()).unwrap();
+            assert_eq!(decode(&bytes).unwrap(), decoded);
+            assert_eq!(encode(decoded.as_bytes()).unwrap(), bytes);
+        }
     }
 
     #[test]

@@ -30,6 +30,42 @@ pair 2 1 8
 }
 
 #[test]
+fn the_example_of_the_readme_is_accepted() {
+    let bytes = text::encode(b"T1 w1=5; T2 r1=5 aborted; T3 s1 r1=0").unwrap();
+    let expected = "rc accepted 0 1 3\nra accepted 0 1 3\ntcc accepted 0 1 3\n";
+    assert_eq!(judge_text(&bytes), expected);
+}
+
+#[test]
+fn reasons_that_meet_in_one_pair_are_added() {
+    let at_level_2 = |notation: &str| {
+        let bytes = text::encode(notation.as_bytes()).unwrap();
+        match judge_one(&bytes, Level::ReadAtomicity).unwrap() {
+            Verdict::Accepted(_) => Vec::new(),
+            Verdict::Rejected { pairs, .. } => pairs
+                .iter()
+                .map(|pair| (pair.first, pair.second, pair.reasons))
+                .collect(),
+        }
+    };
+    // Start and read: 0 is the source of T1's read.
+    assert_eq!(
+        at_level_2("T1 s1 r2=0 w1=5; T2 s1 r1=0"),
+        [(0, 1, 1 + 4), (1, 0, 8)]
+    );
+    // Start, read and rival: T2 read T1's value though 0 is before T2 too.
+    assert_eq!(
+        at_level_2("T1 r2=0 w1=5; T2 r1=5 r1=0"),
+        [(0, 1, 1 + 4 + 8), (1, 0, 8)]
+    );
+    // Session and rival: T3 read both.
+    assert_eq!(
+        at_level_2("T1 s9 w1=5; T2 s9 w1=6; T3 r1=5 r1=6"),
+        [(1, 2, 2 + 8), (2, 1, 8)]
+    );
+}
+
+#[test]
 fn the_two_deciders_agree_on_random_traces() {
     let mut checked = 0;
     for stream in 0..4_000 {
@@ -48,8 +84,8 @@ fn the_two_deciders_agree_on_random_traces() {
 }
 
 #[test]
-fn lists_of_more_transactions_follow_their_definitions() {
-    let mut rejected = 0;
+fn answers_of_more_transactions_follow_their_definitions() {
+    let (mut accepted, mut rejected) = (0, 0);
     for stream in 0..3_000 {
         let (_, bytes) = generate::any(&mut Random::new(4, stream));
         let Ok(trace) = Trace::parse(&bytes) else {
@@ -60,8 +96,14 @@ fn lists_of_more_transactions_follow_their_definitions() {
         }
         for level in Level::ALL {
             let (findings, pairs) = brute::lists(&trace, level);
+            let placed = brute::order(&trace, level);
+            assert_eq!(placed.is_some(), pairs.is_empty(), "{stream}");
             match judge_one(&bytes, level).unwrap() {
-                Verdict::Accepted(_) => assert!(findings.is_empty() && pairs.is_empty()),
+                Verdict::Accepted(order) => {
+                    assert!(findings.is_empty() && pairs.is_empty());
+                    assert_eq!(placed, Some(order), "{stream}");
+                    accepted += 1;
+                }
                 listed => {
                     assert_eq!(listed, Verdict::Rejected { findings, pairs }, "{stream}");
                     rejected += 1;
@@ -69,15 +111,18 @@ fn lists_of_more_transactions_follow_their_definitions() {
             }
         }
     }
-    assert!(rejected > 100);
+    assert!(accepted > 100 && rejected > 100);
 }
 
 #[test]
 fn readable_traces_survive_decoding_and_encoding() {
+    let mut readable = 0;
     for stream in 0..4_000 {
         let (_, bytes) = generate::any(&mut Random::new(3, stream));
         if let Ok(notation) = text::decode(&bytes) {
             assert_eq!(text::encode(notation.as_bytes()), Ok(bytes), "{stream}");
+            readable += 1;
         }
     }
+    assert!(readable > 2_000);
 }

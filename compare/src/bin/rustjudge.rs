@@ -1,7 +1,7 @@
 //! The programs `judge` and `stream`, by the independent judge: standard input
 //! is a trace, or with `--stream` traces behind their lengths (2 bytes
 //! little-endian); standard output is the answer, or each answer before a line
-//! `--`.
+//! `--`. If the last trace of a stream is cut, what there is of it is judged.
 
 use std::io::{self, BufReader, BufWriter, Read, Write};
 use std::process::ExitCode;
@@ -40,8 +40,9 @@ fn stream() -> io::Result<()> {
             Err(error) if error.kind() == io::ErrorKind::UnexpectedEof => return output.flush(),
             other => other?,
         }
-        trace.resize(usize::from(u16::from_le_bytes(length)), 0);
-        input.read_exact(&mut trace)?;
+        trace.clear();
+        let length = u16::from_le_bytes(length);
+        input.by_ref().take(length.into()).read_to_end(&mut trace)?;
         output.write_all(ferozhak_compare::judge_text(&trace).as_bytes())?;
         output.write_all(b"--\n")?;
     }

@@ -17,7 +17,6 @@ use Rattle.demand2.specs.Kinds.{AllClean}
 use Rattle.demand2.specs.Axiom.{HasOrder}
 use Rattle.demand2.proofs.Accepted.{empty-pairs-iff}
 use Rattle.demand2.proofs.Traces.{accepted-trace, order-trace}
-use Rattle.demand3.proofs.Pairs.{none-listed-iff}
 use Rattle.demand3.proofs.Traces.{rejected-trace, lists-trace}
 use Rattle.demands.specs.Demands.{Demand1, Demand2, Demand3, Demands}
 use Rattle.demands.proofs.Declined.{declines-iff, refusal-writes-nothing}
@@ -71,7 +70,6 @@ module _ (s : List ℕ) (level : ℕ) (fs ps os : List ℕ) (r : Answer) {F P O 
             record {
               rejected = λ f p. same _ (rejected-trace s level fs ps os f p);
               listed = λ a. rw is (lists-trace s level fs ps os a);
-              none-listed = λ a b i clean. none-listed-iff (lawful-history i) a b clean;
               none-counted =
                   λ a b i clean d. rw said (reported-iff s level fs ps os i clean (came s level fs ps os) (λ v. d (ap (λ (x : Report). x .verdict) said ∙ v)));
             };

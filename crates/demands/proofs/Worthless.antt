@@ -11,10 +11,11 @@ use Rattle.rules.specs.Cases.{Case, all, table, at-each}
 use Rattle.rules.specs.declared.Answer.{Answer}
 use Rattle.rules.proofs.Outcome.{verdictNo, Says, says-declined, says-rejected, says-accepted, says}
 use Rattle.demand1.proofs.Readings.{one-outcome}
+use Rattle.demand2.specs.Accepted.{AcceptsTrace}
 use Rattle.demand2.proofs.Accepted.{order-written-one}
 use Rattle.demand2.proofs.Traces.{accepted-trace, order-trace}
 use Rattle.demand3.specs.Lists.{PairBefore}
-use Rattle.demand3.specs.Rejected.{Rejects}
+use Rattle.demand3.specs.Rejected.{Rejects, RejectsTrace}
 use Rattle.demand3.proofs.Pairs.{before-never}
 use Rattle.demand3.proofs.Traces.{rejected-trace, lists-trace, lists-written-one}
 use Rattle.demands.specs.Declined.{Declines}
@@ -37,6 +38,13 @@ documented k l = ap (λ (c : Case). c .rc) (at-each k (all [] (outcome (declinin
 
 report-is : (k : ℕ) → k < length table → defined k .report ≡ caseAt k .rc .report
 report-is k l = ap (λ (o : Outcome). o .report) (documented k l)
+
+-- a case that the document accepts, or rejects, is one that the demands' conditions accept or reject
+accepted-case : (k : ℕ) → k < length table → (n : ℕ) → caseAt k .rc .report ≡ accepting n → AcceptsTrace (caseAt k .bytes) 1 n 16
+accepted-case k l n e = accepted-trace (caseAt k .bytes) 1 (room 16) (room 16) (room 16) n .0 (report-is k l ∙ e)
+
+rejected-case : (k : ℕ) → k < length table → (f p : ℕ) → caseAt k .rc .report ≡ rejecting f p → RejectsTrace (caseAt k .bytes) 1 f p 16 16
+rejected-case k l f p e = rejected-trace (caseAt k .bytes) 1 (room 16) (room 16) (room 16) f p .0 (report-is k l ∙ e)
 
 -- no row refuses a case that the document does not refuse
 undeclined : (k : ℕ) → k < length table → (verdictNo (caseAt k .rc .report .verdict) ≡ 0 → ⊥) → (n p : ℕ) → Declines (caseAt k .bytes) 1 16 16 16 n p → ⊥
@@ -79,7 +87,7 @@ module _ (J : Judge) where
   -- P1 is accepted and P13 is not, so not all that are not refused have one verdict
   pub not-fixed-verdict : {v : Verdict} → Meets2 J → FixedVerdict J v → ⊥
   not-fixed-verdict {v} m f =
-      let one = m (caseAt 0 .bytes) 1 (room 16) (room 16) (room 16) .accepted 1 .1 (accepted-trace (caseAt 0 .bytes) 1 (room 16) (room 16) (room 16) 1 .0 (report-is 0 (omega arith))) in
+      let one = m (caseAt 0 .bytes) 1 (room 16) (room 16) (room 16) .accepted 1 .1 (accepted-case 0 (omega arith) 1 refl) in
       let e : v ≡ accepts = sym (f (caseAt 0 .bytes) 1 (room 16) (room 16) (room 16) (undeclined 0 (omega arith) (λ z. omega arith))) ∙ ap (λ (r : Report). r .verdict) one in
       let s = acceptance-says (gives 12 .answer) (f (caseAt 12 .bytes) 1 (room 16) (room 16) (room 16) (undeclined 12 (omega arith) (λ z. omega arith)) ∙ e) in
       let t = accepted-trace (caseAt 12 .bytes) 1 (room 16) (room 16) (room 16) (s .0) .1 (m (caseAt 12 .bytes) 1 (room 16) (room 16) (room 16) .accepted (s .0) .0 (s .1)) in
@@ -88,21 +96,21 @@ module _ (J : Judge) where
   -- P1's order is written
   pub not-without-order : Meets2 J → NoOrder J → ⊥
   not-without-order m f =
-      let a = accepted-trace (caseAt 0 .bytes) 1 (room 16) (room 16) (room 16) 1 .0 (report-is 0 (omega arith)) in
+      let a = accepted-case 0 (omega arith) 1 refl in
       let w = order-written-one (m (caseAt 0 .bytes) 1 (room 16) (room 16) (room 16) .shown a) (order-trace (caseAt 0 .bytes) 1 (room 16) (room 16) (room 16) a) .2 in
       omega (arith, first-byte (λ o. o .order) 0 (omega arith) (sym (f (caseAt 0 .bytes) 1 (room 16) (room 16) (room 16)) ∙ w))
 
   -- P3's finding is
   pub not-without-findings : Meets3 J → NoFindings J → ⊥
   not-without-findings m f =
-      let a = rejected-trace (caseAt 2 .bytes) 1 (room 16) (room 16) (room 16) 1 0 .0 (report-is 2 (omega arith)) in
+      let a = rejected-case 2 (omega arith) 1 0 refl in
       let w = lists-written-one (m (caseAt 2 .bytes) 1 (room 16) (room 16) (room 16) .listed a) (lists-trace (caseAt 2 .bytes) 1 (room 16) (room 16) (room 16) a) .0 in
       omega (arith, first-byte (λ o. o .findings) 2 (omega arith) (sym (f (caseAt 2 .bytes) 1 (room 16) (room 16) (room 16)) ∙ w))
 
   -- P13's pairs are
   pub not-without-pairs : Meets3 J → NoPairs J → ⊥
   not-without-pairs m f =
-      let a = rejected-trace (caseAt 12 .bytes) 1 (room 16) (room 16) (room 16) 0 2 .0 (report-is 12 (omega arith)) in
+      let a = rejected-case 12 (omega arith) 0 2 refl in
       let w = lists-written-one (m (caseAt 12 .bytes) 1 (room 16) (room 16) (room 16) .listed a) (lists-trace (caseAt 12 .bytes) 1 (room 16) (room 16) (room 16) a) .1 in
       omega (arith, first-byte (λ o. o .pairs) 12 (omega arith) (sym (f (caseAt 12 .bytes) 1 (room 16) (room 16) (room 16)) ∙ w))
 
@@ -117,6 +125,6 @@ module _ (J : Judge) where
   -- P3 has one finding and P13 none
   pub not-fixed-counts : {f p : ℕ} → Meets3 J → FixedCounts J f p → ⊥
   not-fixed-counts m c =
-      let a = rejected-trace (caseAt 2 .bytes) 1 (room 16) (room 16) (room 16) 1 0 .0 (report-is 2 (omega arith)) in
-      let b = rejected-trace (caseAt 12 .bytes) 1 (room 16) (room 16) (room 16) 0 2 .0 (report-is 12 (omega arith)) in
+      let a = rejected-case 2 (omega arith) 1 0 refl in
+      let b = rejected-case 12 (omega arith) 0 2 refl in
       omega (arith, c (caseAt 2 .bytes) 1 (room 16) (room 16) (room 16) 1 0 (m (caseAt 2 .bytes) 1 (room 16) (room 16) (room 16) .rejected 1 0 .1 a) .0, c (caseAt 12 .bytes) 1 (room 16) (room 16) (room 16) 0 2 (m (caseAt 12 .bytes) 1 (room 16) (room 16) (room 16) .rejected 0 2 .1 b) .0)

@@ -13,7 +13,6 @@ use Rattle.demand1.specs.Rows.{ReadInto}
 use Rattle.demand2.specs.Kinds.{AllClean}
 use Rattle.demand2.specs.Axiom.{HasOrder}
 use Rattle.demand2.specs.Accepted.{AcceptsTrace, OrderWritten}
-use Rattle.demand3.specs.Forced.{ListedPair}
 use Rattle.demand3.specs.Rejected.{RejectsTrace, ListsWritten}
 use Rattle.demands.specs.Declined.{Declines}
 
@@ -35,9 +34,7 @@ pub record Demand2 (s : List ℕ) (level : ℕ) (fs ps os : List ℕ) (r : Answe
 pub record Demand3 (s : List ℕ) (level : ℕ) (fs ps os : List ℕ) (r : Answer) (F P O : List ℕ) : Type 0 where
   pub rejected : (f p : ℕ) → (reported r ≡ rejecting f p) ↔ RejectsTrace s level f p (length fs) (length ps)
   pub listed : {f p : ℕ} (a : RejectsTrace s level f p (length fs) (length ps)) → ListsWritten (a .history) level f p fs ps os (outcome (reported r) F P O)
-  -- of the pairs that there are, and of the number that is answered
-  pub none-listed : {h : History} {notes : List Stretch} → 1 ≤ level → level ≤ 3 → ReadInto s h notes → AllClean h
-      → ((a b : ℕ) → ListedPair h level a b → ⊥) ↔ HasOrder h level
+  -- the number of pairs that is answered is 0 exactly then
   pub none-counted : {h : History} {notes : List Stretch} → 1 ≤ level → level ≤ 3 → ReadInto s h notes → AllClean h → (reported r .verdict ≡ declines → ⊥)
       → (reported r .pairs ≡ 0) ↔ HasOrder h level
 

@@ -10,7 +10,7 @@ use Rattle.rules.specs.History.{History, Op, tx, op, txCount, opCount, empty, o
 use Rattle.rules.specs.Reading.{State, Stretch}
 use Rattle.demand1.specs.Lawful.{IsOp, IsWrite, IsTx, LawfulHistory}
 use Rattle.demand1.specs.Rows.{session, status, opIn, Inside, Passes, inPlace, valueLawful, withinLimit, newWrite, open-inside, read-outside, write-outside, close-outside, end-inside, written-0, status-above-1, open-128th, read-1025th, write-1025th, Next, after-open, after-read, after-write, after-close, after-note, Reaches, start, on, ReadInto, to-the-end}
-use Rattle.demand1.proofs.Histories.{op-count, op-old, op-new, open-count, open-old, open-new, close-count, close-this, close-other}
+use Rattle.rules.proofs.History.{op-count, op-old, op-new, open-count, open-old, open-new, close-count, close-this, close-other}
 use Rattle.demand1.proofs.Events.{same-or, at-least, below}
 use Rattle.demand1.proofs.Steps.{inside}
 

@@ -16,8 +16,8 @@ both-empty [] ys e = (refl, e)
 both-empty (x ∷ xs) ys e = absurd (not-empty e)
 
 -- a listing is empty exactly if each part is
-pub listed-none : {A : Type 0} (f : ℕ → List A) (a e : ℕ) → (listed a e f ≡ []) ↔ ((i : ℕ) → a ≤ i → i < e → f i ≡ [])
-listed-none f a e = (
+pub parts-none : {A : Type 0} (f : ℕ → List A) (a e : ℕ) → (listed a e f ≡ []) ↔ ((i : ℕ) → a ≤ i → i < e → f i ≡ [])
+parts-none f a e = (
   downward (λ j. listed j e f ≡ [] → (i : ℕ) → j ≤ i → i < e → f i ≡ []) e (λ j g z i b c. absurd (omega arith))
       (λ j l ih z i b c.
       let r = both-empty (f j) (listed (j + 1) e f) (sym (listed-step f j e l) ∙ z) in
@@ -32,7 +32,7 @@ listed-none f a e = (
 pub those-none : (p : ℕ → Bool) (a e : ℕ) → (those a e p ≡ []) ↔ ((i : ℕ) → a ≤ i → i < e → p i ≡ false)
 unfolding those
 those-none p a e =
-    let l = listed-none (λ i. pick (p i) (i ∷ []) []) a e in (
+    let l = parts-none (λ i. pick (p i) (i ∷ []) []) a e in (
       λ z i b c. is-false (p i) (λ t. not-empty (sym (pick-on (p i) (i ∷ []) [] t) ∙ l .0 z i b c)),
       λ h. l .1 (λ i b c. pick-off (p i) (i ∷ []) [] (h i b c)),
     )

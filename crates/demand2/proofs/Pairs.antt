@@ -113,10 +113,6 @@ module _ {h : History} (ok : LawfulHistory h) {t1 t3 i : ℕ} where
   unfolding readsFrom
   reads-is c r = both _ _ (both _ _ (external-is (reads-external ok c r)) (eq-eqb _ _ (r .in-tx))) (eq-eqb _ _ (source-is ok (r .source)))
 
-  -- of a clean read: t3 reads it from t1 exactly if the test says so
-  pub reads-iff : JudgedRead h i → Clean h i → (readsFrom h t3 t1 i ≡ true) ↔ ReadFrom h t1 t3 (op h i .key) i
-  reads-iff j c = (λ e. reads-at (j .from) (j .to) e .reads, reads-is c)
-
 module _ {h : History} {t1 t3 x i : ℕ} (r : ReadFrom h t1 t3 x i) where
   -- both transactions of a clean read are committed
   pub reader-member : Member h t3

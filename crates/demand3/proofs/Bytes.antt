@@ -16,7 +16,7 @@ use Rattle.rules.specs.History.{History}
 use Rattle.rules.specs.Outcome.{Pair, findings, findingBytes, findingList, pairs, pairBytes, pairList}
 use Rattle.demand1.specs.Lawful.{LawfulHistory}
 use Rattle.demand3.specs.Lists.{Finding, Fours, noPair, FindingBytes, PairBytes}
-use Rattle.demand3.proofs.Findings.{kind-low, kind-one, finding-kind, findings-are}
+use Rattle.demand3.proofs.Findings.{kind-most, kind-one, finding-kind, findings-are}
 use Rattle.demand3.proofs.Forced.{reasons-are, reasons-one, reasons-most}
 use Rattle.demand3.proofs.Pairs.{listed-members, pairs-are}
 
@@ -102,7 +102,7 @@ module _ {h : History} (ok : LawfulHistory h) where
   finding-below i x =
       let j = x .judged in
       let t = ok .in-tx i (record { from = j .from; to = j .to }) in
-      below-four (omega (arith, t .to, ok .few-txs)) (omega (arith, kind-low (finding-kind ok x))) (omega arith) (omega (arith, j .to, ok .few-ops))
+      below-four (omega (arith, t .to, ok .few-txs)) (omega (arith, kind-most (finding-kind ok x))) (omega arith) (omega (arith, j .to, ok .few-ops))
 
   -- the list of findings, as the document spells it
   pub findings-spelt : FindingBytes h (findings h) (findingList h)

@@ -24,8 +24,8 @@ fits-low (not-my-own _ _) = omega arith
 fits-low (intermediate _ _ _) = omega arith
 
 -- so is the kind of a read
-pub kind-low : {h : History} {i k : ℕ} → HasKind h i k → k ≤ 6
-kind-low x = fits-low (x .fits)
+pub kind-most : {h : History} {i k : ℕ} → HasKind h i k → k ≤ 6
+kind-most x = fits-low (x .fits)
 
 -- a read has one kind at most
 pub kind-one : {h : History} {i k m : ℕ} → HasKind h i k → HasKind h i m → k ≡ m

@@ -77,9 +77,9 @@ module _ {h : History} (ok : LawfulHistory h) where
         is (read {i = i} r) = let j = r .reads .judged in some-of (readsFrom h b a) (opCount h + 1) 1 i (j .from) (omega (arith, j .to)) (read-is r)
 
     -- the test for a basic pair is right
-    pub basic-iff : (basic h a b ≡ true) ↔ IsBasic h a b
+    pub basic-pair-iff : (basic h a b ≡ true) ↔ IsBasic h a b
     unfolding basic
-    basic-iff = (
+    basic-pair-iff = (
       λ e. ⊎-elim (λ f. ⊎-elim (λ s. (1, start-iff .0 s)) (λ s. (2, session-iff .0 s)) (or-cases _ _ f)) (λ s. (4, read-iff .0 s)) (or-cases _ _ e),
       λ x. is (x .1),
     )
@@ -93,8 +93,8 @@ module _ {h : History} (ok : LawfulHistory h) where
   pub basic-way-iff : (a b : ℕ) → (leads h a b ≡ true) ↔ Way (IsBasic h) a b
   unfolding leads
   basic-way-iff a b = (
-    λ e. leads-way basic-iff (via-leads (basic h) (size h) a b e),
-    λ w. leads-via (basic h) (size h) (λ x y e. based-members (basic-at ok {a = x} {b = y} e) .1 .below) (way-leads basic-iff w),
+    λ e. leads-way basic-pair-iff (via-leads (basic h) (size h) a b e),
+    λ w. leads-via (basic h) (size h) (λ x y e. based-members (basic-at ok {a = x} {b = y} e) .1 .below) (way-leads basic-pair-iff w),
   )
 
   -- ── rivals ──
@@ -109,7 +109,7 @@ module _ {h : History} (ok : LawfulHistory h) where
       rw (eqb-true level 1 t) (earlier (read-at (q .from) (omega (arith, q .to)) (q .passes)) (q .to)))
       (λ t.
       let f = sym (pick-off _ _ _ t) ∙ e in
-      ifso (eqb level 2) (λ u. rw (eqb-true level 2 u) (direct (basic-iff t2 t3 .0 (sym (pick-on _ _ _ u) ∙ f))))
+      ifso (eqb level 2) (λ u. rw (eqb-true level 2 u) (direct (basic-pair-iff t2 t3 .0 (sym (pick-on _ _ _ u) ∙ f))))
       (λ u.
       let z : level ≡ 3 = omega (arith, eqb-false level 1 t, eqb-false level 2 u) in
       rw z (led (basic-way-iff t2 t3 .0 (sym (pick-off _ _ _ u) ∙ f)))))
@@ -118,7 +118,7 @@ module _ {h : History} (ok : LawfulHistory h) where
   knows-is : {level t2 t3 i : ℕ} → Knows h t2 t3 i level → sees h level t2 t3 i ≡ true
   unfolding sees pick
   knows-is {t2 = t2} {t3} {i} (earlier {j = j} r l) = some-of (readsFrom h t3 t2) i 1 j (r .reads .judged .from) l (read-is r)
-  knows-is (direct x) = basic-iff _ _ .1 x
+  knows-is (direct x) = basic-pair-iff _ _ .1 x
   knows-is (led w) = basic-way-iff _ _ .1 w
 
   module _ {level : ℕ} (low : 1 ≤ level) (high : level ≤ 3) (a b : ℕ) where
@@ -156,12 +156,12 @@ module _ {h : History} (ok : LawfulHistory h) where
     pub forced-iff : (forced h level a b ≡ true) ↔ IsForced h level a b
     unfolding forced
     forced-iff = (
-      λ e. ⊎-elim (λ s. let x = basic-iff a b .0 s in (x .0, always (x .1))) (λ s. (8, rival-iff .0 s)) (or-cases _ _ e),
+      λ e. ⊎-elim (λ s. let x = basic-pair-iff a b .0 s in (x .0, always (x .1))) (λ s. (8, rival-iff .0 s)) (or-cases _ _ e),
       λ x. is (x .1),
     )
       where
         is : {r : ℕ} → Forced h level a b r → forced h level a b ≡ true
-        is {r} (always x) = or-left _ _ (basic-iff a b .1 (r, x))
+        is {r} (always x) = or-left _ _ (basic-pair-iff a b .1 (r, x))
         is (rival r m w d c k) = or-right _ _ (rival-iff .1 (rival r m w d c k))
 
     -- ── reasons ──

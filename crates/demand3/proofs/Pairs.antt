@@ -9,7 +9,7 @@ use Rattle.base.specs.Base.{listed}
 use Rattle.base.proofs.Searches.{joined-those}
 use Rattle.theory.specs.Leads.{isListed}
 use Rattle.theory.specs.Entries.{In}
-use Rattle.theory.proofs.Entries.{listed-iff as among-iff, listed-ascends, all-of-one, kept, kept-iff, kept-all-ascend}
+use Rattle.theory.proofs.Entries.{among-iff, listed-ascends, all-of-one, kept, kept-iff, kept-all-ascend}
 use Rattle.theory.proofs.Leads.{listed-iff}
 use Rattle.rules.specs.History.{History, size}
 use Rattle.rules.specs.Levels.{forced}

@@ -48,8 +48,8 @@ pub record Among {A : Type 0} (f : ℕ → List A) (a e : ℕ) (x : A) : Type 0 
   pub is : In x (f at)
 
 -- the entries of a listing
-pub listed-iff : {A : Type 0} (f : ℕ → List A) (e a : ℕ) (x : A) → In x (listed a e f) ↔ Among f a e x
-listed-iff f e a x = (at a, λ m. is a m)
+pub among-iff : {A : Type 0} (f : ℕ → List A) (e a : ℕ) (x : A) → In x (listed a e f) ↔ Among f a e x
+among-iff f e a x = (at a, λ m. is a m)
   where
     at : (j : ℕ) → In x (listed j e f) → Among f j e x
     at =
@@ -84,7 +84,7 @@ module _ {A : Type 0} (R : A → A → Type 0) where
       downward (λ j. Ascends R (listed j e f)) e (λ j g. rw (listed-end f j e g) none)
       (λ j l ih.
       rw (listed-step f j e l)
-      (ascends-append (f j) (u j) ih (λ x y p q. let m = listed-iff f e (j + 1) y .0 q in h j (m .at) x y (omega (arith, m .from)) p (m .is))))
+      (ascends-append (f j) (u j) ih (λ x y p q. let m = among-iff f e (j + 1) y .0 q in h j (m .at) x y (omega (arith, m .from)) p (m .is))))
       a
 
   -- of two lists with equal heads, where the rest of the first comes after its head: the rest of the second has it
@@ -158,10 +158,10 @@ module _ {A : Type 0} (p : ℕ → Bool) (f : ℕ → A) where
   pub kept-iff : (e a : ℕ) (x : A) → In x (listed a e kept) ↔ KeptEntry a e x
   kept-iff e a x = (
     λ i.
-        let m = listed-iff kept e a x .0 i in
+        let m = among-iff kept e a x .0 i in
         let k = kept-at (m .at) (m .is) in
         record { at = m .at; from = m .from; to = m .to; passes = k .0; is = k .1 },
-    λ k. listed-iff kept e a x .1 (record { at = k .at; from = k .from; to = k .to; is = rw (k .is) (kept-is (k .at) (k .passes)) }),
+    λ k. among-iff kept e a x .1 (record { at = k .at; from = k .from; to = k .to; is = rw (k .is) (kept-is (k .at) (k .passes)) }),
   )
 
   -- they ascend where f does

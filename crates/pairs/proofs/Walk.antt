@@ -19,10 +19,13 @@ last-on : (h : History) (t n : ℕ) → 1 ≤ n → n ≤ opCount h + 1 → OnCh
 unfolding ofTx
 last-on h t n a b = record { to = omega (arith, last-less (ofTx h t) n a); of = λ z. eqb-true _ _ (last-passes (ofTx h t) n z .0) }
 
+pub on-last : (h : History) (t : ℕ) → OnChain h t (lastOf h t)
+unfolding lastOf lastBelow
+on-last h t = last-on h t (opCount h + 1) (omega arith) (omega arith)
+
 module _ {h : History} {t r : ℕ} where
   pub chain-last : Below r (lastOf h t) (opCount h + 1) → OnChain h t r
-  unfolding lastOf lastBelow
-  chain-last b = rw (b .is) (last-on h t (opCount h + 1) (omega arith) (omega arith))
+  chain-last b = rw (b .is) (on-last h t)
 
   pub chain-prev : {i : ℕ} → OnChain h t i → 0 < i → Below r (prevOf h i) i → OnChain h t r
   unfolding prevOf lastBelow

@@ -111,7 +111,7 @@ fn is_on_loop(c: &[u64], a: usize) -> bool
 // How many pairs with the first a are listed.
 fn count_row(f: &[u64], c: &[u64], n: usize, a: usize) -> usize
     requires { ⌜ Tables (now f) (now c) n × (a < n) ⌝ }
-    ensures { λ r. ⌜ (r ≡ length (secondsOf (now (f .entry)) (now (c .entry)) n a)) × (r ≤ n) ⌝ }
+    ensures { λ r. ⌜ r ≡ length (secondsOf (now (f .entry)) (now (c .entry)) n a) ⌝ }
 {
     if !is_on_loop(c, a) {
         return 0;

@@ -18,7 +18,7 @@ use Rattle.table.specs.Table.{historyOf, ofTx, lastBelow, lastOf, prevOf, HasOp
 use Rattle.bits.specs.Bits.{bitOf}
 use Rattle.pairs.specs.Pairs.{Ready, OnChain}
 use Rattle.pairs.proofs.Pairs.{byte-clean, byte-other, byte-origin}
-use Rattle.pairs.proofs.Walk.{on-last, chain-prev}
+use Rattle.pairs.proofs.Walk.{on-last, chain-prev, sought-prev}
 use Rattle.rivals.specs.Rivals.{isAbove, canRival, fits, isTried, isHit, isHitOf, standsFor, writesFor, triesFrom}
 
 -- ── one operation of t2 ──
@@ -55,13 +55,8 @@ module _ (h : History) (t2 x : ℕ) (n : t2 ≡ 0 → ⊥) where
   unfolding writesAt ofTx
   writes-of i e = and-right _ _ (and-left _ _ (sym (writes-for h t2 x i n) ∙ e))
 
-  to-last : some 1 (opCount h + 1) (writesFor h t2 x) ≡ some 1 (lastOf h t2 + 1) (writesFor h t2 x)
-  unfolding lastOf lastBelow
-  to-last = top-chain (writesFor h t2 x) 1 (ofTx h t2) (λ i _. writes-of i) (opCount h + 1) (omega arith)
-
-  to-prev : {w v : ℕ} → op h w .tx ≡ t2 → Below v (prevOf h w) w → some 1 w (writesFor h t2 x) ≡ some 1 (v + 1) (writesFor h t2 x)
-  unfolding prevOf lastBelow
-  to-prev {w} e b = rw (b .is, e) (top-chain (writesFor h t2 x) 1 (ofTx h t2) (λ i _. writes-of i) w (omega arith))
+  to-last : (n : ℕ) → some 1 n (writesFor h t2 x) ≡ some 1 (last (ofTx h t2) n + 1) (writesFor h t2 x)
+  to-last n = top-chain (writesFor h t2 x) 1 (ofTx h t2) (λ i _. writes-of i) n (omega arith)
 
 -- ── one read ──
 
@@ -123,7 +118,7 @@ module _ (h : History) (v : List ℕ) (t2 i : ℕ) where
         record { to = b; stands = λ l. or-left _ _ e; whole = hit-key ∙ or-left _ _ e ∙ sym (top-hit (writesFor h t2 (op h i .key)) 1 i a (or-left _ _ e)) }
 
     tries-last : (t2 ≡ 0 → ⊥) → Tries h v t2 i (lastOf h t2)
-    unfolding writesKey wroteBetween
+    unfolding writesKey wroteBetween lastOf lastBelow
     tries-last z =
         record {
           to = on-last h t2 .to;
@@ -131,7 +126,7 @@ module _ (h : History) (v : List ℕ) (t2 i : ℕ) where
           whole =
               hit-key ∙ or-on _ _ (ne-eqb t2 0 z)
               ∙ some-same (writesAt h t2 (op h i .key)) (writesFor h t2 (op h i .key)) (opCount h + 1) 1 (λ j _ _. sym (writes-for h t2 (op h i .key) j z))
-              ∙ to-last h t2 (op h i .key) z;
+              ∙ to-last h t2 (op h i .key) z (opCount h + 1);
         }
 
   pub tries-start : {w : ℕ} → 1 ≤ i → i ≤ opCount h → w ≡ triesFrom h v t2 i → Tries h v t2 i w
@@ -152,7 +147,9 @@ module _ (h : History) (v : List ℕ) (t2 i : ℕ) where
         record {
           to = omega (arith, b .below, t .to);
           stands = λ m. stands-for _ _ _ (chain-prev (record { to = t .to; of = λ _. on }) l b .of m);
-          whole = t .whole ∙ top-miss (writesFor h t2 (op h i .key)) 1 w e ∙ to-prev h t2 (op h i .key) z on b;
+          whole =
+              t .whole ∙ top-miss (writesFor h t2 (op h i .key)) 1 w e
+              ∙ sought-prev h t2 (λ n. some 1 n (writesFor h t2 (op h i .key))) (to-last h t2 (op h i .key) z) on b;
         }
 
     pub tries-hit : 0 < w → writesFor h t2 (op h i .key) w ≡ true → isHit h v t2 i ≡ true
@@ -213,11 +210,12 @@ module _ (h : History) (v : List ℕ) (t2 t3 from : ℕ) where
 
     module _ {i : ℕ} (u : Hunt h v t2 t3 from j i) where
       pub hunt-next : {r : ℕ} → 0 < i → isHit h v t2 i ≡ false → Below r (prevOf h i) i → Hunt h v t2 t3 from j r
-      unfolding prevOf lastBelow
       hunt-next l e b =
           record {
             on = chain-prev (u .on) l b;
-            whole = u .whole ∙ last-miss (isHitOf h v t2 t3 from) i (no-hit h v t2 t3 from i e) ∙ rw (b .is, u .on .of l) (last-hit-of i);
+            whole =
+                u .whole ∙ last-miss (isHitOf h v t2 t3 from) i (no-hit h v t2 t3 from i e)
+                ∙ sought-prev h t3 (last (isHitOf h v t2 t3 from)) last-hit-of (u .on .of l) b;
           }
 
       pub hunt-hit : 0 < i → isHit h v t2 i ≡ true → from < i → i ≡ last (isHitOf h v t2 t3 from) (j + 1)

@@ -15,13 +15,14 @@ use Rattle.theory.specs.Leads.{via}
 use Rattle.rules.specs.History.{History, op, opCount, size, committed}
 use Rattle.rules.specs.Reads.{sourceOf, isExternal}
 use Rattle.rules.specs.Levels.{basic, writesKey, sees, settles, isRival, forced}
-use Rattle.table.specs.Table.{historyOf, ofTx, lastBelow, lastOf, prevOf, Held, Below}
+use Rattle.table.specs.Table.{historyOf, lastOf, prevOf, Held, Below}
 use Rattle.table.proofs.Grown.{last-less}
 use Rattle.reads.proofs.Fitting.{source-less}
 use Rattle.bits.specs.Bits.{bitOf, Holds, Under, nothing, either}
 use Rattle.bits.proofs.Tables.{holds-same}
 use Rattle.pairs.specs.Pairs.{OnChain, before, cell, across}
 use Rattle.pairs.proofs.Marking.{cell-is, cell-has, Marking, mark-chain, mark-down}
+use Rattle.pairs.proofs.Walk.{sought-last, sought-prev}
 use Rattle.pairs.proofs.Pairs.{committed-in, basic-under, before-under, before-via}
 use Rattle.rivals.specs.Rivals.{seenFrom, isAbove, canRival, fits, isHitOf, hitBit, hitBits, settlesIn, rivalBit, rivalBits, rivalsOf, rivals}
 use Rattle.rivals.proofs.Hits.{hit-tx, hit-external, hit-fits, fits-hit, last-hit-of}
@@ -51,19 +52,16 @@ module _ (h : History) (t2 t3 from : ℕ) {w : ℕ → ℕ → Bool} where
 
   pub marks-start : {v : List ℕ} {j i : ℕ} → Below j (lastOf h t3) (opCount h + 1) → i ≡ last (isHitOf h v t2 t3 from) (j + 1)
       → Marking (hitBit h t2 t3 from) w 1 (opCount h + 1) v → Marks h t2 t3 from w i v
-  unfolding lastOf lastBelow
   marks-start {v} {j} {i} b e m =
-      let q : i ≡ last (isHitOf h v t2 t3 from) (opCount h + 1) = e ∙ rw (b .is) (sym (last-hit-of h v t2 t3 from (opCount h + 1))) in
+      let q : i ≡ last (isHitOf h v t2 t3 from) (opCount h + 1) = e ∙ sym (sought-last h t3 (last (isHitOf h v t2 t3 from)) (last-hit-of h v t2 t3 from) b) in
       rw q (marks-last (opCount h + 1) (omega arith) (omega arith) m)
 
   -- the bit of i is set, and the search goes on below it
   pub marks-next : {v u : List ℕ} {i j r : ℕ} → Marks h t2 t3 from w i v → 0 < i → Holds u (either (bitOf v) (hitBit h t2 t3 from i))
       → Below j (prevOf h i) i → r ≡ last (isHitOf h u t2 t3 from) (j + 1) → Marks h t2 t3 from w r u
-  unfolding prevOf lastBelow
   marks-next {v} {u} {i} {j} {r} m l k b e =
-      let t : op h i .tx ≡ t3 = hit-tx h v t2 t3 from i (m .hit l) in
-      let p : j ≡ last (ofTx h t3) i = b .is ∙ ap (λ (t : ℕ). last (ofTx h t) i) t in
-      let q : r ≡ last (isHitOf h u t2 t3 from) i = e ∙ rw p (sym (last-hit-of h u t2 t3 from i)) in
+      let t = hit-tx h v t2 t3 from i (m .hit l) in
+      let q : r ≡ last (isHitOf h u t2 t3 from) i = e ∙ sym (sought-prev h t3 (last (isHitOf h u t2 t3 from)) (last-hit-of h u t2 t3 from) t b) in
       rw q (marks-last i l (omega (arith, m .to)) (mark-down (hitBit h t2 t3 from) i l (m .rest) k))
 
 pub marks-less : (h : History) (v : List ℕ) (t2 t3 from : ℕ) {i j r : ℕ} → r ≡ last (isHitOf h v t2 t3 from) (j + 1) → j < i → r < i

@@ -14,10 +14,10 @@ use Rattle.base.proofs.Chains.{last-passes, last-none}
 use Rattle.rules.specs.History.{History, txCount, opCount}
 use Rattle.rules.specs.Reads.{readsFrom}
 use Rattle.rules.specs.Levels.{isRead, basic, leads, sees}
-use Rattle.table.specs.Table.{historyOf, HasTx, ofTx, lastBelow, lastOf, prevOf, Below}
+use Rattle.table.specs.Table.{historyOf, HasTx, ofTx, lastOf, prevOf, Below}
 use Rattle.bits.specs.Bits.{bitOf, Holds}
 use Rattle.pairs.specs.Pairs.{OnChain, before}
-use Rattle.pairs.proofs.Walk.{chain-last, chain-prev}
+use Rattle.pairs.proofs.Walk.{chain-last, chain-prev, sought-last, sought-prev}
 use Rattle.rivals.specs.Rivals.{pairsFor, Told, firstFrom, seenFrom}
 
 -- ── the first, found from the top down ──
@@ -65,15 +65,16 @@ pub record Firsts (h : History) (t : ℕ) (q : ℕ → Bool) (r i : ℕ) : Type 
 
 module _ (h : History) (t : ℕ) (q : ℕ → Bool) (sub : (i : ℕ) → q i ≡ true → ofTx h t i ≡ true) where
   pub firsts-start : {r i : ℕ} → r ≡ opCount h → Below i (lastOf h t) (opCount h + 1) → Firsts h t q r i
-  unfolding lastOf lastBelow
-  firsts-start e b = record { on = chain-last b; whole = rw (e, b .is) (first-chain q (opCount h) (ofTx h t) sub (opCount h + 1)) }
+  firsts-start e b =
+      record { on = chain-last b; whole = rw e (sought-last h t (λ n. first (opCount h) 1 n q) (first-chain q (opCount h) (ofTx h t) sub) b) }
 
   pub firsts-next : {r i s j : ℕ} → Firsts h t q r i → 0 < i → s ≡ pick (q i) i r → Below j (prevOf h i) i → Firsts h t q s j
-  unfolding prevOf lastBelow
   firsts-next {r} {i} {s} f l e b =
       record {
         on = chain-prev (f .on) l b;
-        whole = f .whole ∙ first-top q r i l ∙ rw (← e, b .is, f .on .of l) (first-chain q s (ofTx h t) sub i);
+        whole =
+            f .whole ∙ first-top q r i l ∙ ap (λ (d : ℕ). first d 1 i q) (sym e)
+            ∙ sought-prev h t (λ n. first s 1 n q) (first-chain q s (ofTx h t) sub) (f .on .of l) b;
       }
 
   pub firsts-end : {r i : ℕ} → Firsts h t q r i → i ≤ 0 → r ≡ first (opCount h) 1 (opCount h + 1) q

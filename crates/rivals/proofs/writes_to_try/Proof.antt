@@ -19,7 +19,9 @@ returns-2 c =
 bit-requires : tie.Need-bit-requires
 bit-requires c κs =
     let p = c .before .before .before .before .before .before .pre in
-    (p .1, byte-row (p .0) (p .2) (byte-clean (p .0) (p .2) (c .before .if1 .left)), omega (arith, p .3, p .0 .held .few))
+    let few = p .0 .held .few in
+    let row = byte-row (p .0) (p .2) (byte-clean (p .0) (p .2) (c .before .if1 .left)) in
+    (p .1, omega (arith, p .3), omega (arith, p .3))
 
 returns-3 : tie.Need-returns-3
 returns-3 c =

@@ -15,8 +15,8 @@ use Rattle.lists.specs.Lists.{entryAt, isIn, secondsOf, pairCount, reaso
 use Rattle.lists.proofs.Listings.{those-listed, those-most, listed-none, listed-most, pick-length, pick-four, entry-length, four-times}
 
 module _ {f c : List ℕ} {n : ℕ} (t : Tables f c n) {a : ℕ} (l : a < n) where
-  pub cell : {b : ℕ} → b < n → Cell f c a b
-  cell m = record { forced-room = t .forced-room; leads-room = t .leads-room; one = omega (arith, t .few); two = omega (arith, t .few) }
+  pub cell-of : {b : ℕ} → b < n → Cell f c a b
+  cell-of m = record { forced-room = t .forced-room; leads-room = t .leads-room; one = omega (arith, t .few); two = omega (arith, t .few) }
 
   -- a row that is left out has no pair
   row-none : bitOf c a a ≡ false → (b : ℕ) → b < n → isIn f c a b ≡ false

@@ -93,10 +93,10 @@ module _ {s : List ℕ} (h : History) (level : ℕ) where
   goes-by-leads e b = rw (pick-on (eqb level 3) (leads h) (basic h) (eq-eqb level 3 e)) b
 
 -- what the table says of (t2, t3)
-pub told-pair : {h k s : List ℕ} {level t2 t3 : ℕ} → Told h k s level → HasTx h t3 → t2 ≤ txCount (historyOf h)
+pub told-bit : {h k s : List ℕ} {level t2 t3 : ℕ} → Told h k s level → HasTx h t3 → t2 ≤ txCount (historyOf h)
     → pairsFor (historyOf h) level t2 t3 ≡ bitOf s t3 t2
 unfolding before
-told-pair {t2 = t2} {t3 = t3} p o l =
+told-bit {t2 = t2} {t3 = t3} p o l =
     let few = p .ready .held .few in
     sym (p .seen .is t3 t2 (omega (arith, o .to)) (omega arith))
 

@@ -53,7 +53,7 @@ fits h t2 i = canRival h t2 i and writesKey h t2 (op h i .key)
 unfoldable pub isTried : History → List ℕ → ℕ → ℕ → Bool
 isTried h v t2 i = canRival h t2 i and not (bitOf v (sourceOf h i) t2)
 
--- a read that is tried is a hit if t2 "writes x"; it is one of t3's above `from`
+-- a read that is tried is a hit if t2 "writes x"; a hit among the reads of t3 above `from`
 unfoldable pub isHit : History → List ℕ → ℕ → ℕ → Bool
 isHit h v t2 i = isTried h v t2 i and writesKey h t2 (op h i .key)
 

@@ -7,7 +7,7 @@ use Rattle.base.proofs.Fill.{Sizing, size-start, size-end}
 use Rattle.pairs.proofs.Tests.{denied}
 use Rattle.lists.specs.Lists.{entryAt, isIn, secondsOf}
 use Rattle.lists.proofs.Listings.{those-listed, count-on, count-most}
-use Rattle.lists.proofs.Pairs.{cell, seconds-none}
+use Rattle.lists.proofs.Pairs.{cell-of, seconds-none}
 use Rattle.lists.proofs.count_row.Statement.{statement}
 use Rattle.lists.proofs.count_row.Tie as tie
 
@@ -35,7 +35,7 @@ count-row-spec =
     tie.close
     (tie.spec Inv-loop μ-loop (λ c κs. let p = c .before .before .pre in (p .0 .leads-room, omega (arith, p .1, p .0 .few))) returns
     (λ c. size-start _ _ _)
-    (λ c κs. let p = c .before .before .before .before .before .before .pre in cell (p .0) (p .1) (c .loop-test .taken)) (λ c κs. search needs)
+    (λ c κs. let p = c .before .before .before .before .before .before .pre in cell-of (p .0) (p .1) (c .loop-test .taken)) (λ c κs. search needs)
     (λ c. omega arith) (λ c. omega (
       arith,
       c .weight .ensures .1,

@@ -29,9 +29,6 @@ loop-again c = (
       (omega (arith, c .before .before .before .before .before .before .ops .ensures)) (c .before .before .put-finding .ensures),
 )
 
-same-length : tie.Need-same-length Inv-loop μ-loop
-same-length c = appended-length (c .before .loop .inv .1 .is)
-
 returns : tie.Need-returns Inv-loop μ-loop
 returns c = rw (list-listed _) (fill-end _ _ _ _ _ (c .before .loop .inv .1) (omega (arith, c .before .before .ops .ensures)))
 
@@ -45,4 +42,4 @@ put-findings-spec =
       c .before .before .before .before .before .before .ops .ensures,
       c .before .before .before .before .before .before .before .before .before .before .pre .0 .held .most,
     ))
-    (λ c. omega arith) loop-again same-length returns)
+    (λ c. omega arith) loop-again (λ c. appended-length (c .before .loop .inv .1 .is)) returns)

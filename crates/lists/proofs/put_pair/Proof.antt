@@ -3,7 +3,7 @@ use borrow.Author.Needs.{needs}
 use Rattle.pairs.proofs.Tests.{denied, granted}
 use Rattle.lists.specs.Lists.{pairAt}
 use Rattle.lists.proofs.Listings.{left-out, put-in, room-for}
-use Rattle.lists.proofs.Pairs.{cell}
+use Rattle.lists.proofs.Pairs.{cell-of}
 use Rattle.lists.proofs.put_pair.Statement.{statement}
 use Rattle.lists.proofs.put_pair.Tie as tie
 
@@ -28,7 +28,7 @@ returns-2 c =
 pub put-pair-spec : {M : Type 1} → statement M
 put-pair-spec =
     tie.close
-    (tie.spec (λ c κs. let p = c .before .before .before .before .before .before .pre in cell (p .0 .tables) (p .1 .one) (p .1 .two)) returns
+    (tie.spec (λ c κs. let p = c .before .before .before .before .before .before .pre in cell-of (p .0 .tables) (p .1 .one) (p .1 .two)) returns
     (λ c. let p = c .before .before .before .before .before .before .before .before .before .pre in omega (arith, p .1 .one, p .0 .tables .few))
     (λ c. let p = c .before .before .before .before .before .before .before .before .before .pre in omega (arith, p .1 .two, p .0 .tables .few))
     (λ c κs. let p = c .before .before .before .before .before .before .before .before .before .pre in (p .0 .ready, p .0 .rivals-room, p .1))

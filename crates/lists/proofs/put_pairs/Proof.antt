@@ -27,9 +27,6 @@ loop-again c =
     fill-step _ _ _ _ _ (c .before .before .before .before .before .loop .inv)
     (omega (arith, c .before .before .before .before .before .before .txs .ensures)) (c .before .before .put-row .ensures)
 
-same-length : tie.Need-same-length Inv-loop μ-loop
-same-length c = appended-length (c .before .loop .inv .is)
-
 returns : tie.Need-returns Inv-loop μ-loop
 unfolding pairsIn
 returns c = fill-end _ _ _ _ _ (c .before .loop .inv) (omega (arith, c .before .before .txs .ensures))
@@ -44,4 +41,4 @@ put-pairs-spec =
       c .before .before .before .before .before .before .txs .ensures,
       c .before .before .before .before .before .before .before .before .before .before .before .before .before .pre .0 .tables .few,
     ))
-    (λ c. omega arith) loop-again same-length returns)
+    (λ c. omega arith) loop-again (λ c. appended-length (c .before .loop .inv .is)) returns)

@@ -35,9 +35,6 @@ loop-again c =
     fill-step _ _ _ _ _ (c .before .before .before .before .before .loop .inv)
     (omega (arith, c .before .before .before .before .before .before .txs .ensures)) (c .before .before .put-pair .ensures)
 
-same-length : tie.Need-same-length Inv-loop μ-loop
-same-length c = appended-length (c .before .loop .inv .is)
-
 returns-2 : tie.Need-returns-2 Inv-loop μ-loop
 unfolding rowAt
 returns-2 c = fill-end _ _ _ _ _ (c .before .loop .inv) (omega (arith, c .before .before .txs .ensures))
@@ -55,4 +52,4 @@ put-row-spec =
       c .before .before .before .before .before .before .txs .ensures,
       c .before .before .before .before .before .before .before .before .before .before .before .before .before .before .before .pre .0 .tables .few,
     ))
-    (λ c. omega arith) loop-again same-length returns-2)
+    (λ c. omega arith) loop-again (λ c. appended-length (c .before .loop .inv .is)) returns-2)

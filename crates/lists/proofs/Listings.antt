@@ -37,10 +37,10 @@ unfolding pick
 pick-length true x = refl
 pick-length false x = refl
 
-pub pick-most : (b : Bool) (n : ℕ) → pick b n 0 ≤ n
+pub pick-most : (b : Bool) (n : ℕ) {r : ℕ} → r ≡ pick b n 0 → r ≤ n
 unfolding pick
-pick-most true n = omega arith
-pick-most false n = omega arith
+pick-most true n e = omega arith
+pick-most false n e = omega arith
 
 pub pick-four : (b : Bool) → pick b 4 0 ≡ 4 * pick b 1 0
 unfolding pick
@@ -52,7 +52,7 @@ unfolding entryAt
 entry-length p i = pick-length (p i) (i ∷ [])
 
 entry-most : (p : ℕ → Bool) (i : ℕ) → length (entryAt p i) ≤ 1
-entry-most p i = omega (arith, entry-length p i, pick-most (p i) 1)
+entry-most p i = pick-most (p i) 1 (entry-length p i)
 
 -- a count that has come to j goes on by w, which tells whether j passes
 pub count-on : (p : ℕ → Bool) (a e : ℕ) {j n w : ℕ} {r : Bool} → Sizing (entryAt p) a e j n → j < e → w ≡ pick r 1 0 → r ≡ p j

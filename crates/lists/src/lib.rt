@@ -26,7 +26,7 @@ fn put4(out: &mut [u8], at: usize, a: u8, b: u8, c: u8, d: u8) -> usize
 
 // n where the test holds, else 0.
 fn weight(holds: bool, n: u8) -> u8
-    ensures { λ r. ⌜ (r ≡ pick holds n 0) × (r ≤ n) ⌝ }
+    ensures { λ r. ⌜ r ≡ pick holds n 0 ⌝ }
 {
     if holds { n } else { 0 }
 }

@@ -8,7 +8,7 @@ use Rattle.rules.specs.History.{opCount}
 use Rattle.rules.specs.Reads.{isFinding}
 use Rattle.table.specs.Table.{historyOf}
 use Rattle.lists.specs.Lists.{entryAt}
-use Rattle.lists.proofs.Listings.{count-on, count-most}
+use Rattle.lists.proofs.Listings.{pick-most, count-on, count-most}
 use Rattle.lists.proofs.Findings.{findings-listed, kind-says}
 use Rattle.lists.proofs.count_findings.Statement.{statement}
 use Rattle.lists.proofs.count_findings.Tie as tie
@@ -23,7 +23,7 @@ loop-again : tie.Need-loop-again Inv-loop μ-loop
 loop-again c = (
   omega arith,
   count-on _ _ _ (c .before .before .before .before .loop .inv .1) (omega (arith, c .before .before .before .before .before .ops .ensures))
-      (c .weight .ensures .0) (c .before .is-kind .ensures ∙ kind-says (c .before .before .before .before .before .before .before .before .pre .judged)
+      (c .weight .ensures) (c .before .is-kind .ensures ∙ kind-says (c .before .before .before .before .before .before .before .before .pre .judged)
       _ (omega arith) (omega (arith, c .before .before .before .before .before .ops .ensures))),
 )
 
@@ -42,7 +42,7 @@ count-findings-spec =
     (λ c κs. search needs) (λ c κs. search needs) (λ c. omega arith)
     (λ c. omega (
       arith,
-      c .weight .ensures .1,
+      pick-most _ 1 (c .weight .ensures),
       count-most _ (c .before .before .before .before .loop .inv .1),
       c .before .before .before .before .before .before .before .before .pre .held .most,
     ))

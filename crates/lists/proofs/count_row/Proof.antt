@@ -6,7 +6,7 @@ use borrow.Author.Needs.{needs}
 use Rattle.base.proofs.Fill.{Sizing, size-start, size-end}
 use Rattle.pairs.proofs.Tests.{denied}
 use Rattle.lists.specs.Lists.{entryAt, isIn, secondsOf}
-use Rattle.lists.proofs.Listings.{those-listed, count-on, count-most}
+use Rattle.lists.proofs.Listings.{those-listed, pick-most, count-on, count-most}
 use Rattle.lists.proofs.Pairs.{cell-of, seconds-none}
 use Rattle.lists.proofs.count_row.Statement.{statement}
 use Rattle.lists.proofs.count_row.Tie as tie
@@ -24,7 +24,7 @@ returns c =
 
 loop-again : tie.Need-loop-again Inv-loop μ-loop
 loop-again c =
-    count-on _ _ _ (c .before .before .before .loop .inv) (c .before .before .loop-test .taken) (c .weight .ensures .0) (c .before .is-listed .ensures)
+    count-on _ _ _ (c .before .before .before .loop .inv) (c .before .before .loop-test .taken) (c .weight .ensures) (c .before .is-listed .ensures)
 
 returns-2 : tie.Need-returns-2 Inv-loop μ-loop
 unfolding secondsOf
@@ -38,7 +38,7 @@ count-row-spec =
     (λ c κs. let p = c .before .before .before .before .before .before .pre in cell-of (p .0) (p .1) (c .loop-test .taken)) (λ c κs. search needs)
     (λ c. omega arith) (λ c. omega (
       arith,
-      c .weight .ensures .1,
+      pick-most _ 1 (c .weight .ensures),
       count-most _ (c .before .before .before .loop .inv),
       c .before .before .before .before .before .before .before .before .pre .0 .few,
     ))

@@ -29,8 +29,9 @@ module _ (h : History) where
   unfolding findingList findingBytes
   findings-four = joined-length (findingBytes h) 4 (λ i. refl) (findings h)
 
-  pub list-fits : {n m : ℕ} → m ≡ opCount h → 4 * length (findings h) ≤ n → 0 + length (listed 1 (m + 1) (findingAt h)) ≤ n
-  list-fits e l = rw (e, ← list-listed) (omega (arith, findings-four))
+  -- so there is room
+  pub findings-fit : (m : ℕ) → 4 * length (findings h) ≤ m → 0 + length (listed 1 (opCount h + 1) (findingAt h)) ≤ m
+  findings-fit m l = rw (← list-listed) (omega (arith, findings-four))
 
 -- what operation i's byte says
 module _ {k : List ℕ} {h : History} (j : Judged k h) (i : ℕ) (a : 1 ≤ i) (b : i ≤ opCount h) where

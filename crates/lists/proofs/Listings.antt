@@ -1,35 +1,29 @@
 -- Lists of those that pass, place by place.
-use Prim.Native.Nat.{ℕ, _+_, _*_, _<_, _≤_}
+use Prim.Native.Nat.{ℕ, suc, _+_, _-_, _*_, _<_, _≤_}
 use mathlib.Core.Path.{_≡_, refl, ap, sym, _∙_}
-use mathlib.Core.Bool.{Bool, true, false, not}
+use mathlib.Core.Bool.{Bool, true, false}
 use mathlib.Core.List.{List, [], _∷_}
 use native.Mathlib.Omega.{arith}
+use native.Mathlib.Nat.{mul-suc}
 use lib.ListN.{length, length-append}
 use Rattle.base.specs.Base.{pick, listed, those}
-use Rattle.base.proofs.Tests.{not-true, not-false, pick-on, pick-off}
+use Rattle.base.proofs.Tests.{pick-on, pick-off}
 use Rattle.base.proofs.Searches.{downward, listed-step, listed-end}
 use Rattle.base.proofs.Fill.{Appended, appended-none, Sizing, size-step}
 use Rattle.lists.specs.Lists.{entryAt}
 
--- ── a test that the program asked, of which r came back ──
+-- ── what is listed only where a test passes ──
 
-module _ (r : Bool) {b : Bool} (e : r ≡ b) where
-  pub asked-no : not r ≡ true → b ≡ false
-  asked-no t = sym e ∙ not-true r t
+-- left out; put in; there is room for it
+module _ {b : Bool} (xs : List ℕ) where
+  pub left-out : b ≡ false → {o : List ℕ} {at : ℕ} → at ≤ length o → Appended o at o at (pick b xs [])
+  left-out e {o} {at} l = rw (pick-off b xs [] e) (appended-none o at l)
 
-  pub asked-yes : not r ≡ false → b ≡ true
-  asked-yes t = sym e ∙ not-false r t
+  pub put-in : b ≡ true → {o u : List ℕ} {at to : ℕ} → Appended o at u to xs → Appended o at u to (pick b xs [])
+  put-in e x = rw (pick-on b xs [] e) x
 
-  -- what is listed only where it passes: left out; put in; there is room for it
-  module _ (xs : List ℕ) where
-    pub left-out : not r ≡ true → {o : List ℕ} {at : ℕ} → at ≤ length o → Appended o at o at (pick b xs [])
-    left-out t {o} {at} l = rw (pick-off b xs [] (asked-no t)) (appended-none o at l)
-
-    pub put-in : not r ≡ false → {o u : List ℕ} {at to : ℕ} → Appended o at u to xs → Appended o at u to (pick b xs [])
-    put-in t x = rw (pick-on b xs [] (asked-yes t)) x
-
-    pub room-for : not r ≡ false → (at n : ℕ) → at + length (pick b xs []) ≤ n → at + length xs ≤ n
-    room-for t at n l = rw (pick-on b xs [] (asked-yes t)) at l
+  pub room-for : b ≡ true → (at n : ℕ) → at + length (pick b xs []) ≤ n → at + length xs ≤ n
+  room-for e at n l = rw (pick-on b xs [] e) at l
 
 -- ── how long a list is ──
 
@@ -43,6 +37,11 @@ unfolding pick
 pick-length true x = refl
 pick-length false x = refl
 
+pub pick-most : (b : Bool) (n : ℕ) {r : ℕ} → r ≡ pick b n 0 → r ≤ n
+unfolding pick
+pick-most true n e = omega arith
+pick-most false n e = omega arith
+
 pub pick-four : (b : Bool) → pick b 4 0 ≡ 4 * pick b 1 0
 unfolding pick
 pick-four true = refl
@@ -51,6 +50,9 @@ pick-four false = refl
 pub entry-length : (p : ℕ → Bool) (i : ℕ) → length (entryAt p i) ≡ pick (p i) 1 0
 unfolding entryAt
 entry-length p i = pick-length (p i) (i ∷ [])
+
+entry-most : (p : ℕ → Bool) (i : ℕ) → length (entryAt p i) ≤ 1
+entry-most p i = pick-most (p i) 1 (entry-length p i)
 
 -- a count that has come to j goes on by w, which tells whether j passes
 pub count-on : (p : ℕ → Bool) (a e : ℕ) {j n w : ℕ} {r : Bool} → Sizing (entryAt p) a e j n → j < e → w ≡ pick r 1 0 → r ≡ p j
@@ -65,6 +67,22 @@ four-times f g e j h =
     (λ j l ih.
     rw (listed-step f j e l, listed-step g j e l) (omega (arith, ih, h j, length-append (f j) (listed (j + 1) e f), length-append (g j) (listed (j + 1) e g))))
     j
+
+-- where no place adds more than m, the whole is at most m times as long as there are places
+pub listed-most : {A : Type 0} (f : ℕ → List A) (m e j : ℕ) → ((i : ℕ) → length (f i) ≤ m) → length (listed j e f) ≤ m * (e - j)
+listed-most f m e j h =
+    downward (λ j. length (listed j e f) ≤ m * (e - j)) e (λ j k. rw (listed-end f j e k) (omega arith))
+    (λ j l ih.
+    let q : e - j ≡ suc (e - (j + 1)) = omega arith in
+    rw (listed-step f j e l, q, mul-suc m (e - (j + 1))) (omega (arith, ih, h j, length-append (f j) (listed (j + 1) e f))))
+    j
+
+pub those-most : (p : ℕ → Bool) (a e : ℕ) → length (listed a e (entryAt p)) ≤ e - a
+those-most p a e = omega (arith, listed-most (entryAt p) 1 e a (entry-most p))
+
+-- so a count that has come anywhere is at most that
+pub count-most : (p : ℕ → Bool) {a e j n : ℕ} → Sizing (entryAt p) a e j n → n ≤ e - a
+count-most p {a} {e} s = omega (arith, s .rest, those-most p a e)
 
 -- nothing at any place
 pub listed-none : {A : Type 0} (f : ℕ → List A) (e j : ℕ) → ((i : ℕ) → j ≤ i → i < e → f i ≡ []) → listed j e f ≡ []

@@ -1,6 +1,6 @@
 -- The listed pairs, place by place, as the tables tell them.
 use Prim.Native.Nat.{ℕ, _+_, _*_, _<_, _≤_}
-use mathlib.Core.Path.{_≡_, ap, sym, _∙_}
+use mathlib.Core.Path.{_≡_, refl, ap, sym, _∙_}
 use mathlib.Core.Bool.{false}
 use mathlib.Core.List.{List, [], _∷_}
 use native.Mathlib.Omega.{arith}
@@ -8,14 +8,15 @@ use lib.ListN.{length}
 use Rattle.base.specs.Base.{listed}
 use Rattle.base.proofs.Tests.{clash, is-false, pick-off}
 use Rattle.base.proofs.Fill.{Appended, appended-none}
-use Rattle.rules.specs.History.{History, txCount, size}
+use Rattle.rules.specs.History.{History, size}
+use Rattle.table.specs.Table.{historyOf}
 use Rattle.bits.specs.Bits.{bitOf}
-use Rattle.lists.specs.Lists.{entryAt, isIn, secondsOf, pairCount, reasonsIn, pairAt, rowAt, pairsIn, Tables, Cell}
-use Rattle.lists.proofs.Listings.{those-listed, listed-none, pick-length, pick-four, entry-length, four-times}
+use Rattle.lists.specs.Lists.{entryAt, isIn, secondsOf, pairCount, reasonsIn, pairAt, rowAt, pairsIn, Tables, Cell, Listing}
+use Rattle.lists.proofs.Listings.{those-listed, those-most, listed-none, listed-most, pick-length, pick-four, entry-length, four-times}
 
 module _ {f c : List ℕ} {n : ℕ} (t : Tables f c n) {a : ℕ} (l : a < n) where
-  pub cell : {b : ℕ} → b < n → Cell f c a b
-  cell m = record { forced-room = t .forced-room; leads-room = t .leads-room; one = omega (arith, t .few); two = omega (arith, t .few) }
+  pub cell-of : {b : ℕ} → b < n → Cell f c a b
+  cell-of m = record { forced-room = t .forced-room; leads-room = t .leads-room; one = omega (arith, t .few); two = omega (arith, t .few) }
 
   -- a row that is left out has no pair
   row-none : bitOf c a a ≡ false → (b : ℕ) → b < n → isIn f c a b ≡ false
@@ -24,6 +25,15 @@ module _ {f c : List ℕ} {n : ℕ} (t : Tables f c n) {a : ℕ} (l : a < n) whe
   pub seconds-none : bitOf c a a ≡ false → 0 ≡ length (secondsOf f c n a)
   unfolding secondsOf entryAt
   seconds-none e = sym (ap length (those-listed 0 n (isIn f c a) ∙ listed-none (entryAt (isIn f c a)) n 0 (λ b u v. pick-off _ _ _ (row-none e b v))))
+
+-- how many a row has, r; how many there are
+module _ {f c : List ℕ} {n : ℕ} (t : Tables f c n) where
+  pub row-most : (a : ℕ) {r : ℕ} → r ≡ length (secondsOf f c n a) → r ≤ 128
+  unfolding secondsOf
+  row-most a e = omega (arith, ap length (those-listed 0 n (isIn f c a)), those-most (isIn f c a) 0 n, t .few)
+
+  pub pairs-most : length (listed 0 n (secondsOf f c n)) ≤ 16384
+  pairs-most = omega (arith, listed-most (secondsOf f c n) 128 n 0 (λ a. row-most a refl), t .few)
 
 module _ (h : History) (f c v : List ℕ) where
   pub row-left-out : Tables f c (size h) → (a : ℕ) → a < size h → bitOf c a a ≡ false → (o : List ℕ) (at : ℕ) → at ≤ length o
@@ -44,12 +54,8 @@ module _ (h : History) (f c v : List ℕ) where
   unfolding pairsIn pairCount
   pairs-in-four = four-times (rowAt h f c v) (secondsOf f c (size h)) (size h) 0 row-four
 
-  -- so there is room, where the program knows the number of transactions as n
-  pub row-fits : (a : ℕ) {n : ℕ} → n ≡ txCount h → (at m : ℕ) → at + length (rowAt h f c v a) ≤ m
-      → at + length (listed 0 (n + 1) (pairAt h f c v a)) ≤ m
-  unfolding rowAt
-  row-fits a e at m l = rw e l
-
-  pub all-fits : {n : ℕ} → n ≡ txCount h → (m : ℕ) → 4 * pairCount f c (size h) ≤ m → 0 + length (listed 0 (n + 1) (rowAt h f c v)) ≤ m
-  unfolding pairsIn
-  all-fits e m l = rw e (omega (arith, pairs-in-four))
+-- so there is room
+pub pairs-fit : {h k f c v : List ℕ} {m : ℕ} → Listing h k f c v → 4 * pairCount f c (size (historyOf h)) ≤ m
+    → 0 + length (listed 0 (size (historyOf h)) (rowAt (historyOf h) f c v)) ≤ m
+unfolding pairsIn
+pairs-fit {h} {k} {f} {c} {v} p l = omega (arith, pairs-in-four (historyOf h) f c v)

@@ -26,7 +26,7 @@ fn put4(out: &mut [u8], at: usize, a: u8, b: u8, c: u8, d: u8) -> usize
 
 // n where the test holds, else 0.
 fn weight(holds: bool, n: u8) -> u8
-    ensures { λ r. ⌜ (r ≡ pick holds n 0) × (r ≤ n) ⌝ }
+    ensures { λ r. ⌜ r ≡ pick holds n 0 ⌝ }
 {
     if holds { n } else { 0 }
 }
@@ -111,7 +111,7 @@ fn is_on_loop(c: &[u64], a: usize) -> bool
 // How many pairs with the first a are listed.
 fn count_row(f: &[u64], c: &[u64], n: usize, a: usize) -> usize
     requires { ⌜ Tables (now f) (now c) n × (a < n) ⌝ }
-    ensures { λ r. ⌜ (r ≡ length (secondsOf (now (f .entry)) (now (c .entry)) n a)) × (r ≤ n) ⌝ }
+    ensures { λ r. ⌜ r ≡ length (secondsOf (now (f .entry)) (now (c .entry)) n a) ⌝ }
 {
     if !is_on_loop(c, a) {
         return 0;

@@ -5,12 +5,11 @@ use mathlib.Core.Bool.{Bool, true, false}
 use mathlib.Core.List.{List}
 use lib.ListN.{length}
 use borrow.Author.Tests.{eqb-true, eq-eqb}
-use Rattle.base.specs.Base.{_and_, _or_, last}
-use Rattle.base.proofs.Tests.{ifso, both, and-left, and-right, and-on, and-no-left, or-left, or-on, or-assoc}
+use Rattle.base.specs.Base.{_or_, last}
+use Rattle.base.proofs.Tests.{ifso, both, and-left, and-right, and-on, and-no-left, or-left, or-on, or-off, or-assoc}
 use Rattle.base.proofs.Searches.{some-hit, some-miss, some-end}
 use Rattle.base.proofs.Chains.{top-hit, top-miss, top-chain}
 use Rattle.bits.specs.Bits.{bitOf, Holds, either, plusBit}
-use Rattle.base.proofs.Tests.{or-off}
 use Rattle.bits.proofs.Tables.{holds-same}
 use Rattle.pairs.specs.Pairs.{cell, across}
 
@@ -79,14 +78,15 @@ module _ (z : ℕ → ℕ → ℕ → Bool) where
         (λ x y.
         ifso (z i x y) (λ t. top-hit (λ i. z i x y) a i l t ∙ sym (or-left _ _ t)) (λ t. top-miss (λ i. z i x y) a i t ∙ sym (or-on _ _ t)))
 
-  -- what z gives up to n it gives up to the last that passes p, where nothing else gives anything
+  -- what z gives up to n it gives up to the last that passes p, where all else gives only what the table has
   pub mark-chain : {w : ℕ → ℕ → Bool} {a : ℕ} {t : List ℕ} (p : ℕ → Bool) (n : ℕ) → 1 ≤ a
-      → ((i x y : ℕ) → z i x y ≡ true → p i ≡ true) → Marking z w a n t → Marking z w a (last p n + 1) t
+      → ((i x y : ℕ) → z i x y ≡ true → bitOf t x y ≡ false → p i ≡ true) → Marking z w a n t → Marking z w a (last p n + 1) t
   unfolding across
   mark-chain {a = a} {t = t} p n l sub m =
       record {
         room = m .room;
         rest =
             λ x y hx hy.
-            ap (λ (r : Bool). bitOf t x y or r) (sym (top-chain (λ i. z i x y) a p (λ i _ e. sub i x y e) n l)) ∙ m .rest x y hx hy;
+            ifso (bitOf t x y) (λ s. or-left _ _ s ∙ sym (or-left _ _ s))
+            (λ s. ap (λ (r : Bool). bitOf t x y or r) (sym (top-chain (λ i. z i x y) a p (λ i _ e. sub i x y e s) n l))) ∙ m .rest x y hx hy;
       }

@@ -8,7 +8,7 @@ use native.Mathlib.Omega.{arith}
 use lib.ListN.{length, getD}
 use lib.Dec.{eqb}
 use borrow.Author.Tests.{eqb-true, eq-eqb, ltb-true, le-leb, lt-leb}
-use Rattle.base.specs.Base.{_and_, _or_, some}
+use Rattle.base.specs.Base.{_or_, some}
 use Rattle.base.proofs.Tests.{split, clash, is-false, same-test, both, and-left, and-right, and-on, or-cases, or-on}
 use Rattle.base.proofs.Searches.{some-at, some-of, some-none, some-same}
 use Rattle.theory.specs.Leads.{via}
@@ -31,19 +31,22 @@ module _ {h k : List ℕ} {i : ℕ} (p : Ready h k) (o : HasOp h i) where
   pub byte-in : i < length k
   byte-in = omega (arith, o .to, p .held .most, p .judged .room)
 
-  pub byte-source : isExternal (historyOf h) i ≡ true → getD k i 0 ≡ 8 + sourceOf (historyOf h) i
-  byte-source t = p .judged .is i (o .from) (o .to) ∙ external-says (historyOf h) i t
-
-  -- the source is a row of a table
-  pub byte-row : isExternal (historyOf h) i ≡ true → getD k i 0 - 8 < 128
-  byte-row t = omega (arith, byte-source t, source-less h i (p .held), p .held .few)
-
   -- 8 and more: a clean external read; less: another operation
   pub byte-clean : 8 ≤ getD k i 0 → isExternal (historyOf h) i ≡ true
   byte-clean l = judged-external (p .judged) i (o .from) (o .to) ∙ le-leb 8 (getD k i 0) l
 
   pub byte-other : getD k i 0 < 8 → isExternal (historyOf h) i ≡ false
   byte-other l = judged-external (p .judged) i (o .from) (o .to) ∙ lt-leb 8 (getD k i 0) l
+
+  pub byte-source : isExternal (historyOf h) i ≡ true → getD k i 0 ≡ 8 + sourceOf (historyOf h) i
+  byte-source t = p .judged .is i (o .from) (o .to) ∙ external-says (historyOf h) i t
+
+  pub byte-origin : 8 ≤ getD k i 0 → sourceOf (historyOf h) i ≡ getD k i 0 - 8
+  byte-origin l = omega (arith, byte-source (byte-clean l))
+
+  -- the source is a row of a table
+  pub byte-row : isExternal (historyOf h) i ≡ true → getD k i 0 - 8 < 128
+  byte-row t = omega (arith, byte-source t, source-less h i (p .held), p .held .few)
 
 -- a clean external read of t's from a: one comparison
 pub byte-from : {h k : List ℕ} {t i : ℕ} → Ready h k → OnChain (historyOf h) t i → 0 < i → (a : ℕ)

@@ -1,21 +1,25 @@
 -- The search for a hit.
-use Prim.Native.Nat.{ℕ, _+_, _<_, _≤_}
+use Prim.Native.Nat.{ℕ, _+_, _-_, _<_, _≤_}
 use mathlib.Core.Path.{_≡_, refl, sym, ap, _∙_}
 use mathlib.Core.Bool.{true, false, not}
+use mathlib.Core.List.{List}
 use native.Mathlib.Omega.{arith}
 use lib.Dec.{eqb}
-use borrow.Author.Tests.{eqb-true, eq-eqb, ne-eqb, lt-ltb, le-ltb}
-use Rattle.base.specs.Base.{some, last}
-use Rattle.base.proofs.Tests.{clash, both, and-left, and-right, and-on, and-no-left, and-no-right, or-left, or-right, or-on}
+use lib.ListN.{getD}
+use borrow.Author.Tests.{eqb-true, eqb-false, eq-eqb, ne-eqb, lt-ltb, le-ltb}
+use Rattle.base.specs.Base.{_and_, some, last}
+use Rattle.base.proofs.Tests.{ifso, clash, both, and-left, and-right, and-on, and-no-left, and-no-right, or-left, or-right, or-on, pick-on, pick-off}
 use Rattle.base.proofs.Searches.{some-end, some-same}
 use Rattle.base.proofs.Chains.{last-is, last-hit, last-miss, last-chain, top-hit, top-miss, top-chain}
 use Rattle.rules.specs.History.{History, op, opCount}
 use Rattle.rules.specs.Reads.{writesAt, wroteBetween, sourceOf, isExternal}
 use Rattle.rules.specs.Levels.{writesKey}
-use Rattle.table.specs.Table.{ofTx, lastBelow, lastOf, prevOf, Below}
-use Rattle.pairs.specs.Pairs.{OnChain}
-use Rattle.pairs.proofs.Walk.{chain-last, chain-prev}
-use Rattle.rivals.specs.Rivals.{fits, isHit, standsFor, writesFor, Tries}
+use Rattle.table.specs.Table.{historyOf, ofTx, lastBelow, lastOf, prevOf, HasOp, Below}
+use Rattle.bits.specs.Bits.{bitOf}
+use Rattle.pairs.specs.Pairs.{Ready, OnChain}
+use Rattle.pairs.proofs.Pairs.{byte-clean, byte-other, byte-origin}
+use Rattle.pairs.proofs.Walk.{on-last, chain-prev, sought-prev}
+use Rattle.rivals.specs.Rivals.{isAbove, canRival, fits, isTried, isHit, isHitOf, standsFor, writesFor, triesFrom}
 
 -- ── one operation of t2 ──
 
@@ -51,122 +55,172 @@ module _ (h : History) (t2 x : ℕ) (n : t2 ≡ 0 → ⊥) where
   unfolding writesAt ofTx
   writes-of i e = and-right _ _ (and-left _ _ (sym (writes-for h t2 x i n) ∙ e))
 
-  to-last : {w : ℕ} → Below w (lastOf h t2) (opCount h + 1) → some 1 (opCount h + 1) (writesFor h t2 x) ≡ some 1 (w + 1) (writesFor h t2 x)
-  unfolding lastOf lastBelow
-  to-last b = rw (b .is) (top-chain (writesFor h t2 x) 1 (ofTx h t2) (λ i _. writes-of i) (opCount h + 1) (omega arith))
+  to-last : (n : ℕ) → some 1 n (writesFor h t2 x) ≡ some 1 (last (ofTx h t2) n + 1) (writesFor h t2 x)
+  to-last n = top-chain (writesFor h t2 x) 1 (ofTx h t2) (λ i _. writes-of i) n (omega arith)
 
-  to-prev : {w v : ℕ} → op h w .tx ≡ t2 → Below v (prevOf h w) w → some 1 w (writesFor h t2 x) ≡ some 1 (v + 1) (writesFor h t2 x)
-  unfolding prevOf lastBelow
-  to-prev {w} e b = rw (b .is, e) (top-chain (writesFor h t2 x) 1 (ofTx h t2) (λ i _. writes-of i) w (omega arith))
+-- ── one read ──
 
-module _ (h : History) (t2 i : ℕ) where
-  -- the read is not one that t2 can be a rival for
-  tries-none : fits h t2 i ≡ false → Tries h t2 i 0
-  tries-none e = record { to = omega arith; stands = λ l. absurd (omega arith); whole = e ∙ sym (some-end _ 1 (0 + 1) (omega arith)) }
+-- what its byte says of whether it is tried: no clean external read, one from t2, one whose pair is settled; any other
+module _ {h k : List ℕ} {i : ℕ} (p : Ready h k) (o : HasOp h i) (v : List ℕ) (t2 : ℕ) where
+  pub other-untried : getD k i 0 < 8 → isTried (historyOf h) v t2 i ≡ false
+  unfolding isTried canRival
+  other-untried l = and-no-left _ _ (and-no-left _ _ (byte-other p o l))
 
-  pub tries-other : isExternal h i ≡ false → Tries h t2 i 0
-  unfolding fits
-  tries-other e = tries-none (and-no-left _ _ (and-no-left _ _ e))
+  pub source-untried : 8 ≤ getD k i 0 → getD k i 0 ≡ 8 + t2 → isTried (historyOf h) v t2 i ≡ false
+  unfolding isTried canRival
+  source-untried l e = and-no-left _ _ (and-no-right _ _ (ap not (eq-eqb (sourceOf (historyOf h) i) t2 (omega (arith, byte-origin p o l)))))
 
-  pub tries-source : sourceOf h i ≡ t2 → Tries h t2 i 0
-  unfolding fits
-  tries-source e = tries-none (and-no-left _ _ (and-no-right _ _ (ap not (eq-eqb _ _ e))))
+  pub settled-untried : 8 ≤ getD k i 0 → bitOf v (getD k i 0 - 8) t2 ≡ true → isTried (historyOf h) v t2 i ≡ false
+  unfolding isTried
+  settled-untried l e = rw (byte-origin p o l, e) (and-no-right _ _ refl)
 
-  module _ (x : isExternal h i ≡ true) (n : sourceOf h i ≡ t2 → ⊥) where
-    fits-key : fits h t2 i ≡ writesKey h t2 (op h i .key)
-    unfolding fits
-    fits-key = and-on _ _ (both _ _ x (ap not (ne-eqb _ _ n)))
+  pub tried : 8 ≤ getD k i 0 → (getD k i 0 ≡ 8 + t2 → ⊥) → bitOf v (getD k i 0 - 8) t2 ≡ false → isTried (historyOf h) v t2 i ≡ true
+  unfolding isTried canRival
+  tried l n e =
+      let s = byte-origin p o l in
+      rw (s, e) (both _ _ (both _ _ (byte-clean p o l) (ap not (ne-eqb (getD k i 0 - 8) t2 (λ q. n (omega arith))))) refl)
+
+module _ (h : History) (v : List ℕ) (t2 i : ℕ) where
+  -- where its look starts
+  pub from-nowhere : isTried h v t2 i ≡ false → triesFrom h v t2 i ≡ 0
+  unfolding triesFrom
+  from-nowhere e = pick-off _ _ _ e
+
+  pub from-read : isTried h v t2 i ≡ true → t2 ≡ 0 → triesFrom h v t2 i ≡ i
+  unfolding triesFrom
+  from-read e z = pick-on _ _ _ e ∙ pick-on _ _ _ (eq-eqb t2 0 z)
+
+  pub from-last : isTried h v t2 i ≡ true → (t2 ≡ 0 → ⊥) → triesFrom h v t2 i ≡ lastOf h t2
+  unfolding triesFrom
+  from-last e z = pick-on _ _ _ e ∙ pick-off _ _ _ (ne-eqb t2 0 z)
+
+-- whether read i is a hit is settled by t2's operations up to w
+pub record Tries (h : History) (v : List ℕ) (t2 i w : ℕ) : Type 0 where
+  pub to : w ≤ opCount h
+  pub stands : 0 < w → standsFor h t2 w ≡ true
+  pub whole : isHit h v t2 i ≡ some 1 (w + 1) (writesFor h t2 (op h i .key))
+
+module _ (h : History) (v : List ℕ) (t2 i : ℕ) where
+  tries-none : isTried h v t2 i ≡ false → Tries h v t2 i 0
+  unfolding isHit
+  tries-none e = record { to = omega arith; stands = λ l. absurd (omega arith); whole = and-no-left _ _ e ∙ sym (some-end _ 1 (0 + 1) (omega arith)) }
+
+  module _ (t : isTried h v t2 i ≡ true) where
+    hit-key : isHit h v t2 i ≡ writesKey h t2 (op h i .key)
+    unfolding isHit
+    hit-key = and-on _ _ t
 
     -- "Transaction 0 .. writes value 0 to every key"
-    pub tries-zero : t2 ≡ 0 → 1 ≤ i → i ≤ opCount h → Tries h t2 i i
+    tries-read : t2 ≡ 0 → 1 ≤ i → i ≤ opCount h → Tries h v t2 i i
     unfolding writesKey standsFor writesFor
-    tries-zero z a b =
+    tries-read z a b =
         let e = eq-eqb t2 0 z in
-        record { to = b; stands = λ l. or-left _ _ e; whole = fits-key ∙ or-left _ _ e ∙ sym (top-hit (writesFor h t2 (op h i .key)) 1 i a (or-left _ _ e)) }
+        record { to = b; stands = λ l. or-left _ _ e; whole = hit-key ∙ or-left _ _ e ∙ sym (top-hit (writesFor h t2 (op h i .key)) 1 i a (or-left _ _ e)) }
 
-    pub tries-last : {w : ℕ} → (t2 ≡ 0 → ⊥) → Below w (lastOf h t2) (opCount h + 1) → Tries h t2 i w
-    unfolding writesKey wroteBetween
-    tries-last {w} z b =
+    tries-last : (t2 ≡ 0 → ⊥) → Tries h v t2 i (lastOf h t2)
+    unfolding writesKey wroteBetween lastOf lastBelow
+    tries-last z =
         record {
-          to = omega (arith, b .below);
-          stands = λ l. stands-for _ _ _ (chain-last b .of l);
+          to = on-last h t2 .to;
+          stands = λ l. stands-for _ _ _ (on-last h t2 .of l);
           whole =
-              fits-key ∙ or-on _ _ (ne-eqb t2 0 z)
+              hit-key ∙ or-on _ _ (ne-eqb t2 0 z)
               ∙ some-same (writesAt h t2 (op h i .key)) (writesFor h t2 (op h i .key)) (opCount h + 1) 1 (λ j _ _. sym (writes-for h t2 (op h i .key) j z))
-              ∙ to-last h t2 (op h i .key) z b;
+              ∙ to-last h t2 (op h i .key) z (opCount h + 1);
         }
 
-  module _ {w : ℕ} (t : Tries h t2 i w) where
+  pub tries-start : {w : ℕ} → 1 ≤ i → i ≤ opCount h → w ≡ triesFrom h v t2 i → Tries h v t2 i w
+  tries-start a b e =
+      rw e
+      (ifso (isTried h v t2 i)
+      (λ t.
+      ifso (eqb t2 0) (λ q. let z = eqb-true t2 0 q in rw (from-read h v t2 i t z) (tries-read t z a b))
+      (λ q. let z = eqb-false t2 0 q in rw (from-last h v t2 i t z) (tries-last t z)))
+      (λ t. rw (from-nowhere h v t2 i t) (tries-none t)))
+
+  module _ {w : ℕ} (t : Tries h v t2 i w) where
     -- past an operation that does not write the key; at one that does; at the end
-    pub tries-next : {v : ℕ} → 0 < w → writesFor h t2 (op h i .key) w ≡ false → Below v (prevOf h w) w → Tries h t2 i v
+    pub tries-next : {r : ℕ} → 0 < w → writesFor h t2 (op h i .key) w ≡ false → Below r (prevOf h w) w → Tries h v t2 i r
     tries-next l e b =
         let z = no-zero h t2 (op h i .key) w e in
         let on : op h w .tx ≡ t2 = stands-in h t2 (op h i .key) w z (t .stands l) in
         record {
           to = omega (arith, b .below, t .to);
           stands = λ m. stands-for _ _ _ (chain-prev (record { to = t .to; of = λ _. on }) l b .of m);
-          whole = t .whole ∙ top-miss (writesFor h t2 (op h i .key)) 1 w e ∙ to-prev h t2 (op h i .key) z on b;
+          whole =
+              t .whole ∙ top-miss (writesFor h t2 (op h i .key)) 1 w e
+              ∙ sought-prev h t2 (λ n. some 1 n (writesFor h t2 (op h i .key))) (to-last h t2 (op h i .key) z) on b;
         }
 
-    pub tries-hit : 0 < w → writesFor h t2 (op h i .key) w ≡ true → fits h t2 i ≡ true
+    pub tries-hit : 0 < w → writesFor h t2 (op h i .key) w ≡ true → isHit h v t2 i ≡ true
     tries-hit l e = t .whole ∙ top-hit (writesFor h t2 (op h i .key)) 1 w l e
 
-    pub tries-end : w ≤ 0 → fits h t2 i ≡ false
+    pub tries-end : w ≤ 0 → isHit h v t2 i ≡ false
     tries-end l = t .whole ∙ some-end (writesFor h t2 (op h i .key)) 1 (w + 1) (omega arith)
 
 -- ── the reads of t3 ──
 
-module _ (h : History) (t2 t3 from i : ℕ) where
-  pub is-hit : op h i .tx ≡ t3 → fits h t2 i ≡ true → from < i → isHit h t2 t3 from i ≡ true
-  unfolding isHit
-  is-hit e f l = both _ _ (both _ _ (eq-eqb _ _ e) f) (lt-ltb from i l)
+module _ (h : History) (v : List ℕ) (t2 t3 from i : ℕ) where
+  is-hit : op h i .tx ≡ t3 → isHit h v t2 i ≡ true → from < i → isHitOf h v t2 t3 from i ≡ true
+  unfolding isHitOf isAbove
+  is-hit e f l = both _ _ (both _ _ (eq-eqb _ _ e) (lt-ltb from i l)) f
 
-  pub no-hit : fits h t2 i ≡ false → isHit h t2 t3 from i ≡ false
-  unfolding isHit
-  no-hit f = and-no-left _ _ (and-no-right _ _ f)
+  no-hit : isHit h v t2 i ≡ false → isHitOf h v t2 t3 from i ≡ false
+  unfolding isHitOf
+  no-hit f = and-no-right _ _ f
 
-  hit-above : i ≤ from → isHit h t2 t3 from i ≡ false
-  unfolding isHit
-  hit-above l = and-no-right _ _ (le-ltb from i l)
+  hit-above : i ≤ from → isHitOf h v t2 t3 from i ≡ false
+  unfolding isHitOf isAbove
+  hit-above l = and-no-left _ _ (and-no-right _ _ (le-ltb from i l))
 
-  pub hit-of : isHit h t2 t3 from i ≡ true → ofTx h t3 i ≡ true
-  unfolding isHit ofTx
+  hit-of : isHitOf h v t2 t3 from i ≡ true → ofTx h t3 i ≡ true
+  unfolding isHitOf isAbove ofTx
   hit-of e = and-left _ _ (and-left _ _ e)
 
-  pub hit-tx : isHit h t2 t3 from i ≡ true → op h i .tx ≡ t3
+  pub hit-tx : isHitOf h v t2 t3 from i ≡ true → op h i .tx ≡ t3
   unfolding ofTx
   hit-tx e = eqb-true _ _ (hit-of e)
 
-  pub hit-external : isHit h t2 t3 from i ≡ true → isExternal h i ≡ true
-  unfolding isHit fits
-  hit-external e = and-left _ _ (and-left _ _ (and-right _ _ (and-left _ _ e)))
+  pub hit-external : isHitOf h v t2 t3 from i ≡ true → isExternal h i ≡ true
+  unfolding isHitOf isHit isTried canRival
+  hit-external e = and-left _ _ (and-left _ _ (and-left _ _ (and-right _ _ e)))
+
+  -- a hit fits; one that fits is a hit where its pair is not settled
+  pub hit-fits : isHitOf h v t2 t3 from i ≡ true → isAbove h t3 from i and fits h t2 i ≡ true
+  unfolding isHitOf isHit isTried fits
+  hit-fits e = let f = and-right _ _ e in both _ _ (and-left _ _ e) (both _ _ (and-left _ _ (and-left _ _ f)) (and-right _ _ f))
+
+  pub fits-hit : isAbove h t3 from i and fits h t2 i ≡ true → bitOf v (sourceOf h i) t2 ≡ false → isHitOf h v t2 t3 from i ≡ true
+  unfolding isHitOf isHit isTried fits
+  fits-hit e s = let f = and-right _ _ e in both _ _ (and-left _ _ e) (both _ _ (both _ _ (and-left _ _ f) (ap not s)) (and-right _ _ f))
 
 -- the search from j down, which has come to i
-pub record Hunt (h : History) (t2 t3 from j i : ℕ) : Type 0 where
+pub record Hunt (h : History) (v : List ℕ) (t2 t3 from j i : ℕ) : Type 0 where
   pub on : OnChain h t3 i
-  pub whole : last (isHit h t2 t3 from) (j + 1) ≡ last (isHit h t2 t3 from) (i + 1)
+  pub whole : last (isHitOf h v t2 t3 from) (j + 1) ≡ last (isHitOf h v t2 t3 from) (i + 1)
 
-module _ (h : History) (t2 t3 from : ℕ) where
+module _ (h : History) (v : List ℕ) (t2 t3 from : ℕ) where
   -- the last hit below n is found from the last operation of t3 below n on
-  pub last-hit-of : (n : ℕ) → last (isHit h t2 t3 from) n ≡ last (isHit h t2 t3 from) (last (ofTx h t3) n + 1)
-  last-hit-of = last-chain (ofTx h t3) (isHit h t2 t3 from) (hit-of h t2 t3 from)
+  pub last-hit-of : (n : ℕ) → last (isHitOf h v t2 t3 from) n ≡ last (isHitOf h v t2 t3 from) (last (ofTx h t3) n + 1)
+  last-hit-of = last-chain (ofTx h t3) (isHitOf h v t2 t3 from) (hit-of h v t2 t3 from)
 
   module _ {j : ℕ} where
-    pub hunt-start : OnChain h t3 j → Hunt h t2 t3 from j j
+    pub hunt-start : OnChain h t3 j → Hunt h v t2 t3 from j j
     hunt-start o = record { on = o; whole = refl }
 
-    module _ {i : ℕ} (u : Hunt h t2 t3 from j i) where
-      pub hunt-next : {r : ℕ} → 0 < i → fits h t2 i ≡ false → Below r (prevOf h i) i → Hunt h t2 t3 from j r
-      unfolding prevOf lastBelow
+    module _ {i : ℕ} (u : Hunt h v t2 t3 from j i) where
+      pub hunt-next : {r : ℕ} → 0 < i → isHit h v t2 i ≡ false → Below r (prevOf h i) i → Hunt h v t2 t3 from j r
       hunt-next l e b =
           record {
             on = chain-prev (u .on) l b;
-            whole = u .whole ∙ last-miss (isHit h t2 t3 from) i (no-hit h t2 t3 from i e) ∙ rw (b .is, u .on .of l) (last-hit-of i);
+            whole =
+                u .whole ∙ last-miss (isHitOf h v t2 t3 from) i (no-hit h v t2 t3 from i e)
+                ∙ sought-prev h t3 (last (isHitOf h v t2 t3 from)) last-hit-of (u .on .of l) b;
           }
 
-      pub hunt-hit : 0 < i → fits h t2 i ≡ true → from < i → i ≡ last (isHit h t2 t3 from) (j + 1)
-      hunt-hit l e a = sym (u .whole ∙ last-hit (isHit h t2 t3 from) i (is-hit h t2 t3 from i (u .on .of l) e a))
+      pub hunt-hit : 0 < i → isHit h v t2 i ≡ true → from < i → i ≡ last (isHitOf h v t2 t3 from) (j + 1)
+      hunt-hit l e a = sym (u .whole ∙ last-hit (isHitOf h v t2 t3 from) i (is-hit h v t2 t3 from i (u .on .of l) e a))
 
-      pub hunt-end : i ≤ from → 0 ≡ last (isHit h t2 t3 from) (j + 1)
+      pub hunt-end : i ≤ from → 0 ≡ last (isHitOf h v t2 t3 from) (j + 1)
       hunt-end l =
-          sym (u .whole ∙ last-is (isHit h t2 t3 from) (i + 1) 0 (λ z. absurd (omega arith)) (λ m _ b. hit-above h t2 t3 from m (omega arith)))
+          sym (u .whole ∙ last-is (isHitOf h v t2 t3 from) (i + 1) 0 (λ z. absurd (omega arith)) (λ m _ b. hit-above h v t2 t3 from m (omega arith)))

@@ -5,74 +5,78 @@ use mathlib.Core.Bool.{Bool, true, false, not}
 use mathlib.Core.List.{List}
 use mathlib.Core.Logic.{_⊎_, ⊎-elim}
 use native.Mathlib.Omega.{arith}
+use lib.Dec.{ltb}
 use borrow.Author.Tests.{eqb-true, eqb-false, eq-eqb, ne-eqb}
 use Rattle.base.specs.Base.{_and_, _or_, last}
-use Rattle.base.proofs.Tests.{clash, is-false, same-test, both, and-left, and-right, and-no-left, or-cases, or-on, not-true}
+use Rattle.base.proofs.Tests.{clash, is-false, same-test, both, and-left, and-right, and-no-left, or-cases, or-on, or-off, not-true}
 use Rattle.base.proofs.Searches.{Passing, some-at, some-of, some-same, some-none}
 use Rattle.base.proofs.Chains.{last-passes}
 use Rattle.theory.specs.Leads.{via}
 use Rattle.rules.specs.History.{History, op, opCount, size, committed}
 use Rattle.rules.specs.Reads.{sourceOf, isExternal}
 use Rattle.rules.specs.Levels.{basic, writesKey, sees, settles, isRival, forced}
-use Rattle.table.specs.Table.{historyOf, ofTx, lastBelow, lastOf, prevOf, Held, Below}
+use Rattle.table.specs.Table.{historyOf, lastOf, prevOf, Held, Below}
 use Rattle.table.proofs.Grown.{last-less}
 use Rattle.reads.proofs.Fitting.{source-less}
 use Rattle.bits.specs.Bits.{bitOf, Holds, Under, nothing, either}
-use Rattle.base.proofs.Tests.{or-off}
 use Rattle.bits.proofs.Tables.{holds-same}
 use Rattle.pairs.specs.Pairs.{OnChain, before, cell, across}
 use Rattle.pairs.proofs.Marking.{cell-is, cell-has, Marking, mark-chain, mark-down}
+use Rattle.pairs.proofs.Walk.{sought-last, sought-prev}
 use Rattle.pairs.proofs.Pairs.{committed-in, basic-under, before-under, before-via}
-use Rattle.rivals.specs.Rivals.{fits, isHit, hitBit, hitBits, settlesIn, rivalBit, rivalBits, rivalsOf, rivals, SeenFrom}
-use Rattle.rivals.proofs.Hits.{hit-tx, hit-external, last-hit-of}
+use Rattle.rivals.specs.Rivals.{seenFrom, isAbove, canRival, fits, isHitOf, hitBit, hitBits, settlesIn, rivalBit, rivalBits, rivalsOf, rivals}
+use Rattle.rivals.proofs.Hits.{hit-tx, hit-external, hit-fits, fits-hit, last-hit-of}
+use Rattle.rivals.proofs.Seen.{sees-above}
 
 -- ── hits, marked from the last down ──
 
 -- a loop that has come to the hit i
 pub record Marks (h : History) (t2 t3 from : ℕ) (w : ℕ → ℕ → Bool) (i : ℕ) (v : List ℕ) : Type 0 where
   pub to : i ≤ opCount h
-  pub hit : 0 < i → isHit h t2 t3 from i ≡ true
+  pub hit : 0 < i → isHitOf h v t2 t3 from i ≡ true
   pub rest : Marking (hitBit h t2 t3 from) w 1 (i + 1) v
 
 module _ (h : History) (t2 t3 from : ℕ) {w : ℕ → ℕ → Bool} where
-  -- only hits mark anything: so the next is the last one below n
+  -- only hits mark what the table lacks: so the next is the last one below n
   marks-last : {v : List ℕ} (n : ℕ) → 1 ≤ n → n ≤ opCount h + 1 → Marking (hitBit h t2 t3 from) w 1 n v
-      → Marks h t2 t3 from w (last (isHit h t2 t3 from) n) v
+      → Marks h t2 t3 from w (last (isHitOf h v t2 t3 from) n) v
   unfolding hitBit
-  marks-last n a b m =
+  marks-last {v} n a b m =
       record {
-        to = omega (arith, last-less (isHit h t2 t3 from) n a);
-        hit = λ z. last-passes (isHit h t2 t3 from) n z .0;
-        rest = mark-chain (hitBit h t2 t3 from) (isHit h t2 t3 from) n (omega arith) (λ i x y e. cell-is _ _ _ _ _ e .0) m;
+        to = omega (arith, last-less (isHitOf h v t2 t3 from) n a);
+        hit = λ z. last-passes (isHitOf h v t2 t3 from) n z .0;
+        rest =
+            mark-chain (hitBit h t2 t3 from) (isHitOf h v t2 t3 from) n (omega arith)
+            (λ i x y e s. let r = cell-is _ _ _ _ _ e in fits-hit h v t2 t3 from i (r .0) (rw (r .1, r .2) at s)) m;
       }
 
-  pub marks-start : {v : List ℕ} {j i : ℕ} → Below j (lastOf h t3) (opCount h + 1) → i ≡ last (isHit h t2 t3 from) (j + 1)
+  pub marks-start : {v : List ℕ} {j i : ℕ} → Below j (lastOf h t3) (opCount h + 1) → i ≡ last (isHitOf h v t2 t3 from) (j + 1)
       → Marking (hitBit h t2 t3 from) w 1 (opCount h + 1) v → Marks h t2 t3 from w i v
-  unfolding lastOf lastBelow
-  marks-start {j = j} {i = i} b e m =
-      let q : i ≡ last (isHit h t2 t3 from) (opCount h + 1) = e ∙ rw (b .is) (sym (last-hit-of h t2 t3 from (opCount h + 1))) in
+  marks-start {v} {j} {i} b e m =
+      let q : i ≡ last (isHitOf h v t2 t3 from) (opCount h + 1) = e ∙ sym (sought-last h t3 (last (isHitOf h v t2 t3 from)) (last-hit-of h v t2 t3 from) b) in
       rw q (marks-last (opCount h + 1) (omega arith) (omega arith) m)
 
   -- the bit of i is set, and the search goes on below it
   pub marks-next : {v u : List ℕ} {i j r : ℕ} → Marks h t2 t3 from w i v → 0 < i → Holds u (either (bitOf v) (hitBit h t2 t3 from i))
-      → Below j (prevOf h i) i → r ≡ last (isHit h t2 t3 from) (j + 1) → Marks h t2 t3 from w r u
-  unfolding prevOf lastBelow
-  marks-next {i = i} {j = j} {r = r} m l k b e =
-      let t : op h i .tx ≡ t3 = hit-tx h t2 t3 from i (m .hit l) in
-      let p : j ≡ last (ofTx h t3) i = b .is ∙ ap (λ (t : ℕ). last (ofTx h t) i) t in
-      let q : r ≡ last (isHit h t2 t3 from) i = e ∙ rw p (sym (last-hit-of h t2 t3 from i)) in
+      → Below j (prevOf h i) i → r ≡ last (isHitOf h u t2 t3 from) (j + 1) → Marks h t2 t3 from w r u
+  marks-next {v} {u} {i} {j} {r} m l k b e =
+      let t = hit-tx h v t2 t3 from i (m .hit l) in
+      let q : r ≡ last (isHitOf h u t2 t3 from) i = e ∙ sym (sought-prev h t3 (last (isHitOf h u t2 t3 from)) (last-hit-of h u t2 t3 from) t b) in
       rw q (marks-last i l (omega (arith, m .to)) (mark-down (hitBit h t2 t3 from) i l (m .rest) k))
 
-pub marks-less : (h : History) (t2 t3 from : ℕ) {i j r : ℕ} → r ≡ last (isHit h t2 t3 from) (j + 1) → j < i → r < i
-marks-less h t2 t3 from {i} {j} {r} e l = omega (arith, last-less (isHit h t2 t3 from) (j + 1) (omega arith))
+pub marks-less : (h : History) (v : List ℕ) (t2 t3 from : ℕ) {i j r : ℕ} → r ≡ last (isHitOf h v t2 t3 from) (j + 1) → j < i → r < i
+marks-less h v t2 t3 from {i} {j} {r} e l = omega (arith, last-less (isHitOf h v t2 t3 from) (j + 1) (omega arith))
 
--- where it stands is a clean external read of t3's
+-- where it stands is a clean external read of t3's, which fits
 module _ {h : History} {t2 t3 from i : ℕ} {w : ℕ → ℕ → Bool} {v : List ℕ} (m : Marks h t2 t3 from w i v) where
   pub marks-on : OnChain h t3 i
-  marks-on = record { to = m .to; of = λ l. hit-tx h t2 t3 from i (m .hit l) }
+  marks-on = record { to = m .to; of = λ l. hit-tx h v t2 t3 from i (m .hit l) }
 
   pub marks-external : 0 < i → isExternal h i ≡ true
-  marks-external l = hit-external h t2 t3 from i (m .hit l)
+  marks-external l = hit-external h v t2 t3 from i (m .hit l)
+
+  pub marks-fits : 0 < i → isAbove h t3 from i and fits h t2 i ≡ true
+  marks-fits l = hit-fits h v t2 t3 from i (m .hit l)
 
 -- ── hits are what settles pairs ──
 
@@ -119,13 +123,13 @@ module _ (h : History) (level t2 t3 : ℕ) where
       ⊎-elim (λ q. settled h level t2 _ i (and-right _ _ e) .not-reader (q ∙ sym (eqb-true _ _ (and-right _ _ (and-left _ _ e)))))
       (λ c. clash (and-left _ _ (and-left _ _ e)) c) n)
 
-  pub hit-settles : {r : ℕ} → (t2 ≡ t3 → ⊥) → committed h t2 ≡ true → SeenFrom h level t2 t3 r
-      → (i : ℕ) → 1 ≤ i → i ≤ opCount h → isHit h t2 t3 r i ≡ settlesIn h level t3 t2 i
-  unfolding isHit fits settlesIn
-  hit-settles {r} n c s i a b =
+  fits-settles : (t2 ≡ t3 → ⊥) → committed h t2 ≡ true → (i : ℕ) → ltb (seenFrom h level t2 t3) i ≡ sees h level t2 t3 i
+      → isAbove h t3 (seenFrom h level t2 t3) i and fits h t2 i ≡ settlesIn h level t3 t2 i
+  unfolding isAbove fits canRival settlesIn
+  fits-settles n c i s =
       same-test _ _
       (λ e.
-      let f = and-right _ _ (and-left _ _ e) in
+      let f = and-right _ _ e in
       let t : op h i .tx ≡ t3 = eqb-true _ _ (and-left _ _ (and-left _ _ e)) in
       both _ _ (both _ _ c (eq-eqb _ _ t))
       (settles-by h level t2 (sourceOf h i) i
@@ -135,14 +139,13 @@ module _ (h : History) (level t2 t3 : ℕ) where
         not-source = λ q. eqb-false _ _ (not-true _ (and-right _ _ (and-left _ _ f))) (sym q);
         not-reader = λ q. n (q ∙ t);
         key = and-right _ _ f;
-        seen = ap (λ (u : ℕ). sees h level t2 u i) t ∙ sym (s .is i a b) ∙ and-right _ _ e;
+        seen = ap (λ (u : ℕ). sees h level t2 u i) t ∙ sym s ∙ and-right _ _ (and-left _ _ e);
       })))
       (λ e.
       let t : op h i .tx ≡ t3 = eqb-true _ _ (and-right _ _ (and-left _ _ e)) in
       let q = settled h level t2 (sourceOf h i) i (and-right _ _ e) in
-      both _ _
-      (both _ _ (eq-eqb _ _ t) (both _ _ (both _ _ (q .external) (ap not (ne-eqb _ _ (λ z. q .not-source (sym z))))) (q .key)))
-      (s .is i a b ∙ sym (ap (λ (u : ℕ). sees h level t2 u i) t) ∙ q .seen))
+      both _ _ (both _ _ (eq-eqb _ _ t) (s ∙ sym (ap (λ (u : ℕ). sees h level t2 u i) t) ∙ q .seen))
+      (both _ _ (both _ _ (q .external) (ap not (ne-eqb _ _ (λ z. q .not-source (sym z))))) (q .key)))
 
   -- so what was marked is right: nothing, or the hits
   pub rival-none : {v : List ℕ} (E : ℕ → ℕ → Bool) → (t2 ≡ t3) ⊎ (committed h t2 ≡ false) → Holds v E
@@ -153,15 +156,15 @@ module _ (h : History) (level t2 t3 : ℕ) where
       (λ x y hx hy.
       sym (or-off _ _ (some-none (λ i. rivalBit h level t3 t2 i x y) (opCount h + 1) 1 (λ i _ _. and-no-left _ _ (settles-not n i)))))
 
-  pub rival-hits : {v : List ℕ} {r : ℕ} (E : ℕ → ℕ → Bool) → (t2 ≡ t3 → ⊥) → committed h t2 ≡ true → SeenFrom h level t2 t3 r
-      → Holds v (either E (hitBits h t2 t3 r)) → Holds v (either E (rivalBits h level t3 t2))
+  pub rival-hits : {v : List ℕ} {r : ℕ} (E : ℕ → ℕ → Bool) → 1 ≤ level → level ≤ 3 → (t2 ≡ t3 → ⊥) → committed h t2 ≡ true
+      → r ≡ seenFrom h level t2 t3 → Holds v (either E (hitBits h t2 t3 r)) → Holds v (either E (rivalBits h level t3 t2))
   unfolding either hitBits rivalBits hitBit rivalBit across
-  rival-hits {r = r} E n c s k =
+  rival-hits {r = r} E from to n c e k =
       holds-same k
       (λ x y hx hy.
       ap (λ (b : Bool). E x y or b)
       (some-same (λ i. hitBit h t2 t3 r i x y) (λ i. rivalBit h level t3 t2 i x y) (opCount h + 1) 1
-      (λ i a b. ap (λ (b : Bool). cell b (sourceOf h i) t2 x y) (hit-settles n c s i a (omega arith)))))
+      (λ i a b. ap (λ (b : Bool). cell b (sourceOf h i) t2 x y) (rw e (fits-settles n c i (sees-above h t2 t3 level from to i a (omega arith)))))))
 
 -- ── all rivals ──
 

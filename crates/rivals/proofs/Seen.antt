@@ -7,18 +7,18 @@ use mathlib.Core.Logic.{_⊎_, inl, inr, ⊎-elim}
 use native.Mathlib.Omega.{arith}
 use lib.Dec.{eqb, ltb}
 use borrow.Author.Tests.{eqb-true, eqb-false, eq-eqb, ne-eqb, lt-ltb, le-ltb, ltb-true}
-use Rattle.base.specs.Base.{_and_, pick, some, first, last}
+use Rattle.base.specs.Base.{pick, some, first, last}
 use Rattle.base.proofs.Tests.{known, ifso, split, clash, is-false, same-test, or-right, pick-on, pick-off}
 use Rattle.base.proofs.Searches.{some-at, some-of, some-none, first-cases, first-is, first-end}
 use Rattle.base.proofs.Chains.{last-passes, last-none}
 use Rattle.rules.specs.History.{History, txCount, opCount}
 use Rattle.rules.specs.Reads.{readsFrom}
 use Rattle.rules.specs.Levels.{isRead, basic, leads, sees}
-use Rattle.table.specs.Table.{historyOf, HasTx, ofTx, lastBelow, lastOf, prevOf, Below}
+use Rattle.table.specs.Table.{historyOf, HasTx, ofTx, lastOf, prevOf, Below}
 use Rattle.bits.specs.Bits.{bitOf, Holds}
 use Rattle.pairs.specs.Pairs.{OnChain, before}
-use Rattle.pairs.proofs.Walk.{chain-last, chain-prev}
-use Rattle.rivals.specs.Rivals.{pairsFor, Told, SeenFrom}
+use Rattle.pairs.proofs.Walk.{chain-last, chain-prev, sought-last, sought-prev}
+use Rattle.rivals.specs.Rivals.{pairsFor, Told, firstFrom, seenFrom}
 
 -- ── the first, found from the top down ──
 
@@ -65,15 +65,16 @@ pub record Firsts (h : History) (t : ℕ) (q : ℕ → Bool) (r i : ℕ) : Type 
 
 module _ (h : History) (t : ℕ) (q : ℕ → Bool) (sub : (i : ℕ) → q i ≡ true → ofTx h t i ≡ true) where
   pub firsts-start : {r i : ℕ} → r ≡ opCount h → Below i (lastOf h t) (opCount h + 1) → Firsts h t q r i
-  unfolding lastOf lastBelow
-  firsts-start e b = record { on = chain-last b; whole = rw (e, b .is) (first-chain q (opCount h) (ofTx h t) sub (opCount h + 1)) }
+  firsts-start e b =
+      record { on = chain-last b; whole = rw e (sought-last h t (λ n. first (opCount h) 1 n q) (first-chain q (opCount h) (ofTx h t) sub) b) }
 
   pub firsts-next : {r i s j : ℕ} → Firsts h t q r i → 0 < i → s ≡ pick (q i) i r → Below j (prevOf h i) i → Firsts h t q s j
-  unfolding prevOf lastBelow
   firsts-next {r} {i} {s} f l e b =
       record {
         on = chain-prev (f .on) l b;
-        whole = f .whole ∙ first-top q r i l ∙ rw (← e, b .is, f .on .of l) (first-chain q s (ofTx h t) sub i);
+        whole =
+            f .whole ∙ first-top q r i l ∙ ap (λ (d : ℕ). first d 1 i q) (sym e)
+            ∙ sought-prev h t (λ n. first s 1 n q) (first-chain q s (ofTx h t) sub) (f .on .of l) b;
       }
 
   pub firsts-end : {r i : ℕ} → Firsts h t q r i → i ≤ 0 → r ≡ first (opCount h) 1 (opCount h + 1) q
@@ -92,10 +93,10 @@ module _ {s : List ℕ} (h : History) (level : ℕ) where
   goes-by-leads e b = rw (pick-on (eqb level 3) (leads h) (basic h) (eq-eqb level 3 e)) b
 
 -- what the table says of (t2, t3)
-pub told-pair : {h k s : List ℕ} {level t2 t3 : ℕ} → Told h k s level → HasTx h t3 → t2 ≤ txCount (historyOf h)
+pub told-bit : {h k s : List ℕ} {level t2 t3 : ℕ} → Told h k s level → HasTx h t3 → t2 ≤ txCount (historyOf h)
     → pairsFor (historyOf h) level t2 t3 ≡ bitOf s t3 t2
 unfolding before
-told-pair {t2 = t2} {t3 = t3} p o l =
+told-bit {t2 = t2} {t3 = t3} p o l =
     let few = p .ready .held .few in
     sym (p .seen .is t3 t2 (omega (arith, o .to)) (omega arith))
 
@@ -108,9 +109,9 @@ module _ (h : History) (t2 t3 : ℕ) where
       (λ j a b. is-false _ (λ t. clash (or-right _ _ (some-of (readsFrom h t3 t2) (opCount h + 1) 1 j a (omega arith) t)) e))
 
   -- the first read from t2, and none where it is the last operation of all: the reads behind it
-  behind-first : (r : ℕ) → r ≡ first (opCount h) 1 (opCount h + 1) (readsFrom h t3 t2) → (i : ℕ) → 1 ≤ i → i ≤ opCount h
-      → ltb r i ≡ some 1 i (readsFrom h t3 t2)
-  behind-first r e i a b =
+  behind-first : {r : ℕ} → r ≡ firstFrom h t2 t3 → (i : ℕ) → 1 ≤ i → i ≤ opCount h → ltb r i ≡ some 1 i (readsFrom h t3 t2)
+  unfolding firstFrom
+  behind-first {r} e i a b =
       ⊎-elim (λ z. le-ltb r i (omega (arith, z .0)) ∙ sym (some-none (readsFrom h t3 t2) i 1 (λ j c d. z .1 j c (omega arith))))
       (λ f.
       same-test _ _ (λ t. some-of (readsFrom h t3 t2) i 1 r (omega (arith, f .from)) (ltb-true r i t) (rw e (f .passes)))
@@ -141,17 +142,31 @@ module _ (h : History) (t2 t3 : ℕ) where
         ∙ sym (ap (λ (f : ℕ → ℕ → Bool). f t2 t3) (pick-on _ (leads h) (basic h) (eq-eqb level 3 (omega arith)))))
         (split level 3)
 
-    -- the level's pairs lack (t2, t3)
-    pub seen-none : {n : ℕ} → 1 ≤ level → level ≤ 3 → n ≡ opCount h → pairsFor h level t2 t3 ≡ false → SeenFrom h level t2 t3 n
-    seen-none {n} a b e k = record { is = λ i c d. le-ltb n i (omega arith) ∙ sym (at i d (known (eqb level 1))) }
+    -- the level's pairs lack (t2, t3); they have it, at levels 2 and 3; at level 1
+    pub from-none : pairsFor h level t2 t3 ≡ false → seenFrom h level t2 t3 ≡ opCount h
+    unfolding seenFrom
+    from-none k = pick-off _ _ _ k
+
+    pub from-all : pairsFor h level t2 t3 ≡ true → (level ≡ 1 → ⊥) → seenFrom h level t2 t3 ≡ 0
+    unfolding seenFrom
+    from-all k n = pick-on _ _ _ k ∙ pick-off _ _ _ (ne-eqb level 1 n)
+
+    pub from-first : pairsFor h level t2 t3 ≡ true → level ≡ 1 → seenFrom h level t2 t3 ≡ firstFrom h t2 t3
+    unfolding seenFrom
+    from-first k e = pick-on _ _ _ k ∙ pick-on _ _ _ (eq-eqb level 1 e)
+
+    -- so the reads above it are those that see t2
+    pub sees-above : 1 ≤ level → level ≤ 3 → (i : ℕ) → 1 ≤ i → i ≤ opCount h → ltb (seenFrom h level t2 t3) i ≡ sees h level t2 t3 i
+    sees-above a b i c d = at (known (eqb level 1)) (known (pairsFor h level t2 t3))
       where
-        at : (i : ℕ) → i ≤ opCount h → (eqb level 1 ≡ true) ⊎ (eqb level 1 ≡ false) → sees h level t2 t3 i ≡ false
-        at i d (inl t) = let q = eqb-true level 1 t in sees-one i q ∙ no-read (sym (pairs-one q) ∙ k) i d
-        at i d (inr t) = sees-pairs i (eqb-false level 1 t) a b ∙ k
+        none : pairsFor h level t2 t3 ≡ false → ltb (seenFrom h level t2 t3) i ≡ false
+        none k = ap (λ (r : ℕ). ltb r i) (from-none k) ∙ le-ltb (opCount h) i d
 
-    -- they have it, at levels 2 and 3; at level 1
-    pub seen-all : (level ≡ 1 → ⊥) → 1 ≤ level → level ≤ 3 → pairsFor h level t2 t3 ≡ true → SeenFrom h level t2 t3 0
-    seen-all n a b k = record { is = λ i c d. lt-ltb 0 i c ∙ sym (sees-pairs i n a b ∙ k) }
-
-    pub seen-first : {r : ℕ} → level ≡ 1 → r ≡ first (opCount h) 1 (opCount h + 1) (readsFrom h t3 t2) → SeenFrom h level t2 t3 r
-    seen-first {r} q e = record { is = λ i a b. behind-first r e i a b ∙ sym (sees-one i q) }
+        at : (eqb level 1 ≡ true) ⊎ (eqb level 1 ≡ false) → (pairsFor h level t2 t3 ≡ true) ⊎ (pairsFor h level t2 t3 ≡ false)
+            → ltb (seenFrom h level t2 t3) i ≡ sees h level t2 t3 i
+        at (inl q) (inl k) = let e = eqb-true level 1 q in behind-first (from-first k e) i c d ∙ sym (sees-one i e)
+        at (inl q) (inr k) = let e = eqb-true level 1 q in none k ∙ sym (sees-one i e ∙ no-read (sym (pairs-one e) ∙ k) i d)
+        at (inr q) (inl k) =
+            let n = eqb-false level 1 q in
+            ap (λ (r : ℕ). ltb r i) (from-all k n) ∙ lt-ltb 0 i c ∙ sym (sees-pairs i n a b ∙ k)
+        at (inr q) (inr k) = none k ∙ sym (sees-pairs i (eqb-false level 1 q) a b ∙ k)

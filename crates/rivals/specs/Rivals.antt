@@ -1,15 +1,14 @@
 -- Document 01, "What each level forces": the search for rivals, and how the table of their pairs is filled.
-use Prim.Native.Nat.{ℕ, _+_, _≤_, _<_}
-use mathlib.Core.Path.{_≡_}
-use mathlib.Core.Bool.{Bool, true, not}
+use Prim.Native.Nat.{ℕ, _+_, _≤_}
+use mathlib.Core.Bool.{Bool, not}
 use mathlib.Core.List.{List}
 use lib.Dec.{ltb, eqb}
-use Rattle.base.specs.Base.{_and_, _or_, pick, some}
+use Rattle.base.specs.Base.{_and_, _or_, pick, first}
 use Rattle.rules.specs.History.{History, op, opCount, size, committed}
-use Rattle.rules.specs.Reads.{writesAt, sourceOf, isExternal}
-use Rattle.rules.specs.Levels.{basic, leads, writesKey, sees, settles}
-use Rattle.table.specs.Table.{historyOf, ofTx}
-use Rattle.bits.specs.Bits.{Holds}
+use Rattle.rules.specs.Reads.{writesAt, sourceOf, isExternal, readsFrom}
+use Rattle.rules.specs.Levels.{basic, leads, writesKey, settles}
+use Rattle.table.specs.Table.{historyOf, ofTx, lastOf}
+use Rattle.bits.specs.Bits.{bitOf, Holds}
 use Rattle.pairs.specs.Pairs.{Ready, before, cell, across}
 
 -- the pairs that the search goes by: basic pairs at levels 1 and 2, what leads to what at level 3
@@ -23,19 +22,43 @@ pub record Told (h k s : List ℕ) (level : ℕ) : Type 0 where
   pub to : level ≤ 3
   pub seen : Holds s (before (pairsFor (historyOf h) level))
 
+-- ── which reads of t3 see t2 ──
+
+-- the number of t3's first clean external read from t2; the number of operations where it has none
+unfoldable pub firstFrom : History → ℕ → ℕ → ℕ
+firstFrom h t2 t3 = first (opCount h) 1 (opCount h + 1) (readsFrom h t3 t2)
+
+-- the reads of t3 above this number see t2. Level 1: "an earlier clean external read in t3, of any key, came from t2", so all reads behind the first of
+-- those. Levels 2 and 3 ask nothing of the read: "(t2, t3) is a basic pair", "t2 leads to t3 through one or more basic pairs".
+unfoldable pub seenFrom : History → ℕ → ℕ → ℕ → ℕ
+seenFrom h level t2 t3 = pick (pairsFor h level t2 t3) (pick (eqb level 1) (firstFrom h t2 t3) 0) (opCount h)
+
+-- operation i is one of t3's above `from`
+unfoldable pub isAbove : History → ℕ → ℕ → ℕ → Bool
+isAbove h t3 from i = eqb (op h i .tx) t3 and ltb from i
+
+-- ── which of these t2 is a rival for ──
+
+-- read i "is a clean external read .. from t1", and t2 "is [not] t1"
+unfoldable pub canRival : History → ℕ → ℕ → Bool
+canRival h t2 i = isExternal h i and not (eqb (sourceOf h i) t2)
+
+-- .. and t2 "writes x"
+unfoldable pub fits : History → ℕ → ℕ → Bool
+fits h t2 i = canRival h t2 i and writesKey h t2 (op h i .key)
+
 -- ── the search ──
 
--- the reads of t3 that see t2 at the level are those whose numbers are above r
-pub record SeenFrom (h : History) (level t2 t3 r : ℕ) : Type 0 where
-  pub is : (i : ℕ) → 1 ≤ i → i ≤ opCount h → ltb r i ≡ sees h level t2 t3 i
+-- "A search for a rival stops at the first one that settles the pair": where row t1 of the table v has the bit t2, no read from t1 is tried
+unfoldable pub isTried : History → List ℕ → ℕ → ℕ → Bool
+isTried h v t2 i = canRival h t2 i and not (bitOf v (sourceOf h i) t2)
 
--- read i "is a clean external read of x .. from t1", and t2 "writes x and is [not] t1"
-unfoldable pub fits : History → ℕ → ℕ → Bool
-fits h t2 i = isExternal h i and not (eqb (sourceOf h i) t2) and writesKey h t2 (op h i .key)
+-- a read that is tried is a hit if t2 "writes x"; a hit among the reads of t3 above `from`
+unfoldable pub isHit : History → List ℕ → ℕ → ℕ → Bool
+isHit h v t2 i = isTried h v t2 i and writesKey h t2 (op h i .key)
 
--- .. and it is in t3, above `from`
-unfoldable pub isHit : History → ℕ → ℕ → ℕ → ℕ → Bool
-isHit h t2 t3 from i = eqb (op h i .tx) t3 and fits h t2 i and ltb from i
+unfoldable pub isHitOf : History → List ℕ → ℕ → ℕ → ℕ → ℕ → Bool
+isHitOf h v t2 t3 from i = isAbove h t3 from i and isHit h v t2 i
 
 -- operation w is one of t2's; transaction 0 has none, and any stands for its write
 unfoldable pub standsFor : History → ℕ → ℕ → Bool
@@ -45,17 +68,15 @@ standsFor h t2 w = eqb t2 0 or ofTx h t2 w
 unfoldable pub writesFor : History → ℕ → ℕ → ℕ → Bool
 writesFor h t2 x w = eqb t2 0 or writesAt h t2 x w
 
--- whether read i fits is settled by t2's operations up to w
-pub record Tries (h : History) (t2 i w : ℕ) : Type 0 where
-  pub to : w ≤ opCount h
-  pub stands : 0 < w → standsFor h t2 w ≡ true
-  pub whole : fits h t2 i ≡ some 1 (w + 1) (writesFor h t2 (op h i .key))
+-- where the look through t2's operations starts: at the last one, for 0 at the read itself; 0, nowhere, for a read that is not tried
+unfoldable pub triesFrom : History → List ℕ → ℕ → ℕ → ℕ
+triesFrom h v t2 i = pick (isTried h v t2 i) (pick (eqb t2 0) i (lastOf h t2)) 0
 
 -- ── what is marked: row t1 gets the bit t2 ──
 
--- by read i, if it is a hit; by all hits
+-- by read i of t3 above `from`, if it fits; by all of them
 unfoldable pub hitBit : History → ℕ → ℕ → ℕ → ℕ → ℕ → ℕ → Bool
-hitBit h t2 t3 from i = cell (isHit h t2 t3 from i) (sourceOf h i) t2
+hitBit h t2 t3 from i = cell (isAbove h t3 from i and fits h t2 i) (sourceOf h i) t2
 
 unfoldable pub hitBits : History → ℕ → ℕ → ℕ → ℕ → ℕ → Bool
 hitBits h t2 t3 from = across 1 (opCount h + 1) (hitBit h t2 t3 from)

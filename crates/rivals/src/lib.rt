@@ -5,14 +5,13 @@ ghost use mathlib.Core.Bool.{true};
 ghost use Prim.Native.Nat.{_+_, _≤_, _<_};
 ghost use lib.ListN.{length, getD};
 ghost use lib.Dec.{eqb};
-ghost use Rattle.base.specs.Base.{pick, first, last};
-ghost use Rattle.rules.specs.History.{op, txCount, opCount};
-ghost use Rattle.rules.specs.Reads.{readsFrom};
+ghost use Rattle.base.specs.Base.{pick, last};
+ghost use Rattle.rules.specs.History.{op, txCount};
 ghost use Rattle.rules.specs.Levels.{isRival};
 ghost use Rattle.table.specs.Table.{historyOf, HasTx, HasOp};
 ghost use Rattle.bits.specs.Bits.{bitOf, Holds, either};
 ghost use Rattle.pairs.specs.Pairs.{Ready, OnChain, before};
-ghost use Rattle.rivals.specs.Rivals.{Told, SeenFrom, standsFor, writesFor, isHit, Tries, hitBits, rivalBits, rivalsOf, rivals};
+ghost use Rattle.rivals.specs.Rivals.{Told, firstFrom, seenFrom, standsFor, writesFor, triesFrom, isHitOf, hitBits, rivalBits, rivalsOf, rivals};
 
 // ── which reads of t3 see t2 ──
 
@@ -30,7 +29,7 @@ fn earlier(k: &[u8], t2: usize, i: usize, r: usize) -> usize
 // The number of t3's first clean external read from t2; the number of operations where it has none.
 fn first_from(h: &[u64], k: &[u8], t2: usize, t3: usize) -> usize
     requires { ⌜ Ready (now h) (now k) × HasTx (now h) t3 × (t2 ≤ txCount (historyOf (now h))) ⌝ }
-    ensures { λ r. ⌜ r ≡ first (opCount (historyOf (now (h .entry)))) 1 (opCount (historyOf (now (h .entry))) + 1) (readsFrom (historyOf (now (h .entry))) t3 t2) ⌝ }
+    ensures { λ r. ⌜ r ≡ firstFrom (historyOf (now (h .entry))) t2 t3 ⌝ }
 {
     let mut r = table::ops(h);
     let mut i = table::last_op(h, t3);
@@ -41,11 +40,10 @@ fn first_from(h: &[u64], k: &[u8], t2: usize, t3: usize) -> usize
     r
 }
 
-// The reads of t3 above this number see t2. Level 1: "an earlier clean external read in t3, of any key, came from t2", so all reads behind the first of those.
-// Levels 2 and 3 ask nothing of the read: "(t2, t3) is a basic pair", "t2 leads to t3 through one or more basic pairs".
+// The reads of t3 above this number see t2 at the level.
 fn seen_from(h: &[u64], k: &[u8], s: &[u64], level: u8, t2: usize, t3: usize) -> usize
     requires { ⌜ Told (now h) (now k) (now s) level × HasTx (now h) t3 × (t2 ≤ txCount (historyOf (now h))) ⌝ }
-    ensures { λ r. ⌜ SeenFrom (historyOf (now (h .entry))) level t2 t3 r ⌝ }
+    ensures { λ r. ⌜ r ≡ seenFrom (historyOf (now (h .entry))) level t2 t3 ⌝ }
 {
     if !bits::bit(s, t3, t2) {
         return table::ops(h);
@@ -58,17 +56,20 @@ fn seen_from(h: &[u64], k: &[u8], s: &[u64], level: u8, t2: usize, t3: usize) ->
 
 // ── the search ──
 
-// Where the look through t2's operations starts that is to settle whether read i fits: at its last one, and nowhere, 0, where the read is not one that t2 can
-// be a rival for. Transaction 0 has no operation, and writes every key: the read itself stands for its write.
-fn writes_to_try(h: &[u64], k: &[u8], t2: usize, i: usize) -> usize
-    requires { ⌜ Ready (now h) (now k) × HasOp (now h) i × (t2 ≤ txCount (historyOf (now h))) ⌝ }
-    ensures { λ r. ⌜ Tries (historyOf (now (h .entry))) t2 i r ⌝ }
+// Where the look through t2's operations starts that is to show whether read i is a hit: at its last one, and nowhere, 0, where the read is not one that t2
+// can be a rival for, or where t2 stands before its source already. Transaction 0 has no operation, and writes every key: the read itself stands for its write.
+fn writes_to_try(h: &[u64], k: &[u8], v: &[u64], t2: usize, i: usize) -> usize
+    requires { ⌜ Ready (now h) (now k) × (length (now v) ≡ 256) × HasOp (now h) i × (t2 ≤ txCount (historyOf (now h))) ⌝ }
+    ensures { λ r. ⌜ r ≡ triesFrom (historyOf (now (h .entry))) (now (v .entry)) t2 i ⌝ }
 {
-    let v = k[i] as usize;
-    if v < 8 {
+    let s = k[i] as usize;
+    if s < 8 {
         return 0;
     }
-    if v == 8 + t2 {
+    if s == 8 + t2 {
+        return 0;
+    }
+    if bits::bit(v, s - 8, t2) {
         return 0;
     }
     if t2 == 0 {
@@ -93,14 +94,14 @@ fn writes_same_key(h: &[u64], t2: usize, w: usize, i: usize) -> bool
 
 // The last hit of t2 among the reads of t3 from number j down to above `from`; 0 where there is none. "A search for a rival stops at the first one that
 // settles the pair."
-fn next_hit(h: &[u64], k: &[u8], t2: usize, t3: usize, from: usize, j: usize) -> usize
-    requires { ⌜ Ready (now h) (now k) × OnChain (historyOf (now h)) t3 j × (t2 ≤ txCount (historyOf (now h))) ⌝ }
-    ensures { λ r. ⌜ r ≡ last (isHit (historyOf (now (h .entry))) t2 t3 from) (j + 1) ⌝ }
+fn next_hit(h: &[u64], k: &[u8], v: &[u64], t2: usize, t3: usize, from: usize, j: usize) -> usize
+    requires { ⌜ Ready (now h) (now k) × (length (now v) ≡ 256) × OnChain (historyOf (now h)) t3 j × (t2 ≤ txCount (historyOf (now h))) ⌝ }
+    ensures { λ r. ⌜ r ≡ last (isHitOf (historyOf (now (h .entry))) (now (v .entry)) t2 t3 from) (j + 1) ⌝ }
 {
     let mut found = 0;
     let mut i = j;
     'reads: while from < i {
-        let mut w = writes_to_try(h, k, t2, i);
+        let mut w = writes_to_try(h, k, v, t2, i);
         'writes: while 0 < w {
             if writes_same_key(h, t2, w, i) {
                 found = i;
@@ -115,15 +116,15 @@ fn next_hit(h: &[u64], k: &[u8], t2: usize, t3: usize, from: usize, j: usize) ->
 
 // ── the table of rival pairs ──
 
-// t2 before the source of each hit among the reads of t3. After a hit the search goes on below it.
+// t2 before the source of each hit among the reads of t3. After a hit the search goes on below it, for the reads from another source: this pair is settled.
 fn mark_hits(h: &[u64], k: &[u8], v: &mut [u64], t2: usize, t3: usize, from: usize)
     requires { ⌜ Ready (now h) (now k) × (length (now v) ≡ 256) × HasTx (now h) t3 × (t2 ≤ txCount (historyOf (now h))) ⌝ }
     ensures { λ r. ⌜ Holds (now (v .exit)) (either (bitOf (now (v .entry))) (hitBits (historyOf (now (h .entry))) t2 t3 from)) ⌝ }
 {
-    let mut i = next_hit(h, k, t2, t3, from, table::last_op(h, t3));
+    let mut i = next_hit(h, k, v, t2, t3, from, table::last_op(h, t3));
     while 0 < i {
         bits::set_bit(v, k[i] as usize - 8, t2);
-        i = next_hit(h, k, t2, t3, from, table::prev_op(h, i));
+        i = next_hit(h, k, v, t2, t3, from, table::prev_op(h, i));
     }
 }
 

@@ -1,16 +1,16 @@
 use Rattle.base.specs.Base.{_and_}
+use Rattle.pairs.proofs.Tests.{denied, granted}
 use Rattle.lists.specs.Lists.{isIn}
-use Rattle.lists.proofs.Listings.{asked-no, asked-yes}
 use Rattle.lists.proofs.is_listed.Statement.{statement}
 use Rattle.lists.proofs.is_listed.Tie as tie
 
 returns : tie.Need-returns
 unfolding isIn _and_
-returns c = rw (asked-no (c .before .bit .result) (c .before .bit .ensures) (c .if1 .taken))
+returns c = rw (denied (c .before .bit .ensures) (c .if1 .taken))
 
 returns-2 : tie.Need-returns-2
 unfolding isIn _and_
-returns-2 c = rw (asked-yes (c .before .before .bit .result) (c .before .before .bit .ensures) (c .before .if1 .left)) (c .bit2 .ensures)
+returns-2 c = rw (granted (c .before .before .bit .ensures) (c .before .if1 .left)) (c .bit2 .ensures)
 
 pub is-listed-spec : {M : Type 1} → statement M
 is-listed-spec =

@@ -1,5 +1,6 @@
 use native.Mathlib.Omega.{arith}
 use borrow.Author.Needs.{needs}
+use Rattle.pairs.proofs.Tests.{denied, granted}
 use Rattle.lists.proofs.Listings.{left-out, put-in, room-for}
 use Rattle.lists.proofs.Findings.{finding-says}
 use Rattle.lists.proofs.put_finding.Statement.{statement}
@@ -7,20 +8,20 @@ use Rattle.lists.proofs.put_finding.Tie as tie
 
 returns : tie.Need-returns
 returns c =
-    let p = c .before .before .before .before .before .before .pre in let r = c .before .is-kind in
-    rw (finding-says (p .0 .judged) _ (p .1 .from) (p .1 .to)) (left-out (r .result) (r .ensures) _ (c .if1 .taken) (omega arith))
+    let p = c .before .before .before .before .before .before .pre in
+    rw (finding-says (p .0 .judged) _ (p .1 .from) (p .1 .to)) (left-out _ (denied (c .before .is-kind .ensures) (c .if1 .taken)) (omega arith))
 
 put4-requires : tie.Need-put4-requires
 put4-requires c κs =
-    let p = c .before .before .before .before .before .before .before .before .pre in let r = c .before .before .before .is-kind in
-    room-for (r .result) (r .ensures) _ (c .before .before .if1 .left) _ _ (rw (finding-says (p .0 .judged) _ (p .1 .from) (p .1 .to)) at (p .2))
+    let p = c .before .before .before .before .before .before .before .before .pre in
+    room-for _ (granted (c .before .before .before .is-kind .ensures) (c .before .before .if1 .left)) _ _
+    (rw (finding-says (p .0 .judged) _ (p .1 .from) (p .1 .to)) at (p .2))
 
 returns-2 : tie.Need-returns-2
 returns-2 c =
     let p = c .before .before .before .before .before .before .before .before .before .before .before .pre in
-    let r = c .before .before .before .before .before .before .is-kind in
     rw (finding-says (p .0 .judged) _ (p .1 .from) (p .1 .to))
-    (put-in (r .result) (r .ensures) _ (c .before .before .before .before .before .if1 .left)
+    (put-in _ (granted (c .before .before .before .before .before .before .is-kind .ensures) (c .before .before .before .before .before .if1 .left))
     (rw (← c .before .before .before .before .tx-of .ensures .is) (c .before .before .put4 .ensures)))
 
 pub put-finding-spec : {M : Type 1} → statement M

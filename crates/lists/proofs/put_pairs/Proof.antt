@@ -1,14 +1,15 @@
-use Prim.Native.Nat.{_+_, _-_, _≤_}
+use Prim.Native.Nat.{_+_, _-_}
 use native.Mathlib.Omega.{arith}
 use Rattle.base.proofs.Fill.{Filling, appended-length, fill-start, fill-room, fill-step, fill-end}
+use Rattle.rules.specs.History.{size}
 use Rattle.table.specs.Table.{historyOf}
 use Rattle.lists.specs.Lists.{rowAt, pairsIn}
-use Rattle.lists.proofs.Pairs.{all-fits}
+use Rattle.lists.proofs.Pairs.{pairs-fit}
 use Rattle.lists.proofs.put_pairs.Statement.{statement}
 use Rattle.lists.proofs.put_pairs.Tie as tie
 
 abbrev Inv-loop : tie.InvT-loop
-Inv-loop h k f c v out₀ n at₀ a₀ out at a = (a ≤ n + 1) × Filling (rowAt (historyOf h) f c v) 0 (n + 1) out₀ 0 a out at
+Inv-loop h k f c v out₀ n at₀ a₀ out at a = Filling (rowAt (historyOf h) f c v) 0 (size (historyOf h)) out₀ 0 a out at
 
 abbrev μ-loop : tie.MeasureT-loop
 μ-loop h k f c v out₀ n at₀ a₀ out at a = n + 1 - a
@@ -18,29 +19,26 @@ put-row-requires c κs =
     let p = c .before .before .before .before .before .before .before .before .before .before .pre in (
       p .0,
       omega (arith, c .before .before .before .txs .ensures),
-      fill-room _ _ _ _ _ (c .before .before .loop .inv .1)
-          (all-fits _ _ _ _ (c .before .before .before .txs .ensures) _ (p .1)) (omega arith),
+      fill-room _ _ _ _ _ (c .before .before .loop .inv) (pairs-fit (p .0) (p .1)) (omega (arith, c .before .before .before .txs .ensures)),
     )
 
 loop-again : tie.Need-loop-again Inv-loop μ-loop
 loop-again c =
-    (omega arith, fill-step _ _ _ _ _ (c .before .before .before .before .before .loop .inv .1) (omega arith) (c .before .before .put-row .ensures))
-
-same-length : tie.Need-same-length Inv-loop μ-loop
-same-length c = appended-length (c .before .loop .inv .1 .is)
+    fill-step _ _ _ _ _ (c .before .before .before .before .before .loop .inv)
+    (omega (arith, c .before .before .before .before .before .before .txs .ensures)) (c .before .before .put-row .ensures)
 
 returns : tie.Need-returns Inv-loop μ-loop
 unfolding pairsIn
-returns c = rw (← c .before .before .txs .ensures) (fill-end _ _ _ _ _ (c .before .loop .inv .1) (omega arith))
+returns c = fill-end _ _ _ _ _ (c .before .loop .inv) (omega (arith, c .before .before .txs .ensures))
 
 pub put-pairs-spec : {M : Type 1} → statement M
 put-pairs-spec =
     tie.close
     (tie.spec Inv-loop μ-loop (λ c κs. c .before .before .before .before .before .before .pre .0 .ready .held)
-    (λ c. (omega arith, fill-start _ _ _ _ _ (omega arith))) put-row-requires
+    (λ c. fill-start _ _ _ _ _ (omega arith)) put-row-requires
     (λ c. omega (
       arith,
       c .before .before .before .before .before .before .txs .ensures,
       c .before .before .before .before .before .before .before .before .before .before .before .before .before .pre .0 .tables .few,
     ))
-    (λ c. omega arith) loop-again same-length returns)
+    (λ c. omega arith) loop-again (λ c. appended-length (c .before .loop .inv .is)) returns)

@@ -1,3 +1,4 @@
+use Prim.Native.Nat.{_<_}
 use mathlib.Core.Path.{sym, _∙_}
 use native.Mathlib.Omega.{arith}
 use borrow.Author.Needs.{needs}
@@ -32,31 +33,31 @@ loop-holds c = walk-start _ _ _ (reads-of _ _ _) (c .last-op .ensures)
 shared-slice-read-if2 : tie.Need-shared-slice-read-if2 Inv-loop μ-loop
 shared-slice-read-if2 c =
     let p = c .before .before .before .before .before .before .before .pre .0 in
-    byte-in p (chain-has (p .held) (c .before .before .loop .inv .on) (c .before .loop-test .taken))
+    byte-in p (chain-has (p .held) (c .before .before .loop .inv .on) (omega arith))
 
 returns-2 : tie.Need-returns-2 Inv-loop μ-loop
 unfolding isRead
 returns-2 c =
     let w = c .before .before .before .loop .inv in
-    let l = c .before .before .loop-test .taken in
+    let l : 0 < c .before .before .before .loop .i = omega arith in
     let b = byte-from (c .before .before .before .before .before .before .before .before .pre .0) (w .on) l _ in
     walk-hit _ _ _ (reads-of _ _ _) w l (b ∙ eq-eqb _ _ (c .if2 .taken))
 
 prev-op-requires : tie.Need-prev-op-requires Inv-loop μ-loop
 prev-op-requires c κs =
     let p = c .before .before .before .before .before .before .before .before .pre .0 .held in
-    chain-has p (c .before .before .before .loop .inv .on) (c .before .before .loop-test .taken)
+    chain-has p (c .before .before .before .loop .inv .on) (omega arith)
 
 loop-again : tie.Need-loop-again Inv-loop μ-loop
 loop-again c =
     let w = c .before .before .before .before .loop .inv in
-    let l = c .before .before .before .loop-test .taken in
+    let l : 0 < c .before .before .before .before .loop .i = omega arith in
     let b = byte-from (c .before .before .before .before .before .before .before .before .before .pre .0) (w .on) l _ in
     walk-next _ _ _ (reads-of _ _ _) w l (b ∙ ne-eqb _ _ (c .before .if2 .left)) (c .prev-op .ensures)
 
 returns-3 : tie.Need-returns-3 Inv-loop μ-loop
 unfolding isRead
-returns-3 c = walk-end _ _ _ (reads-of _ _ _) (c .before .loop .inv) (c .loop-test .left)
+returns-3 c = walk-end _ _ _ (reads-of _ _ _) (c .before .loop .inv) (omega arith)
 
 pub is-read-spec : {M : Type 1} → statement M
 is-read-spec =

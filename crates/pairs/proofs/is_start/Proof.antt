@@ -1,14 +1,16 @@
+use mathlib.Core.Path.{sym}
 use native.Mathlib.Omega.{arith}
 use borrow.Author.Needs.{needs}
 use borrow.Author.Tests.{eq-eqb, ne-eqb, lt-ltb, le-ltb}
 use Rattle.base.specs.Base.{_and_}
+use Rattle.base.proofs.Tests.{and-no-left}
 use Rattle.rules.specs.Levels.{isStart}
 use Rattle.pairs.proofs.is_start.Statement.{statement}
 use Rattle.pairs.proofs.is_start.Tie as tie
 
 returns : tie.Need-returns
-unfolding isStart _and_
-returns c = rw (ne-eqb _ _ (c .if1 .taken))
+unfolding isStart
+returns c = sym (and-no-left _ _ (and-no-left _ _ (ne-eqb _ _ (c .if1 .taken))))
 
 returns-2 : tie.Need-returns-2
 unfolding isStart _and_

@@ -7,6 +7,7 @@ use Rattle.rules.specs.Reads.{readsFrom}
 use Rattle.table.specs.Table.{historyOf}
 use Rattle.pairs.proofs.Pairs.{byte-in, byte-from, reads-of}
 use Rattle.pairs.proofs.Walk.{chain-has}
+use Rattle.rivals.specs.Rivals.{firstFrom}
 use Rattle.rivals.proofs.Seen.{Firsts, firsts-start, firsts-next, firsts-end}
 use Rattle.rivals.proofs.first_from.Statement.{statement}
 use Rattle.rivals.proofs.first_from.Tie as tie
@@ -37,6 +38,7 @@ loop-again c =
     firsts-next _ _ _ (reads-of _ _ _) (w .inv) l (c .before .earlier .ensures ∙ sym e) (c .prev-op .ensures)
 
 returns : tie.Need-returns Inv-loop μ-loop
+unfolding firstFrom
 returns c = firsts-end _ _ _ (reads-of _ _ _) (c .before .loop .inv) (c .loop-test .left)
 
 pub first-from-spec : {M : Type 1} → statement M

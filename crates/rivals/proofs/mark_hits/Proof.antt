@@ -7,7 +7,7 @@ use Rattle.pairs.proofs.Marking.{cell-on, mark-start, mark-end}
 use Rattle.pairs.proofs.Pairs.{byte-in, byte-source, byte-row}
 use Rattle.pairs.proofs.Walk.{chain-last, chain-prev, chain-has}
 use Rattle.rivals.specs.Rivals.{hitBit, hitBits}
-use Rattle.rivals.proofs.Rivals.{Marks, marks-start, marks-next, marks-less, marks-on, marks-external}
+use Rattle.rivals.proofs.Rivals.{Marks, marks-start, marks-next, marks-less, marks-on, marks-external, marks-fits}
 use Rattle.rivals.proofs.mark_hits.Statement.{statement}
 use Rattle.rivals.proofs.mark_hits.Tie as tie
 
@@ -19,54 +19,54 @@ abbrev μ-loop : tie.MeasureT-loop
 
 next-hit-requires : tie.Need-next-hit-requires Inv-loop μ-loop
 next-hit-requires c κs =
-    let p = c .before .before .before .before .pre in
-    (p .0, chain-last (c .last-op .ensures), p .3)
+    let p = c .before .before .before .before .before .pre in
+    (p .0, p .1, chain-last (c .last-op .ensures), p .3)
 
 loop-holds : tie.Need-loop-holds Inv-loop μ-loop
 unfolding hitBits
 loop-holds c =
-    marks-start _ _ _ _ (c .before .last-op .ensures) (c .next-hit .ensures) (mark-start _ _ _ (c .before .before .before .before .before .pre .1))
+    marks-start _ _ _ _ (c .before .last-op .ensures) (c .next-hit .ensures) (mark-start _ _ _ (c .before .before .before .before .before .before .pre .1))
 
 shared-slice-read-set-bit : tie.Need-shared-slice-read-set-bit Inv-loop μ-loop
 shared-slice-read-set-bit c =
-    let p = c .before .before .before .before .before .before .before .before .before .pre .0 in
+    let p = c .before .before .before .before .before .before .before .before .before .before .pre .0 in
     byte-in p (chain-has (p .held) (marks-on (c .before .before .before .loop .inv)) (c .before .before .loop-test .taken))
 
 sub-set-bit : tie.Need-sub-set-bit Inv-loop μ-loop
 sub-set-bit c =
-    let p = c .before .before .before .before .before .before .before .before .before .pre .0 in
+    let p = c .before .before .before .before .before .before .before .before .before .before .pre .0 in
     let m = c .before .before .before .loop .inv in
     let l = c .before .before .loop-test .taken in
     omega (arith, byte-source p (chain-has (p .held) (marks-on m) l) (marks-external m l))
 
 set-bit-requires : tie.Need-set-bit-requires Inv-loop μ-loop
 set-bit-requires c κs =
-    let p = c .before .before .before .before .before .before .before .before .before .pre in
+    let p = c .before .before .before .before .before .before .before .before .before .before .pre in
     let m = c .before .before .before .loop .inv in
     let l = c .before .before .loop-test .taken in
     (m .rest .room, byte-row (p .0) (chain-has (p .0 .held) (marks-on m) l) (marks-external m l), omega (arith, p .3, p .0 .held .few))
 
 prev-op-requires : tie.Need-prev-op-requires Inv-loop μ-loop
 prev-op-requires c κs =
-    let p = c .before .before .before .before .before .before .before .before .before .before .before .before .pre .0 .held in
-    let m = c .before .before .before .before .before .before .loop .inv in
-    chain-has p (marks-on m) (c .before .before .before .before .before .loop-test .taken)
+    let p = c .before .before .before .before .before .before .before .before .before .before .before .before .before .before .pre .0 .held in
+    chain-has p (marks-on (c .before .before .before .before .before .before .before .loop .inv)) (c .before .before .before .before .before .before .loop-test .taken)
 
 next-hit-requires-2 : tie.Need-next-hit-requires-2 Inv-loop μ-loop
 next-hit-requires-2 c κs =
-    let p = c .before .before .before .before .before .before .before .before .before .before .before .before .before .pre in
-    let m = c .before .before .before .before .before .before .before .loop .inv in
-    (p .0, chain-prev (marks-on m) (c .before .before .before .before .before .before .loop-test .taken) (c .prev-op .ensures), p .3)
+    let p = c .before .before .before .before .before .before .before .before .before .before .before .before .before .before .before .pre in
+    let m = c .before .before .before .before .before .before .before .before .loop .inv in
+    let l = c .before .before .before .before .before .before .before .loop-test .taken in
+    (p .0, c .before .before .before .before .set-bit .ensures .room, chain-prev (marks-on m) l (c .prev-op .ensures), p .3)
 
 loop-again : tie.Need-loop-again Inv-loop μ-loop
 unfolding hitBit
 loop-again c =
-    let p = c .before .before .before .before .before .before .before .before .before .before .before .before .before .before .pre .0 in
-    let m = c .before .before .before .before .before .before .before .before .loop .inv in
-    let l = c .before .before .before .before .before .before .before .loop-test .taken in
+    let p = c .before .before .before .before .before .before .before .before .before .before .before .before .before .before .before .before .pre .0 in
+    let m = c .before .before .before .before .before .before .before .before .before .loop .inv in
+    let l = c .before .before .before .before .before .before .before .before .loop-test .taken in
     let e = byte-source p (chain-has (p .held) (marks-on m) l) (marks-external m l) in
-    let b = c .before .before .before .before .set-bit .ensures in
-    marks-next _ _ _ _ m l (cell-on _ _ _ _ _ (m .hit l) (omega (arith, e)) refl b) (c .before .prev-op .ensures) (c .next-hit2 .ensures)
+    let b = c .before .before .before .before .before .set-bit .ensures in
+    marks-next _ _ _ _ m l (cell-on _ _ _ _ _ (marks-fits m l) (omega (arith, e)) refl b) (c .before .prev-op .ensures) (c .next-hit2 .ensures)
 
 returns : tie.Need-returns Inv-loop μ-loop
 returns c = mark-end _ (omega arith) (c .before .loop .inv .rest)
@@ -76,5 +76,5 @@ mark-hits-spec =
     tie.close
     (tie.spec Inv-loop μ-loop (λ c κs. search needs) next-hit-requires loop-holds shared-slice-read-set-bit
     (λ c. omega (arith, c .shared-slice-known3 .given (c .before .before .before .loop .i))) sub-set-bit set-bit-requires prev-op-requires
-    next-hit-requires-2 (λ c. marks-less _ _ _ _ (c .next-hit2 .ensures) (c .before .prev-op .ensures .below)) loop-again
-    (λ c. c .before .loop .inv .rest .room ∙ sym (c .before .before .before .before .before .before .before .pre .1)) returns)
+    next-hit-requires-2 (λ c. marks-less _ _ _ _ _ (c .next-hit2 .ensures) (c .before .prev-op .ensures .below)) loop-again
+    (λ c. c .before .loop .inv .rest .room ∙ sym (c .before .before .before .before .before .before .before .before .pre .1)) returns)

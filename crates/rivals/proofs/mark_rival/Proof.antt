@@ -18,7 +18,8 @@ returns-3 : tie.Need-returns-3
 returns-3 c =
     let c2 = granted (c .before .before .before .before .before .before .is-committed .ensures) (c .before .before .before .before .before .if2 .left) in
     let n = c .before .before .before .before .before .before .before .if1 .left in
-    rival-hits _ _ _ _ _ n c2 (c .before .before .before .seen-from .ensures) (c .before .before .mark-hits .ensures)
+    let p = c .before .before .before .before .before .before .before .before .before .before .before .before .pre .0 in
+    rival-hits _ _ _ _ _ (p .from) (p .to) n c2 (c .before .before .before .seen-from .ensures) (c .before .before .mark-hits .ensures)
 
 pub mark-rival-spec : {M : Type 1} → statement M
 mark-rival-spec =

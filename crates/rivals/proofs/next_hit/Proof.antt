@@ -2,71 +2,72 @@ use mathlib.Core.Path.{_≡_, refl, sym, _∙_}
 use native.Mathlib.Omega.{arith}
 use Rattle.table.specs.Table.{historyOf}
 use Rattle.pairs.proofs.Walk.{chain-has}
-use Rattle.rivals.specs.Rivals.{Tries}
-use Rattle.rivals.proofs.Hits.{tries-next, tries-hit, tries-end, Hunt, hunt-start, hunt-next, hunt-hit, hunt-end}
+use Rattle.rivals.proofs.Hits.{Tries, tries-start, tries-next, tries-hit, tries-end, Hunt, hunt-start, hunt-next, hunt-hit, hunt-end}
 use Rattle.rivals.proofs.next_hit.Statement.{statement}
 use Rattle.rivals.proofs.next_hit.Tie as tie
 
 abbrev Inv-writes : tie.InvT-writes
-Inv-writes h k t2 t3 from j found₀ i w₀ found w = (found ≡ 0) × Tries (historyOf h) t2 i w
+Inv-writes h k v t2 t3 from j found₀ i w₀ found w = (found ≡ 0) × Tries (historyOf h) v t2 i w
 
 abbrev μ-writes : tie.MeasureT-writes
-μ-writes h k t2 t3 from j found₀ i w₀ found w = w
+μ-writes h k v t2 t3 from j found₀ i w₀ found w = w
 
 abbrev Inv-reads : tie.InvT-reads
-Inv-reads h k t2 t3 from j found₀ i₀ found i = (found ≡ 0) × Hunt (historyOf h) t2 t3 from j i
+Inv-reads h k v t2 t3 from j found₀ i₀ found i = (found ≡ 0) × Hunt (historyOf h) v t2 t3 from j i
 
 abbrev μ-reads : tie.MeasureT-reads
-μ-reads h k t2 t3 from j found₀ i₀ found i = i
+μ-reads h k v t2 t3 from j found₀ i₀ found i = i
 
 reads-holds : tie.Need-reads-holds Inv-writes μ-writes Inv-reads μ-reads
-reads-holds c = (refl, hunt-start _ _ _ _ (c .before .before .pre .1))
+reads-holds c = (refl, hunt-start _ _ _ _ _ (c .before .before .before .pre .2))
 
 writes-to-try-requires : tie.Need-writes-to-try-requires Inv-writes μ-writes Inv-reads μ-reads
 writes-to-try-requires c κs =
-    let p = c .before .before .before .before .pre in
-    (p .0, chain-has (p .0 .held) (c .before .reads .inv .1 .on) (omega arith), p .2)
+    let p = c .before .before .before .before .before .pre in
+    (p .0, p .1, chain-has (p .0 .held) (c .before .reads .inv .1 .on) (omega arith), p .3)
 
 writes-holds : tie.Need-writes-holds Inv-writes μ-writes Inv-reads μ-reads
-writes-holds c = (c .before .before .reads .inv .0, c .writes-to-try .ensures)
+writes-holds c =
+    let u = c .before .before .reads .inv in
+    (u .0, tries-start _ _ _ _ (omega arith) (u .1 .on .to) (c .writes-to-try .ensures))
 
 writes-same-key-requires : tie.Need-writes-same-key-requires Inv-writes μ-writes Inv-reads μ-reads
 writes-same-key-requires c κs =
-    let p = c .before .before .before .before .before .before .before .pre .0 .held in
+    let p = c .before .before .before .before .before .before .before .before .pre .0 .held in
     let t = c .before .writes .inv .1 in
     let l = c .writes-test .taken in
     (record { held = p; from = l; to = t .to }, chain-has p (c .before .before .before .before .reads .inv .1 .on) (omega arith), t .stands l)
 
 prev-op-requires : tie.Need-prev-op-requires Inv-writes μ-writes Inv-reads μ-reads
 prev-op-requires c κs =
-    let p = c .before .before .before .before .before .before .before .before .before .pre .0 .held in
+    let p = c .before .before .before .before .before .before .before .before .before .before .pre .0 .held in
     record { held = p; from = c .before .before .writes-test .taken; to = c .before .before .before .writes .inv .1 .to }
 
 writes-again : tie.Need-writes-again Inv-writes μ-writes Inv-reads μ-reads
 writes-again c =
     let w = c .before .before .before .before .writes .inv in
     let e = sym (c .before .before .writes-same-key .ensures) ∙ c .before .if1 .left in
-    (w .0, tries-next _ _ _ (w .1) (c .before .before .before .writes-test .taken) e (c .prev-op .ensures))
+    (w .0, tries-next _ _ _ _ (w .1) (c .before .before .before .writes-test .taken) e (c .prev-op .ensures))
 
 prev-op-requires-2 : tie.Need-prev-op-requires-2 Inv-writes μ-writes Inv-reads μ-reads
 prev-op-requires-2 c κs =
-    chain-has (c .before .before .before .before .before .before .before .pre .0 .held) (c .before .before .before .before .reads .inv .1 .on) (omega arith)
+    chain-has (c .before .before .before .before .before .before .before .before .pre .0 .held) (c .before .before .before .before .reads .inv .1 .on) (omega arith)
 
 reads-again : tie.Need-reads-again Inv-writes μ-writes Inv-reads μ-reads
 reads-again c =
     let w = c .before .before .writes .inv in
-    let e = tries-end _ _ _ (w .1) (c .before .writes-test .left) in
-    (w .0, hunt-next _ _ _ _ (c .before .before .before .before .before .reads .inv .1) (omega arith) e (c .prev-op2 .ensures))
+    let e = tries-end _ _ _ _ (w .1) (c .before .writes-test .left) in
+    (w .0, hunt-next _ _ _ _ _ (c .before .before .before .before .before .reads .inv .1) (omega arith) e (c .prev-op2 .ensures))
 
 returns : tie.Need-returns Inv-writes μ-writes Inv-reads μ-reads
-returns c = c .before .reads .inv .0 ∙ hunt-end _ _ _ _ (c .before .reads .inv .1) (c .reads-test .left)
+returns c = c .before .reads .inv .0 ∙ hunt-end _ _ _ _ _ (c .before .reads .inv .1) (c .reads-test .left)
 
 returns-2 : tie.Need-returns-2 Inv-writes μ-writes Inv-reads μ-reads
 returns-2 c =
     let e = sym (c .before .writes-same-key .ensures) ∙ c .if1 .taken in
-    let f = tries-hit _ _ _ (c .before .before .before .writes .inv .1) (c .before .before .writes-test .taken) e in
+    let f = tries-hit _ _ _ _ (c .before .before .before .writes .inv .1) (c .before .before .writes-test .taken) e in
     let u = c .before .before .before .before .before .before .reads .inv .1 in
-    hunt-hit _ _ _ _ u (omega arith) f (c .before .before .before .before .before .reads-test .taken)
+    hunt-hit _ _ _ _ _ u (omega arith) f (c .before .before .before .before .before .reads-test .taken)
 
 pub next-hit-spec : {M : Type 1} → statement M
 next-hit-spec =

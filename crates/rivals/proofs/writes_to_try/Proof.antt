@@ -1,35 +1,50 @@
+use mathlib.Core.Path.{sym, _∙_}
 use native.Mathlib.Omega.{arith}
 use borrow.Author.Needs.{needs}
-use Rattle.pairs.proofs.Pairs.{byte-in, byte-source, byte-clean, byte-other}
-use Rattle.rivals.proofs.Hits.{tries-other, tries-source, tries-zero, tries-last}
+use Rattle.pairs.proofs.Pairs.{byte-in, byte-clean, byte-row}
+use Rattle.rivals.proofs.Hits.{other-untried, source-untried, settled-untried, tried, from-nowhere, from-read, from-last}
 use Rattle.rivals.proofs.writes_to_try.Statement.{statement}
 use Rattle.rivals.proofs.writes_to_try.Tie as tie
 
 returns : tie.Need-returns
 returns c =
-    let p = c .before .before .before .before .pre in
-    tries-other _ _ _ (byte-other (p .0) (p .1) (c .if1 .taken))
+    let p = c .before .before .before .before .before .pre in
+    sym (from-nowhere _ _ _ _ (other-untried (p .0) (p .2) _ _ (c .if1 .taken)))
 
 returns-2 : tie.Need-returns-2
 returns-2 c =
-    let p = c .before .before .before .before .before .pre in
-    tries-source _ _ _ (omega (arith, byte-source (p .0) (p .1) (byte-clean (p .0) (p .1) (c .before .if1 .left)), c .if2 .taken))
+    let p = c .before .before .before .before .before .before .pre in
+    sym (from-nowhere _ _ _ _ (source-untried (p .0) (p .2) _ _ (c .before .if1 .left) (c .if2 .taken)))
+
+bit-requires : tie.Need-bit-requires
+bit-requires c κs =
+    let p = c .before .before .before .before .before .before .pre in
+    let few = p .0 .held .few in
+    let row = byte-row (p .0) (p .2) (byte-clean (p .0) (p .2) (c .before .if1 .left)) in
+    (p .1, omega (arith, p .3), omega (arith, p .3))
 
 returns-3 : tie.Need-returns-3
 returns-3 c =
-    let p = c .before .before .before .before .before .before .pre in
-    let e = byte-clean (p .0) (p .1) (c .before .before .if1 .left) in
-    tries-zero _ _ _ e (λ q. omega (arith, byte-source (p .0) (p .1) e, c .before .if2 .left)) (c .if3 .taken) (p .1 .from) (p .1 .to)
+    let p = c .before .before .before .before .before .before .before .before .pre in
+    let s = sym (c .before .bit .ensures) ∙ c .if3 .taken in
+    sym (from-nowhere _ _ _ _ (settled-untried (p .0) (p .2) _ _ (c .before .before .before .if1 .left) s))
 
 returns-4 : tie.Need-returns-4
 returns-4 c =
-    let p = c .before .before .before .before .before .before .before .pre in
-    let e = byte-clean (p .0) (p .1) (c .before .before .before .if1 .left) in
-    tries-last _ _ _ e (λ q. omega (arith, byte-source (p .0) (p .1) e, c .before .before .if2 .left)) (c .before .if3 .left) (c .last-op .ensures)
+    let p = c .before .before .before .before .before .before .before .before .before .pre in
+    let s = sym (c .before .before .bit .ensures) ∙ c .before .if3 .left in
+    sym (from-read _ _ _ _ (tried (p .0) (p .2) _ _ (c .before .before .before .before .if1 .left) (c .before .before .before .if2 .left) s) (c .if4 .taken))
+
+returns-5 : tie.Need-returns-5
+returns-5 c =
+    let p = c .before .before .before .before .before .before .before .before .before .before .pre in
+    let s = sym (c .before .before .before .bit .ensures) ∙ c .before .before .if3 .left in
+    let t = tried (p .0) (p .2) _ _ (c .before .before .before .before .before .if1 .left) (c .before .before .before .before .if2 .left) s in
+    c .last-op .ensures .is ∙ sym (from-last _ _ _ _ t (c .before .if4 .left))
 
 pub writes-to-try-spec : {M : Type 1} → statement M
 writes-to-try-spec =
     tie.close
-    (tie.spec (λ c. byte-in (c .before .before .before .pre .0) (c .before .before .before .pre .1))
-    (λ c. omega (arith, c .shared-slice-known3 .given (c .before .before .before .args .i))) returns (λ c. search needs) returns-2 returns-3
-    (λ c κs. search needs) returns-4)
+    (tie.spec (λ c. byte-in (c .before .before .before .before .pre .0) (c .before .before .before .before .pre .2))
+    (λ c. omega (arith, c .shared-slice-known4 .given (c .before .before .before .before .args .i))) returns (λ c. search needs) returns-2 bit-requires
+    returns-3 returns-4 (λ c κs. search needs) returns-5)

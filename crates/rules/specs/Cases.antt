@@ -4,17 +4,9 @@ use mathlib.Core.Path.{_≡_, refl}
 use mathlib.Core.List.{List, [], _∷_, _++_, map, head-eq-of-cons-eq, tail-eq-of-cons-eq}
 use lib.ListN.{length, getD}
 use native.Mathlib.Nat.{not-suc-le-zero, le-of-suc-le-suc}
-use Rattle.base.specs.Base.{_and_, _or_, pick, someOf, firstOf, countOf, listOf, some, first, count, listed, those, last, joined, numbered, nth, firstFit}
-use Rattle.theory.specs.Leads.{via, isListed}
-use Rattle.theory.specs.Order.{mem, misses, ready, isUnplaced, unplaced, next, fill, rest}
-use Rattle.rules.specs.Numbers.{le, over}
-use Rattle.rules.specs.History.{tx, op, committed, isOpen, current, writesValue, writeOf, opened, closed, withOp}
-use Rattle.rules.specs.Records.{eventOf, eventAt, breaks, isUnknown, isMisfit, frameRows}
-use Rattle.rules.specs.Reading.{misplaced, unlawful, excess, repeats, stepRows, entered, isEnd, textAt, refusalNo, after, finished, walk, reading}
-use Rattle.rules.specs.Reads.{writesAt, wroteBetween, originOf, sourceOf, kindBy, kindOf, isJudged, isFinding, isExternal, readsFrom}
-use Rattle.rules.specs.Levels.{isStart, isSession, isRead, basic, leads, writesKey, sees, settles, isRival, forced, reasons}
-use Rattle.rules.specs.Outcome.{Outcome, findings, findingBytes, pairsOf, pairs, pairBytes, order, findingList, pairList, isEmpty, isAccepted, acceptance, rejection, judgedRead, isLevel, judged}
+use Rattle.rules.specs.Outcome.{Outcome, judged}
 use Rattle.rules.specs.Traces.{whole, block, T, r, w, read, pair, room, refusesIn, acceptsIn, rejectsIn}
+use Rattle.rules.specs.Edges.{as-they-should}
 
 -- a trace and its outcomes at levels 1, 2 and 3, with buffers of 16 bytes
 pub record Case : Type 0 where
@@ -89,7 +81,7 @@ found c =
     (judged (c .bytes) 3 (room 16) (room 16) (room 16))
 
 pub as-the-document-says : map found table ≡ table
-unfolding le over tx op committed isOpen current writesValue writeOf opened closed withOp eventOf eventAt breaks isUnknown isMisfit frameRows misplaced unlawful excess repeats stepRows entered isEnd textAt refusalNo after finished walk reading writesAt wroteBetween originOf sourceOf kindBy kindOf isJudged isFinding isExternal readsFrom isStart isSession isRead basic leads writesKey sees settles isRival forced reasons findings findingBytes pairsOf pairs pairBytes order findingList pairList isEmpty isAccepted acceptance rejection judgedRead isLevel judged via isListed mem misses ready isUnplaced unplaced next fill rest _and_ _or_ pick someOf firstOf countOf listOf some first count listed those last joined numbered nth firstFit
+unfolding as-they-should
 as-the-document-says = refl
 
 -- a list that a function leaves as it is: so it leaves each member

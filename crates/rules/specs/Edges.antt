@@ -144,8 +144,9 @@ table =
 abbrev pub found : Edge → Edge
 found c = edge (c .bytes) (c .level) (c .f) (c .p) (c .o) (judged (c .bytes) (c .level) (room (c .f)) (room (c .p)) (room (c .o)))
 
-pub as-they-should : map found table ≡ table
-unfolding le over tx op committed isOpen current writesValue writeOf opened closed withOp eventOf eventAt breaks isUnknown isMisfit frameRows misplaced unlawful excess repeats stepRows entered isEnd textAt refusalNo after finished walk reading writesAt wroteBetween originOf sourceOf kindBy kindOf isJudged isFinding isExternal readsFrom isStart isSession isRead basic leads writesKey sees settles isRival forced reasons findings findingBytes pairsOf pairs pairBytes order findingList pairList isEmpty isAccepted acceptance rejection judgedRead isLevel judged via isListed mem misses ready isUnplaced unplaced next fill rest _and_ _or_ pick someOf firstOf countOf listOf some first count listed those last joined numbered nth firstFit
+-- The line names all that an outcome or a note is computed with. To unfold this statement is to unfold them: the other statements, here and in Cases, do so
+unfoldable pub as-they-should : map found table ≡ table
+unfolding le over tx op committed isOpen current writesValue writeOf opened closed withOp eventOf eventAt breaks isUnknown isMisfit frameRows misplaced unlawful excess repeats stepRows entered isEnd textAt refusalNo after finished walk reading writesAt wroteBetween originOf sourceOf kindBy kindOf isJudged isFinding isExternal readsFrom isStart isSession isRead basic leads writesKey sees settles isRival forced reasons findings findingBytes pairsOf pairs pairBytes order findingList pairList isEmpty isAccepted acceptance rejection judgedRead isLevel judged via isListed mem misses ready isUnplaced unplaced next fill rest _and_ _or_ pick someOf firstOf countOf listOf some first count listed those last joined numbered nth firstFit isNote notedRead noted
 as-they-should = refl
 
 -- ── notes ──
@@ -174,7 +175,7 @@ abbrev pub notesAnswered : Asked → Asked
 notesAnswered c = asked (c .bytes) (c .k) (noted (c .bytes) (c .k))
 
 pub notes-as-they-should : map notesAnswered notes ≡ notes
-unfolding le over tx op committed isOpen current writesValue writeOf opened closed withOp eventOf eventAt breaks isUnknown isMisfit frameRows misplaced unlawful excess repeats stepRows entered isEnd textAt refusalNo after finished walk reading writesAt wroteBetween originOf sourceOf kindBy kindOf isJudged isFinding isExternal readsFrom isStart isSession isRead basic leads writesKey sees settles isRival forced reasons findings findingBytes pairsOf pairs pairBytes order findingList pairList isEmpty isAccepted acceptance rejection judgedRead isLevel judged via isListed mem misses ready isUnplaced unplaced next fill rest _and_ _or_ pick someOf firstOf countOf listOf some first count listed those last joined numbered nth firstFit isNote notedRead noted
+unfolding as-they-should
 notes-as-they-should = refl
 
 -- ── the limits: 127 transactions and 1,024 operations, in states that have come so far ──
@@ -218,13 +219,13 @@ limits =
     ∷ limit (openState 1024) (r 1 5000) 9
     -- 8, then 9; 9, then 10; 10 alone
     ∷ limit (openState 1024) (w 1 0) 8
-    ∷ limit (openState 1024) (w 1 7) 9
-    ∷ limit (openState 1023) (w 1 7) 10
+    ∷ limit (openState 1024) (w 1 1024) 9
+    ∷ limit (openState 1023) (w 1 1023) 10
     ∷ []
 
 abbrev pub tested : Limit → Limit
 tested c = limit (c .state) (c .item) (refusalNo (trace 0 (c .item ∷ [])) (c .state))
 
 pub limits-as-they-should : map tested limits ≡ limits
-unfolding le over tx op committed isOpen current writesValue writeOf opened closed withOp eventOf eventAt breaks isUnknown isMisfit frameRows misplaced unlawful excess repeats stepRows entered isEnd textAt refusalNo after finished walk reading writesAt wroteBetween originOf sourceOf kindBy kindOf isJudged isFinding isExternal readsFrom isStart isSession isRead basic leads writesKey sees settles isRival forced reasons findings findingBytes pairsOf pairs pairBytes order findingList pairList isEmpty isAccepted acceptance rejection judgedRead isLevel judged via isListed mem misses ready isUnplaced unplaced next fill rest _and_ _or_ pick someOf firstOf countOf listOf some first count listed those last joined numbered nth firstFit
+unfolding as-they-should
 limits-as-they-should = refl

@@ -7,5 +7,5 @@ pub mod Levels
 pub mod Outcome
 pub mod Notes
 pub mod Traces
-pub mod Cases
 pub mod Edges
+pub mod Cases

@@ -3,7 +3,7 @@ use Prim.Native.Nat.{ℕ, _+_, _%_, _^_}
 use mathlib.Core.Bool.{Bool, not}
 use mathlib.Core.List.{List, [], _∷_}
 use lib.ListN.{length, getD}
-use lib.Dec.{ltb, leb, eqb}
+use lib.Dec.{ltb, eqb}
 use Rattle.base.specs.Base.{_and_, _or_, pick, Row, row}
 use Rattle.rules.specs.Numbers.{le, part}
 use Rattle.rules.specs.declared.Event.{Event}

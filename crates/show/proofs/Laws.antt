@@ -1,17 +1,13 @@
--- Laws of putting a text into a buffer, and of the text's definitions.
-use Prim.Native.Nat.{ℕ, zero, suc, _+_, _/_, _%_, _≤_, _<_}
+-- Laws of putting a text into a buffer.
+use Prim.Native.Nat.{ℕ, suc, _+_, _≤_, _<_}
 use mathlib.Core.Path.{_≡_, refl, ap, sym, _∙_}
 use mathlib.Core.List.{List, [], _∷_, _++_}
-use mathlib.Core.Logic.{⊎-elim}
 use native.Mathlib.Omega.{arith}
 use native.Mathlib.Numerals.{add-one}
 use lib.ListN.{length, getD, set, take, drop, length-append, length-set}
 use lib.Seq.{drop-cons, drop-length, take-nil, set-out, set-append-seam, append-snoc}
-use borrow.Author.Tests.{lt-ltb, le-ltb, ne-eqb}
-use Rattle.base.specs.Base.{pick}
-use Rattle.base.proofs.Tests.{split}
 use Rattle.rules.specs.Numbers.{over}
-use Rattle.text.specs.Lines.{text, decimalBy, decimal, field, fields, levelWord}
+use Rattle.text.specs.Lines.{text, field, fields}
 use Rattle.show.specs.Laid.{laid, Put, Short}
 
 -- ── what is laid ──
@@ -53,13 +49,13 @@ pub put-length : {o b : List ℕ} {at n : ℕ} {xs : List ℕ} → Put o at b n 
 put-length {o} {at = at} {xs = xs} x = rw (x .is) (laid-length o at xs)
 
 -- one byte, within the buffer or past its end
-pub put-in : (o : List ℕ) (at x : ℕ) → Put o at (set o at x) (at + 1) (x ∷ [])
+pub byte-in : (o : List ℕ) (at x : ℕ) → Put o at (set o at x) (at + 1) (x ∷ [])
 unfolding laid
-put-in o at x = record { end = refl; is = refl }
+byte-in o at x = record { end = refl; is = refl }
 
-pub put-past : (o : List ℕ) (at x : ℕ) → length o ≤ at → Put o at o (at + 1) (x ∷ [])
+pub byte-past : (o : List ℕ) (at x : ℕ) → length o ≤ at → Put o at o (at + 1) (x ∷ [])
 unfolding laid
-put-past o at x h = record { end = refl; is = sym (set-out o at x h) }
+byte-past o at x h = record { end = refl; is = sym (set-out o at x h) }
 
 -- a text in two parts: a bound for both is one for the first, and then for the second
 pub first-short : (xs ys : List ℕ) {at : ℕ} → Short at (xs ++ ys) → Short at xs
@@ -110,7 +106,7 @@ module _ {o : List ℕ} {at : ℕ} {xs : List ℕ} {b : List ℕ} {to : ℕ} {le
   unfolding laid
   putting-end e = putting-last (record { end = omega (arith, ap length e); is = rw e })
 
--- ── words ──
+-- ── what is left of a word, and of a line's numbers ──
 
 -- the bytes from i on
 pub word-step : (l : List ℕ) (i : ℕ) → i < length l → drop i l ≡ (getD l i 0 ∷ []) ++ drop (i + 1) l
@@ -118,30 +114,6 @@ word-step l i h = rw (add-one i) (drop-cons l i 0 h)
 
 pub word-end : (l : List ℕ) {i : ℕ} → i ≤ length l → length l ≤ i → drop i l ≡ []
 word-end l {i} h g = let e : i ≡ length l = omega arith in rw e (drop-length l)
-
--- ── numbers ──
-
--- more digits than n has change nothing
-enough : (f g n : ℕ) → n ≤ f → n ≤ g → decimalBy f n ≡ decimalBy g n
-unfolding decimalBy pick
-enough zero zero n a b = refl
-enough zero (suc g) n a b = let z : n ≡ 0 = omega arith in rw (lt-ltb n 10 (omega arith), z)
-enough (suc f) zero n a b = let z : n ≡ 0 = omega arith in rw (lt-ltb n 10 (omega arith), z)
-enough (suc f) (suc g) n a b =
-    ⊎-elim (λ l. rw (lt-ltb n 10 l)) (λ m. rw (le-ltb n 10 m, enough f g (n / 10) (omega arith) (omega arith))) (split n 10)
-
--- one digit, or those of a tenth and the last
-pub decimal-one : (n : ℕ) → n < 10 → decimal n ≡ (48 + n) ∷ []
-unfolding decimal decimalBy pick
-decimal-one zero l = refl
-decimal-one (suc n) l = rw (lt-ltb (suc n) 10 l)
-
-pub decimal-more : (n : ℕ) → 10 ≤ n → decimal n ≡ decimal (n / 10) ++ ((48 + n % 10) ∷ [])
-unfolding decimal decimalBy pick
-decimal-more zero m = absurd (omega arith)
-decimal-more (suc n) m = rw (le-ltb (suc n) 10 m, enough n (suc n / 10) (suc n / 10) (omega arith) (omega arith))
-
--- ── fields ──
 
 -- those of the numbers from i on
 pub fields-step : (l : List ℕ) (i : ℕ) → i < length l → fields (drop i l) ≡ field (getD l i 0) ++ fields (drop (i + 1) l)
@@ -151,17 +123,3 @@ fields-step l i h = ap fields (word-step l i h)
 pub fields-end : (l : List ℕ) {i : ℕ} → i ≤ length l → length l ≤ i → fields (drop i l) ≡ text "\n"
 unfolding fields
 fields-end l h g = ap fields (word-end l h g)
-
--- ── levels ──
-
-pub level-1 : (l : ℕ) → l ≡ 1 → levelWord l ≡ text "rc"
-unfolding levelWord pick
-level-1 l e = rw e
-
-pub level-2 : (l : ℕ) → l ≡ 2 → levelWord l ≡ text "ra"
-unfolding levelWord pick
-level-2 l e = rw e
-
-pub level-3 : (l : ℕ) → (l ≡ 1 → ⊥) → (l ≡ 2 → ⊥) → levelWord l ≡ text "tcc"
-unfolding levelWord pick
-level-3 l a b = rw (ne-eqb l 1 a, ne-eqb l 2 b)

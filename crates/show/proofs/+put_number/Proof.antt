@@ -1,7 +1,8 @@
 use Prim.Native.Nat.{ℕ, _<_}
 use native.Mathlib.Omega.{arith}
 use borrow.Author.Needs.{needs}
-use Rattle.show.proofs.Laws.{decimal-one, decimal-more, first-short, then-short, put-then}
+use Rattle.text.proofs.Lines.{decimal-one, decimal-more}
+use Rattle.show.proofs.Laws.{first-short, then-short, put-then}
 use borrow.Fn.Kinds.{In}
 use borrow.Fn.PlainCycle.{Measures, is, falls, and}
 use Rattle.show.proofs.put_number.Reads as reads

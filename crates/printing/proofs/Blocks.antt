@@ -4,15 +4,13 @@ use mathlib.Core.Path.{_≡_, refl, ap, sym, _∙_}
 use mathlib.Core.Bool.{Bool, true, false}
 use mathlib.Core.List.{List, _++_}
 use native.Mathlib.Omega.{arith}
-use lib.ListN.{length, take, drop, replicate, length-replicate}
+use lib.ListN.{length, take, drop}
 use lib.Seq.{take-at}
 use Rattle.base.specs.Base.{joined}
 use Rattle.base.proofs.Tests.{clash, ifso, pick-on, pick-off}
 use Rattle.rules.specs.Numbers.{over}
 use Rattle.rules.specs.Reading.{Reading, refused, read, reading}
-use Rattle.rules.specs.Outcome.{findingList, pairList, order, outcome, reported, judged}
-use Rattle.rules.specs.declared.Answer.{Answer}
-use Rattle.rules.specs.declared.Answer.the-variants.{Refused, Rejected, Accepted}
+use Rattle.rules.specs.Outcome.{findingList, pairList, order}
 use Rattle.text.specs.Lines.{refusedLine, rejectedLine, acceptedLine}
 use Rattle.text.specs.Answer.{blockText, readingText, answerText}
 use Rattle.show.specs.Laid.{Put, Short}
@@ -21,7 +19,7 @@ use Rattle.printing.specs.declared.Block.{Block}
 use Rattle.printing.specs.Printing.{Written, blockOf, isRefused, BlockPut, rejectedText}
 use Rattle.printing.proofs.Short.{answer-short}
 use Rattle.printing.proofs.Entries.{over-most, findings-long, findings-lines, pairs-long, pairs-lines}
-use Rattle.printing.proofs.Judged.{AcceptedBy, RejectedBy, says-refused, says-accepted, says-rejected}
+use Rattle.printing.proofs.Judged.{newFindings, newPairs, newOrder, AcceptedBy, RejectedBy}
 
 -- ── one block ──
 
@@ -34,47 +32,31 @@ pub block-refused : {q : Reading} {level n p : ℕ} → q ≡ refused n p → Bl
 unfolding blockOf isRefused
 block-refused e = rw e (record { text = refl; told = refl })
 
-module _ {q : Reading} {level n : ℕ} {os O : List ℕ} (x : AcceptedBy q level os n O) where
+module _ {q : Reading} {level n : ℕ} {O : List ℕ} (x : AcceptedBy q level n O) where
   pub order-there : n ≤ length O
-  order-there = rw (x .shown) (omega (arith, x .long, over-most (order (x .history) level) os))
+  order-there = rw (x .shown) (omega (arith, x .long, over-most (order (x .history) level) newOrder))
 
   -- the order stands at the front
   front : take n O ≡ order (x .history) level
   unfolding over
-  front = rw (x .shown, x .long) (take-at (order (x .history) level) (drop (length (order (x .history) level)) os) _ refl)
+  front = rw (x .shown, x .long) (take-at (order (x .history) level) (drop (length (order (x .history) level)) newOrder) _ refl)
 
   pub block-accepted : BlockIs q level (acceptedLine level (take n O)) false
   unfolding blockOf isRefused blockText
   block-accepted = rw (x .reads, front) (record { text = pick-on _ _ _ (x .accepted); told = refl })
 
-module _ {q : Reading} {level n m : ℕ} {fs ps F P : List ℕ} (x : RejectedBy q level fs ps n m F P) where
+module _ {q : Reading} {level n m : ℕ} {F P : List ℕ} (x : RejectedBy q level n m F P) where
   pub findings-there : 4 * n ≤ length F
-  findings-there = rw (x .findings) (omega (arith, x .found, findings-long (x .history) fs, over-most (findingList (x .history)) fs))
+  findings-there = rw (x .findings) (omega (arith, x .found, findings-long (x .history) newFindings, over-most (findingList (x .history)) newFindings))
 
   pub pairs-there : 4 * m ≤ length P
-  pairs-there = rw (x .pairs) (omega (arith, x .listed, pairs-long (x .history) ps level, over-most (pairList (x .history) level) ps))
+  pairs-there = rw (x .pairs) (omega (arith, x .listed, pairs-long (x .history) newPairs level, over-most (pairList (x .history) level) newPairs))
 
   pub block-rejected : BlockIs q level (rejectedText level n m F P) false
   unfolding blockOf isRefused blockText rejectedText
   block-rejected =
-      rw (x .reads, x .findings, x .pairs, x .found, x .listed, findings-lines (x .history) fs, pairs-lines (x .history) ps level)
+      rw (x .reads, x .findings, x .pairs, x .found, x .listed, findings-lines (x .history) newFindings, pairs-lines (x .history) newPairs level)
       (record { text = pick-off _ _ _ (x .rejected); told = refl })
-
--- a new buffer of n bytes
-pub blank : (n : ℕ) → length {A = ℕ} (replicate n 0) ≡ n
-blank n = length-replicate {A = ℕ} n 0
-
--- the judge's answer r, with buffers that are long enough
-module _ (s : List ℕ) (level : ℕ) (fs ps os : List ℕ) {r : Answer} {F P O : List ℕ} (e : outcome (reported r) F P O ≡ judged s level fs ps os)
-    (low : 1 ≤ level) (high : level ≤ 3) (f : length fs ≡ 4096) (p : length ps ≡ 65536) (o : length os ≡ 128) where
-  pub refused-arm : {n at : ℕ} → r ≡ Refused n at → BlockIs (reading s) level (refusedLine n at) true
-  refused-arm {n} {at} a = block-refused (says-refused s level fs ps os low high f p o n at (rw a at e))
-
-  pub accepted-arm : {n : ℕ} → r ≡ Accepted n → AcceptedBy (reading s) level os n O
-  accepted-arm {n} a = says-accepted s level fs ps os low high f p o n (rw a at e)
-
-  pub rejected-arm : {n m : ℕ} → r ≡ Rejected n m → RejectedBy (reading s) level fs ps n m F P
-  rejected-arm {n} {m} a = says-rejected s level fs ps os low high f p o n m (rw a at e)
 
 pub block-short : {q : Reading} {level : ℕ} {t : List ℕ} {b : Bool} → BlockIs q level t b → {at : ℕ} → Short at (blockOf q level) → Short at t
 block-short x h = rw (x .text) at h

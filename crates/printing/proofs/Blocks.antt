@@ -1,23 +1,22 @@
 -- The blocks: what each answer of the judge prints, and how they make the whole text.
-use Prim.Native.Nat.{ℕ, _+_, _*_, _≤_}
-use mathlib.Core.Path.{_≡_, refl, ap, sym, _∙_}
+use Prim.Native.Nat.{ℕ, _*_, _≤_}
+use mathlib.Core.Path.{_≡_, refl, sym, _∙_}
 use mathlib.Core.Bool.{Bool, true, false}
 use mathlib.Core.List.{List, _++_}
 use native.Mathlib.Omega.{arith}
 use lib.ListN.{length, take, drop}
 use lib.Seq.{take-at}
-use Rattle.base.specs.Base.{joined}
 use Rattle.base.proofs.Tests.{clash, ifso, pick-on, pick-off}
 use Rattle.rules.specs.Numbers.{over}
 use Rattle.rules.specs.Reading.{Reading, refused, read, reading}
 use Rattle.rules.specs.Outcome.{findingList, pairList, order}
-use Rattle.text.specs.Lines.{refusedLine, rejectedLine, acceptedLine}
+use Rattle.text.specs.Lines.{refusedLine, acceptedLine}
 use Rattle.text.specs.Answer.{blockText, readingText, answerText}
 use Rattle.show.specs.Laid.{Put, Short}
 use Rattle.show.proofs.Laws.{laid-over, first-short, then-short, put-then}
 use Rattle.printing.specs.declared.Block.{Block}
 use Rattle.printing.specs.Printing.{Written, blockOf, isRefused, BlockPut, rejectedText}
-use Rattle.printing.proofs.Short.{answer-short}
+use Rattle.printing.proofs.Lengths.{answer-short}
 use Rattle.printing.proofs.Entries.{over-most, findings-long, findings-lines, pairs-long, pairs-lines}
 use Rattle.printing.proofs.Judged.{newFindings, newPairs, newOrder, AcceptedBy, RejectedBy}
 
@@ -58,8 +57,8 @@ module _ {q : Reading} {level n m : ℕ} {F P : List ℕ} (x : RejectedBy q leve
       rw (x .reads, x .findings, x .pairs, x .found, x .listed, findings-lines (x .history) newFindings, pairs-lines (x .history) newPairs level)
       (record { text = pick-off _ _ _ (x .rejected); told = refl })
 
-pub block-short : {q : Reading} {level : ℕ} {t : List ℕ} {b : Bool} → BlockIs q level t b → {at : ℕ} → Short at (blockOf q level) → Short at t
-block-short x h = rw (x .text) at h
+pub block-fits : {q : Reading} {level : ℕ} {t : List ℕ} {b : Bool} → BlockIs q level t b → {at : ℕ} → Short at (blockOf q level) → Short at t
+block-fits x h = rw (x .text) at h
 
 pub block-put : (s : List ℕ) {level : ℕ} {t : List ℕ} {b : Bool} → BlockIs (reading s) level t b → {o c : List ℕ} {at : ℕ} {r : Block} → Put o at c (r .end) t
     → r .refused ≡ b → BlockPut s level o at c r

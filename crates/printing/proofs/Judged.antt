@@ -1,5 +1,5 @@
 -- What the judge's answer says of the reading, with buffers of 4,096, 65,536 and 128 bytes: it never comes to 12, 13 or 14.
-use Prim.Native.Nat.{ℕ, _*_, _≤_}
+use Prim.Native.Nat.{ℕ, _≤_}
 use mathlib.Core.Path.{_≡_, refl, ap, sym}
 use mathlib.Core.Bool.{true, false}
 use mathlib.Core.List.{List, []}
@@ -13,7 +13,7 @@ use Rattle.rules.specs.Outcome.{findings, findingList, pairs, pairList, order, 
 use Rattle.rules.specs.declared.Answer.{Answer}
 use Rattle.rules.specs.declared.Answer.the-variants.{Refused, Rejected, Accepted}
 use Rattle.demand1.proofs.Judged.{judged-level, judged-refused, judged-accepted, judged-rejected, acceptance-fits, rejection-fits}
-use Rattle.printing.proofs.Short.{lawful-reading, findings-few, pairs-few, order-few}
+use Rattle.printing.proofs.Lengths.{lawful-reading, findings-few, pairs-few, order-few}
 use Rattle.printing.proofs.Entries.{findings-long, pairs-long}
 
 -- the new buffers

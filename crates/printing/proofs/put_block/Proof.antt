@@ -1,7 +1,7 @@
 use mathlib.Core.Path.{refl, sym}
 use lib.Seq.{length-take-le}
 use Rattle.printing.proofs.Judged.{says-refused, says-accepted, says-rejected}
-use Rattle.printing.proofs.Blocks.{block-refused, block-accepted, block-rejected, order-there, findings-there, pairs-there, block-short, block-put}
+use Rattle.printing.proofs.Blocks.{block-refused, block-accepted, block-rejected, order-there, findings-there, pairs-there, block-fits, block-put}
 use borrow.Author.Needs.{needs}
 use Rattle.printing.proofs.put_block.Statement.{statement}
 use Rattle.printing.proofs.put_block.Tie as tie
@@ -9,13 +9,13 @@ use Rattle.printing.proofs.put_block.Tie as tie
 put-refused-requires : tie.Need-put-refused-requires
 put-refused-requires c κs =
     let p = c .before .before .before .before .before .before .before .before .before .before .before .before .before .pre in
-    block-short (block-refused (says-refused _ _ (p .0) (p .1) (c .before .before .answer .given .1) (c .before .before .before .before .before .before .before .judge .ensures))) (p .2)
+    block-fits (block-refused (says-refused _ _ (p .0) (p .1) (c .before .before .answer .given .1) (c .before .before .before .before .before .before .before .judge .ensures))) (p .2)
 
 put-rejected-requires : tie.Need-put-rejected-requires
 put-rejected-requires c κs =
     let p = c .before .before .before .before .before .before .before .before .before .before .before .before .before .before .before .pre in
     let x = says-rejected _ _ (p .0) (p .1) (c .before .before .before .before .answer2 .given .1) (c .before .before .before .before .before .before .before .before .before .judge .ensures) in
-    (findings-there x, pairs-there x, block-short (block-rejected x) (p .2))
+    (findings-there x, pairs-there x, block-fits (block-rejected x) (p .2))
 
 array-share-prefix-order : tie.Need-array-share-prefix-order
 array-share-prefix-order c =
@@ -30,7 +30,7 @@ slice-aggregate-put-accepted c =
 put-accepted-requires : tie.Need-put-accepted-requires
 put-accepted-requires c κs =
     let p = c .before .before .before .before .before .before .before .before .before .before .before .before .before .before .pre in
-    block-short (block-accepted (says-accepted _ _ (p .0) (p .1) (c .before .before .before .answer3 .given .1) (c .before .before .before .before .before .before .before .before .judge .ensures))) (p .2)
+    block-fits (block-accepted (says-accepted _ _ (p .0) (p .1) (c .before .before .before .answer3 .given .1) (c .before .before .before .before .before .before .before .before .judge .ensures))) (p .2)
 
 returns : tie.Need-returns
 returns c =

@@ -1,7 +1,6 @@
 use mathlib.Core.Logic.{⊎-elim}
 use lib.ListN.{length-set}
 use borrow.Author.Needs.{needs}
-use native.Mathlib.Omega.{arith}
 use Rattle.show.proofs.Laws.{byte-in, byte-past}
 use Rattle.show.proofs.put_byte.Statement.{statement}
 use Rattle.show.proofs.put_byte.Tie as tie

@@ -1,4 +1,4 @@
-use Prim.Native.Nat.{_+_, _-_, _≤_}
+use Prim.Native.Nat.{_-_, _≤_}
 use lib.ListN.{length, drop}
 use Rattle.show.proofs.Laws.{Putting, putting-start, putting-length, putting-short, putting-more, putting-end, word-step, word-end}
 use borrow.Author.Needs.{needs}

@@ -1,11 +1,11 @@
 -- How long the lists of a history that was read can be, and the text.
-use Prim.Native.Nat.{ℕ, suc, _+_, _-_, _*_, _^_, _≤_, _<_}
-use mathlib.Core.Path.{_≡_, refl, ap, sym, _∙_}
+use Prim.Native.Nat.{ℕ, suc, _+_, _-_, _*_, _≤_, _<_}
+use mathlib.Core.Path.{_≡_, refl, ap, _∙_}
 use mathlib.Core.Bool.{Bool, true, false}
 use mathlib.Core.List.{List, [], _∷_, _++_}
 use native.Mathlib.Omega.{arith}
 use native.Mathlib.Nat.{mul-suc}
-use lib.ListN.{length, getD, length-append}
+use lib.ListN.{length, length-append}
 use Rattle.base.specs.Base.{pick, Row, row, firstFit, count, listed, those, joined}
 use Rattle.base.proofs.Tests.{ifso, pick-on, pick-off}
 use Rattle.base.proofs.Searches.{downward, count-hit, count-miss, count-end, listed-step, listed-end, joined-one, joined-none, joined-listed, joined-those}
@@ -20,7 +20,7 @@ use Rattle.demand1.specs.Lawful.{LawfulHistory}
 use Rattle.demand1.specs.Rows.{Check, numberOf, lengthField, lengthLow, bytesThere, serialFollows, kindKnown, lengthFits, inPlace, valueLawful, withinLimit, newWrite, Refuses, too-long, at-record, bytes-behind}
 use Rattle.demand1.proofs.Lawful.{lawful-history}
 use Rattle.demand1.proofs.Readings.{reached-within, refuses-iff, reads-iff}
-use Rattle.text.specs.Lines.{refusedLine, rejectedLine, acceptedLine}
+use Rattle.text.specs.Lines.{rejectedLine, acceptedLine}
 use Rattle.text.specs.Answer.{findingText, pairText, blockText, readingText, answerText}
 use Rattle.text.proofs.Lines.{refused-length, rejected-length, accepted-length, read-length, pair-length}
 

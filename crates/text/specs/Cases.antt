@@ -3,7 +3,7 @@
 use Prim.Native.Nat.{ℕ}
 use Prim.Native.String.{String}
 use mathlib.Core.Path.{_≡_, refl}
-use mathlib.Core.List.{List, [], _∷_, map}
+use mathlib.Core.List.{List, [], _∷_, _++_, map}
 use lib.ListN.{getD}
 use Rattle.base.specs.Base.{_and_, _or_, pick, someOf, firstOf, countOf, listOf, some, first, count, listed, those, last, joined, numbered, nth, firstFit}
 use Rattle.theory.specs.Leads.{via, isListed}
@@ -15,6 +15,7 @@ use Rattle.rules.specs.Reading.{misplaced, unlawful, excess, repeats, stepRows,
 use Rattle.rules.specs.Reads.{writesAt, wroteBetween, originOf, sourceOf, kindBy, kindOf, isJudged, isFinding, isExternal, readsFrom}
 use Rattle.rules.specs.Levels.{isStart, isSession, isRead, basic, leads, writesKey, sees, settles, isRival, forced, reasons}
 use Rattle.rules.specs.Outcome.{findings, pairsOf, pairs, order, isEmpty, isAccepted}
+use Rattle.rules.specs.Traces.{whole, T, r, w}
 use Rattle.rules.specs.Cases.{table}
 use Rattle.text.specs.Lines.{text, decimalBy, decimal, field, fields, line, levelWord, refusedLine, rejectedLine, acceptedLine, readLine, pairLine}
 use Rattle.text.specs.Answer.{findingText, pairText, blockText, readingText, answerText}
@@ -24,44 +25,50 @@ pub record Printed : Type 0 where
   pub bytes : List ℕ
   pub printed : List ℕ
 
--- the trace of the case of that number, and what it is to print
-abbrev prints : ℕ → String → Printed
-prints k s = record { bytes = getD ([] ∷ map (λ c. c .bytes) table) k []; printed = text s }
+abbrev prints : List ℕ → String → Printed
+prints b s = record { bytes = b; printed = text s }
+
+-- the trace of the case of that number
+abbrev P : ℕ → List ℕ
+P k = getD ([] ∷ map (λ c. c .bytes) table) k []
 
 abbrev pub textTable : List Printed
 textTable =
     -- end only
-    prints 1 "rc accepted 0\nra accepted 0\ntcc accepted 0\n"
+    prints (P 1) "rc accepted 0\nra accepted 0\ntcc accepted 0\n"
     -- no bytes
-    ∷ prints 2 "refused 3 0\n"
+    ∷ prints (P 2) "refused 3 0\n"
     -- T1 r1=5
-    ∷ prints 3 "rc rejected 1 0\nread 1 1 1\nra rejected 1 0\nread 1 1 1\ntcc rejected 1 0\nread 1 1 1\n"
+    ∷ prints (P 3) "rc rejected 1 0\nread 1 1 1\nra rejected 1 0\nread 1 1 1\ntcc rejected 1 0\nread 1 1 1\n"
     -- T1 r1=0
-    ∷ prints 4 "rc accepted 0 1\nra accepted 0 1\ntcc accepted 0 1\n"
+    ∷ prints (P 4) "rc accepted 0 1\nra accepted 0 1\ntcc accepted 0 1\n"
     -- T1 w1=5 aborted; T2 r1=5
-    ∷ prints 5 "rc rejected 1 0\nread 2 2 2\nra rejected 1 0\nread 2 2 2\ntcc rejected 1 0\nread 2 2 2\n"
+    ∷ prints (P 5) "rc rejected 1 0\nread 2 2 2\nra rejected 1 0\nread 2 2 2\ntcc rejected 1 0\nread 2 2 2\n"
     -- T1 r1=5 w1=5
-    ∷ prints 6 "rc rejected 1 0\nread 1 1 3\nra rejected 1 0\nread 1 1 3\ntcc rejected 1 0\nread 1 1 3\n"
+    ∷ prints (P 6) "rc rejected 1 0\nread 1 1 3\nra rejected 1 0\nread 1 1 3\ntcc rejected 1 0\nread 1 1 3\n"
     -- T1 w1=5 w1=6 r1=5
-    ∷ prints 7 "rc rejected 1 0\nread 1 3 4\nra rejected 1 0\nread 1 3 4\ntcc rejected 1 0\nread 1 3 4\n"
+    ∷ prints (P 7) "rc rejected 1 0\nread 1 3 4\nra rejected 1 0\nread 1 3 4\ntcc rejected 1 0\nread 1 3 4\n"
     -- T1 w1=5; T2 w1=6 r1=5
-    ∷ prints 8 "rc rejected 1 0\nread 2 3 5\nra rejected 1 0\nread 2 3 5\ntcc rejected 1 0\nread 2 3 5\n"
+    ∷ prints (P 8) "rc rejected 1 0\nread 2 3 5\nra rejected 1 0\nread 2 3 5\ntcc rejected 1 0\nread 2 3 5\n"
     -- T1 w1=5 w1=6; T2 r1=5
-    ∷ prints 9 "rc rejected 1 0\nread 2 3 6\nra rejected 1 0\nread 2 3 6\ntcc rejected 1 0\nread 2 3 6\n"
+    ∷ prints (P 9) "rc rejected 1 0\nread 2 3 6\nra rejected 1 0\nread 2 3 6\ntcc rejected 1 0\nread 2 3 6\n"
     -- T1 w1=5; T2 w1=6; T3 r1=5 r1=6
-    ∷ prints 10 "rc accepted 0 1 2 3\nra rejected 0 2\npair 1 2 8\npair 2 1 8\ntcc rejected 0 2\npair 1 2 8\npair 2 1 8\n"
+    ∷ prints (P 10) "rc accepted 0 1 2 3\nra rejected 0 2\npair 1 2 8\npair 2 1 8\ntcc rejected 0 2\npair 1 2 8\npair 2 1 8\n"
     -- as P10, T3 reads 5, 6, 5
-    ∷ prints 11 "rc rejected 0 2\npair 1 2 8\npair 2 1 8\nra rejected 0 2\npair 1 2 8\npair 2 1 8\ntcc rejected 0 2\npair 1 2 8\npair 2 1 8\n"
+    ∷ prints (P 11) "rc rejected 0 2\npair 1 2 8\npair 2 1 8\nra rejected 0 2\npair 1 2 8\npair 2 1 8\ntcc rejected 0 2\npair 1 2 8\npair 2 1 8\n"
     -- T1 w1=5; T2 r1=5 w2=7; T3 r2=7 r1=0
-    ∷ prints 12 "rc accepted 0 1 2 3\nra accepted 0 1 2 3\ntcc rejected 0 2\npair 0 1 9\npair 1 0 8\n"
+    ∷ prints (P 12) "rc accepted 0 1 2 3\nra accepted 0 1 2 3\ntcc rejected 0 2\npair 0 1 9\npair 1 0 8\n"
     -- T1 r2=7 w1=5; T2 r1=5 w2=7
-    ∷ prints 13 "rc rejected 0 2\npair 1 2 4\npair 2 1 4\nra rejected 0 2\npair 1 2 4\npair 2 1 4\ntcc rejected 0 2\npair 1 2 4\npair 2 1 4\n"
+    ∷ prints (P 13) "rc rejected 0 2\npair 1 2 4\npair 2 1 4\nra rejected 0 2\npair 1 2 4\npair 2 1 4\ntcc rejected 0 2\npair 1 2 4\npair 2 1 4\n"
     -- one session: T1 w1=5; T2 r1=0
-    ∷ prints 14 "rc accepted 0 1 2\nra rejected 0 2\npair 0 1 1\npair 1 0 8\ntcc rejected 0 2\npair 0 1 1\npair 1 0 8\n"
+    ∷ prints (P 14) "rc accepted 0 1 2\nra rejected 0 2\npair 0 1 1\npair 1 0 8\ntcc rejected 0 2\npair 0 1 1\npair 1 0 8\n"
     -- T1 r1=0 w1=5; T2 r1=0 w1=6
-    ∷ prints 15 "rc accepted 0 1 2\nra accepted 0 1 2\ntcc accepted 0 1 2\n"
+    ∷ prints (P 15) "rc accepted 0 1 2\nra accepted 0 1 2\ntcc accepted 0 1 2\n"
     -- T1 w1=11 w2=21; T2 w1=12 w2=22; T3 r1=12 r2=21: the seven lines
-    ∷ prints 16 "rc accepted 0 2 1 3\nra rejected 0 2\npair 1 2 8\npair 2 1 8\ntcc rejected 0 2\npair 1 2 8\npair 2 1 8\n"
+    ∷ prints (P 16) "rc accepted 0 2 1 3\nra rejected 0 2\npair 1 2 8\npair 2 1 8\ntcc rejected 0 2\npair 1 2 8\npair 2 1 8\n"
+    -- both lists in one block: T1 r2=7 w1=5; T2 r1=5 w2=7 r3=9
+    ∷ prints (whole 2 (T 1 (r 2 7 ∷ w 1 5 ∷ []) ++ T 2 (r 1 5 ∷ w 2 7 ∷ r 3 9 ∷ [])))
+    "rc rejected 1 2\nread 2 5 1\npair 1 2 4\npair 2 1 4\nra rejected 1 2\nread 2 5 1\npair 1 2 4\npair 2 1 4\ntcc rejected 1 2\nread 2 5 1\npair 1 2 4\npair 2 1 4\n"
     ∷ []
 
 -- what a trace prints

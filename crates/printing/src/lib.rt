@@ -1,7 +1,78 @@
-// Judges a trace and prints its answer on standard output: what the programs share.
-ghost use Prim.Native.Nat.{_+_, _*_, _≤_};
-ghost use lib.ListN.{length};
+// Judges a trace at the three levels and puts the text of its answer into a lent buffer: what the programs share.
+ghost use mathlib.Core.Path.{_≡_};
+ghost use Prim.Native.Nat.{_+_, _*_, _≤_, _<_};
+ghost use lib.ListN.{length, getD};
+ghost use Rattle.rules.specs.Reading.{reading};
+ghost use Rattle.show.specs.Laid.{Put, Short};
+ghost use Rattle.printing.specs.Printing.{Written, blockOf, BlockPut, entryLine, listText, rejectedText};
+ghost use Rattle.printing.specs.declared.Lines.the-variants.{Reads, Pairs};
 use rules::Answer;
+
+// The text of a trace's answer, as far as the buffer reaches. Answers how long it is.
+pub fn put_answer(trace: &[u8], out: &mut [u8]) -> usize
+    ensures { λ r. ⌜ Written (now (trace .entry)) (now (out .entry)) (now (out .exit)) r ⌝ }
+{
+    let first = put_block(trace, 1, out, 0);
+    if first.refused {
+        return first.end;
+    }
+    let second = put_block(trace, 2, out, first.end);
+    let third = put_block(trace, 3, out, second.end);
+    third.end
+}
+
+// ── a block ──
+
+// Where a block's text ends, and whether it is that of a refusal.
+struct Block {
+    end: usize,
+    refused: bool,
+}
+
+// Judges at one level and puts its block.
+fn put_block(trace: &[u8], level: u8, out: &mut [u8], at: usize) -> Block
+    requires { ⌜ (1 ≤ level) × (level ≤ 3) × Short at (blockOf (reading (now trace)) level) ⌝ }
+    ensures { λ r. ⌜ BlockPut (now (trace .entry)) level (now (out .entry)) at (now (out .exit)) r ⌝ }
+{
+    // Enough for 1,024 findings, for every pair of 128 transactions, and for an order of them.
+    let mut findings = [0u8; 4096];
+    let mut pairs = [0u8; 65536];
+    let mut order = [0u8; 128];
+    let answer = judging::judge(trace, level, &mut findings, &mut pairs, &mut order);
+    match answer {
+        Answer::Refused(no, place) => Block {
+            end: show::put_refused(out, at, no as usize, place),
+            refused: true,
+        },
+        Answer::Rejected(reads, listed) => Block {
+            end: put_rejected(level, reads, listed, &findings, &pairs, out, at),
+            refused: false,
+        },
+        Answer::Accepted(n) => Block {
+            end: show::put_accepted(out, at, level, &order[..n]),
+            refused: false,
+        },
+    }
+}
+
+fn put_rejected(
+    level: u8,
+    reads: usize,
+    listed: usize,
+    findings: &[u8],
+    pairs: &[u8],
+    out: &mut [u8],
+    at: usize,
+) -> usize
+    requires { ⌜ (4 * reads ≤ length (now findings)) × (4 * listed ≤ length (now pairs)) × Short at (rejectedText level reads listed (now findings) (now pairs)) ⌝ }
+    ensures { λ r. ⌜ Put (now (out .entry)) at (now (out .exit)) r (rejectedText level reads listed (now (findings .entry)) (now (pairs .entry))) ⌝ }
+{
+    let to = show::put_rejected(out, at, level, reads, listed);
+    let to = put_entries(Lines::Reads, findings, reads, out, to);
+    put_entries(Lines::Pairs, pairs, listed, out, to)
+}
+
+// ── lists ──
 
 // What a list's entries are printed as.
 enum Lines {
@@ -9,118 +80,57 @@ enum Lines {
     Pairs,
 }
 
-// Judges a trace at the three levels and prints a block for each; of a refused trace only its refusal.
-pub fn print_answer(trace: &[u8]) {
-    if print_level(trace, 1) {
-        if print_level(trace, 2) {
-            print_level(trace, 3);
-        }
-    }
-}
-
-// Judges at one level and prints its block. False where the trace was refused.
-fn print_level(trace: &[u8], level: u8) -> bool {
-    // Enough for 1,024 findings, for every pair of 128 transactions, and for an order of them.
-    let mut findings = [0u8; 4096];
-    let mut pairs = [0u8; 65536];
-    let mut order = [0u8; 128];
-    let answer = judging::judge(trace, level, &mut findings, &mut pairs, &mut order);
-    match answer {
-        Answer::Refused(no, place) => {
-            print_refused(level, no, place);
-            false
-        }
-        Answer::Rejected(reads, listed) => {
-            print_rejected(level, reads, listed, &findings, &pairs);
-            true
-        }
-        Answer::Accepted(n) => {
-            print_accepted(level, n, &order);
-            true
-        }
-    }
-}
-
-// "A refused trace prints only `refused NO PLACE`": the buffers are long enough, so level 1 refuses if any does. Behind another level's block
-// nothing is printed.
-fn print_refused(level: u8, no: u8, place: usize) {
-    if level == 1 {
-        print_refusal(no, place);
-    }
-}
-
-// A refusal's number and place.
-pub fn print_refusal(no: u8, place: usize) {
-    let mut out = [0u8; 64];
-    let end = show::put_refused(&mut out, 0, no as usize, place);
-    write(&out, end);
-}
-
-fn print_accepted(level: u8, n: usize, order: &[u8])
-    requires { ⌜ length (now order) ≤ 128 ⌝ }
+// The lines of the first n entries of a list.
+fn put_entries(lines: Lines, list: &[u8], n: usize, out: &mut [u8], at: usize) -> usize
+    requires { ⌜ (4 * n ≤ length (now list)) × Short at (listText lines (now list) n) ⌝ }
+    ensures { λ r. ⌜ Put (now (out .entry)) at (now (out .exit)) r (listText lines (now (list .entry)) n) ⌝ }
 {
-    let placed = least(n, order.len());
-    let mut out = [0u8; 1024];
-    let end = show::put_accepted(&mut out, 0, level, &order[..placed]);
-    write(&out, end);
-}
-
-fn print_rejected(level: u8, reads: usize, listed: usize, findings: &[u8], pairs: &[u8]) {
-    let mut out = [0u8; 4096];
-    let end = show::put_rejected(&mut out, 0, level, reads, listed);
-    let end = print_list(Lines::Reads, reads, findings, &mut out, end);
-    let end = print_list(Lines::Pairs, listed, pairs, &mut out, end);
-    write(&out, end);
-}
-
-// The lines of the first `count` entries of a list, after the `at` bytes of `out` that are still to be written. Answers how many bytes are
-// then still to be written.
-fn print_list(lines: Lines, count: usize, list: &[u8], out: &mut [u8], at: usize) -> usize
-    requires { ⌜ (at ≤ length (now out)) × (64 ≤ length (now out)) ⌝ }
-    ensures { λ r. ⌜ r ≤ length (now (out .entry)) ⌝ }
-{
-    let n = least(count, list.len() / 4);
-    let mut end = at;
+    let mut to = at;
     let mut i = 0;
     while i < n {
-        let to = flushed(out, end);
-        end = put_entry(lines, list, i, out, to);
+        to = put_entry(lines, list, i, out, to);
         i += 1;
     }
-    end
+    to
 }
 
 // The line of a list's entry i.
 fn put_entry(lines: Lines, list: &[u8], i: usize, out: &mut [u8], at: usize) -> usize
-    requires { ⌜ (4 * i + 4 ≤ length (now list)) × (at + 64 ≤ length (now out)) ⌝ }
-    ensures { λ r. ⌜ r ≤ length (now (out .entry)) ⌝ }
+    requires { ⌜ (4 * i + 4 ≤ length (now list)) × Short at (entryLine lines (now list) i) ⌝ }
+    ensures { λ r. ⌜ Put (now (out .entry)) at (now (out .exit)) r (entryLine lines (now (list .entry)) i) ⌝ }
 {
     match lines {
-        Lines::Reads => show::put_finding(out, at, list, i),
-        Lines::Pairs => show::put_listed(out, at, list, i),
+        Lines::Reads => put_finding(list, i, out, at),
+        Lines::Pairs => put_listed(list, i, out, at),
     }
 }
 
-// Writes the `at` bytes of `out` where a line of 64 bytes might not fit behind them. Answers how many are still to be written.
-fn flushed(out: &[u8], at: usize) -> usize
-    requires { ⌜ (at ≤ length (now out)) × (64 ≤ length (now out)) ⌝ }
-    ensures { λ r. ⌜ r + 64 ≤ length (now (out .entry)) ⌝ }
+// `read T OP KIND`
+fn put_finding(findings: &[u8], i: usize, out: &mut [u8], at: usize) -> usize
+    requires { ⌜ (4 * i + 4 ≤ length (now findings)) × Short at (entryLine Reads (now findings) i) ⌝ }
+    ensures { λ r. ⌜ Put (now (out .entry)) at (now (out .exit)) r (entryLine Reads (now (findings .entry)) i) ⌝ }
 {
-    if at <= out.len() - 64 {
-        return at;
-    }
-    write(out, at);
-    0
+    let t = number_at(findings, 4 * i);
+    let kind = number_at(findings, 4 * i + 1);
+    let op = number_at(findings, 4 * i + 2) + 256 * number_at(findings, 4 * i + 3);
+    show::put_read(out, at, t, op, kind)
 }
 
-fn write(out: &[u8], end: usize)
-    requires { ⌜ end ≤ length (now out) ⌝ }
+// `pair A B REASONS`
+fn put_listed(pairs: &[u8], i: usize, out: &mut [u8], at: usize) -> usize
+    requires { ⌜ (4 * i + 4 ≤ length (now pairs)) × Short at (entryLine Pairs (now pairs) i) ⌝ }
+    ensures { λ r. ⌜ Put (now (out .entry)) at (now (out .exit)) r (entryLine Pairs (now (pairs .entry)) i) ⌝ }
 {
-    io::write_all(1, &out[..end]);
+    let a = number_at(pairs, 4 * i);
+    let b = number_at(pairs, 4 * i + 1);
+    let reasons = number_at(pairs, 4 * i + 2);
+    show::put_pair(out, at, a, b, reasons)
 }
 
-fn least(a: usize, b: usize) -> usize
-    ensures { λ r. ⌜ (r ≤ a) × (r ≤ b) ⌝ }
+// A list's byte as a number.
+fn number_at(list: &[u8], i: usize) -> usize
+    requires { ⌜ i < length (now list) ⌝ }
+    ensures { λ r. ⌜ (r ≡ getD (now (list .entry)) i 0) × (r < 256) ⌝ }
 {
-    if a < b { a } else { b }
+    list[i] as usize
 }

@@ -1,154 +1,125 @@
--- Laws of the text's definitions.
-use Prim.Native.Nat.{ℕ, zero, suc, _+_, _*_, _/_, _%_, _^_, _≤_, _<_}
+-- Laws of putting a text into a buffer.
+use Prim.Native.Nat.{ℕ, suc, _+_, _≤_, _<_}
 use mathlib.Core.Path.{_≡_, refl, ap, sym, _∙_}
-use mathlib.Core.List.{List, [], _∷_, _++_, append-assoc}
-use mathlib.Core.Logic.{⊎-elim}
+use mathlib.Core.List.{List, [], _∷_, _++_}
 use native.Mathlib.Omega.{arith}
-use native.Mathlib.Nat.{pow-suc}
 use native.Mathlib.Numerals.{add-one}
-use lib.ListN.{length, getD, drop, length-append}
-use lib.Seq.{drop-cons}
-use borrow.Author.Tests.{lt-ltb, le-ltb, ne-eqb}
-use Rattle.base.specs.Base.{pick, listed, joined}
-use Rattle.base.proofs.Tests.{split}
-use Rattle.base.proofs.Fill.{Appended, appended-length, appended-then}
-use Rattle.base.proofs.Searches.{downward, listed-step, listed-end}
-use Rattle.show.specs.Text.{text, decimalBy, decimal, field, fields, line, levelWord}
+use lib.ListN.{length, getD, set, take, drop, length-append, length-set}
+use lib.Seq.{drop-cons, drop-length, take-nil, set-out, set-append-seam, append-snoc}
+use Rattle.rules.specs.Numbers.{over}
+use Rattle.text.specs.Lines.{text, field, fields}
+use Rattle.show.specs.Laid.{laid, Put, Short}
 
--- more digits than n has change nothing
-enough : (f g n : ℕ) → n ≤ f → n ≤ g → decimalBy f n ≡ decimalBy g n
-unfolding decimalBy pick
-enough zero zero n a b = refl
-enough zero (suc g) n a b = let z : n ≡ 0 = omega arith in rw (lt-ltb n 10 (omega arith), z)
-enough (suc f) zero n a b = let z : n ≡ 0 = omega arith in rw (lt-ltb n 10 (omega arith), z)
-enough (suc f) (suc g) n a b =
-    ⊎-elim (λ l. rw (lt-ltb n 10 l)) (λ m. rw (le-ltb n 10 m, enough f g (n / 10) (omega arith) (omega arith))) (split n 10)
+-- ── what is laid ──
 
--- one digit, or those of a tenth and the last
-pub decimal-one : (n : ℕ) → n < 10 → decimal n ≡ (48 + n) ∷ []
-unfolding decimal decimalBy pick
-decimal-one zero l = refl
-decimal-one (suc n) l = rw (lt-ltb (suc n) 10 l)
+-- a text in two parts
+pub laid-append : (o : List ℕ) (at : ℕ) (xs ys : List ℕ) → laid o at (xs ++ ys) ≡ laid (laid o at xs) (at + length xs) ys
+unfolding laid
+laid-append o at [] ys = let e : at + 0 ≡ at = omega arith in rw e
+laid-append o at (x ∷ xs) ys =
+    let e : at + 1 + length xs ≡ at + suc (length xs) = omega arith in laid-append (set o at x) (at + 1) xs ys ∙ rw e
 
-pub decimal-more : (n : ℕ) → 10 ≤ n → decimal n ≡ decimal (n / 10) ++ ((48 + n % 10) ∷ [])
-unfolding decimal decimalBy pick
-decimal-more zero m = absurd (omega arith)
-decimal-more (suc n) m = rw (le-ltb (suc n) 10 m, enough n (suc n / 10) (suc n / 10) (omega arith) (omega arith))
+pub laid-length : (o : List ℕ) (at : ℕ) (xs : List ℕ) → length (laid o at xs) ≡ length o
+unfolding laid
+laid-length o at [] = refl
+laid-length o at (x ∷ xs) = laid-length (set o at x) (at + 1) xs ∙ length-set o at x
 
--- n below 10 ^ (k + 1) has at most k + 1 digits
-pub decimal-length : (k n : ℕ) → n < 10 ^ suc k → length (decimal n) ≤ suc k
-decimal-length zero n l = rw (decimal-one n (omega arith)) (omega arith)
-decimal-length (suc k) n l =
-    ⊎-elim (λ h. rw (decimal-one n h) (omega arith))
-    (λ h.
-    let e : 10 ^ suc (suc k) ≡ 10 ^ suc k * 10 = pow-suc 10 (suc k) in
-    let t : n / 10 < 10 ^ suc k = omega arith in
-    rw (decimal-more n h) (simp length-append (omega (arith, decimal-length k (n / 10) t))))
-    (split n 10)
+-- past the end nothing changes
+laid-past : (o : List ℕ) (at : ℕ) (xs : List ℕ) → length o ≤ at → laid o at xs ≡ o
+unfolding laid
+laid-past o at [] h = refl
+laid-past o at (x ∷ xs) h = rw (set-out o at x h) (laid-past o (at + 1) xs (omega arith))
 
-drop-past : (l : List ℕ) (j : ℕ) → length l ≤ j → drop j l ≡ []
-drop-past [] zero h = refl
-drop-past [] (suc j) h = refl
-drop-past (x ∷ l) zero h = absurd (omega arith)
-drop-past (x ∷ l) (suc j) h = drop-past l j (omega arith)
+-- at the front: what fits is written over it. Said of the part behind p
+behind-front : (p o xs : List ℕ) → laid (p ++ o) (length p) xs ≡ p ++ over (take (length o) xs) o
+unfolding laid over
+behind-front p o [] = rw (take-nil {A = ℕ} (length o))
+behind-front p [] (x ∷ xs) = laid-past (p ++ []) (length p) (x ∷ xs) (omega (arith, length-append p []))
+behind-front p (y ∷ o) (x ∷ xs) =
+    let n : length p + 1 ≡ length (p ++ (x ∷ [])) = sym (length-append p (x ∷ [])) in
+    rw (set-append-seam p y o x, ← append-snoc p x o, n)
+    (behind-front (p ++ (x ∷ [])) o xs ∙ append-snoc p x (over (take (length o) xs) o))
 
--- what f gives for the entries of a list, one by one
-unfoldable pub entry : (ℕ → List ℕ) → List ℕ → ℕ → List ℕ
-entry f l i = f (getD l i 0)
+pub laid-over : (o xs : List ℕ) → laid o 0 xs ≡ over (take (length o) xs) o
+laid-over = behind-front []
 
-entries-from : (f : ℕ → List ℕ) (l : List ℕ) (j : ℕ) → listed j (length l) (entry f l) ≡ joined f (drop j l)
-unfolding entry joined
-entries-from f l =
-    downward (λ j. listed j (length l) (entry f l) ≡ joined f (drop j l)) (length l)
-    (λ j h. listed-end (entry f l) j (length l) h ∙ ap (joined f) (sym (drop-past l j h)))
-    (λ j h ih. listed-step (entry f l) j (length l) h ∙ rw (ih, add-one j) (ap (joined f) (sym (drop-cons l j 0 h))))
+-- ── what is put ──
 
-entries : (f : ℕ → List ℕ) (l : List ℕ) → listed 0 (length l) (entry f l) ≡ joined f l
-entries f l = entries-from f l 0
+pub put-length : {o b : List ℕ} {at n : ℕ} {xs : List ℕ} → Put o at b n xs → length b ≡ length o
+put-length {o} {at = at} {xs = xs} x = rw (x .is) (laid-length o at xs)
 
--- a list is its bytes; what follows a word is the fields and the line's end
-unfoldable pub single : ℕ → List ℕ
-single x = x ∷ []
+-- one byte, within the buffer or past its end
+pub byte-in : (o : List ℕ) (at x : ℕ) → Put o at (set o at x) (at + 1) (x ∷ [])
+unfolding laid
+byte-in o at x = record { end = refl; is = refl }
 
-pub bytes : (l : List ℕ) → listed 0 (length l) (entry single l) ≡ l
-unfolding joined single
-bytes l = entries single l ∙ each l
-  where
-    each : (l : List ℕ) → joined single l ≡ l
-    each [] = refl
-    each (x ∷ l) = rw (each l)
+pub byte-past : (o : List ℕ) (at x : ℕ) → length o ≤ at → Put o at o (at + 1) (x ∷ [])
+unfolding laid
+byte-past o at x h = record { end = refl; is = sym (set-out o at x h) }
 
-listed-fields : (l : List ℕ) → fields l ≡ listed 0 (length l) (entry field l) ++ text "\n"
-unfolding joined fields
-listed-fields l = each l ∙ rw (entries field l)
-  where
-    each : (l : List ℕ) → fields l ≡ joined field l ++ text "\n"
-    each [] = refl
-    each (x ∷ l) = rw (each l) (sym (append-assoc (field x) (joined field l) (text "\n")))
+-- a text in two parts: a bound for both is one for the first, and then for the second
+pub first-short : (xs ys : List ℕ) {at : ℕ} → Short at (xs ++ ys) → Short at xs
+first-short xs ys h = record { bound = omega (arith, h .bound, length-append xs ys) }
 
-module _ (l : List ℕ) where
-  pub list-room : (at k : ℕ) → at + length (fields l) ≤ k → at + length (listed 0 (length l) (entry field l)) < k
-  list-room at k h = omega (arith, ap length (listed-fields l), length-append (listed 0 (length l) (entry field l)) (text "\n"))
+module _ {o b : List ℕ} {at n : ℕ} {xs : List ℕ} (x : Put o at b n xs) where
+  pub then-short : {ys : List ℕ} → Short at (xs ++ ys) → Short n ys
+  then-short {ys} h = record { bound = omega (arith, h .bound, x .end, length-append xs ys) }
 
-  pub list-end : {o b d : List ℕ} {at to r : ℕ} → Appended o at b to (listed 0 (length l) (entry field l)) → Appended b to d r (text "\n")
-      → Appended o at d r (fields l)
-  list-end x y = rw (listed-fields l) (appended-then x y)
+  pub put-then : {c : List ℕ} {m : ℕ} {ys : List ℕ} → Put b n c m ys → Put o at c m (xs ++ ys)
+  put-then {c} {m} {ys} y =
+      record {
+        end = omega (arith, x .end, y .end, length-append xs ys);
+        is = y .is ∙ rw (x .is, x .end) (sym (laid-append o at xs ys));
+      }
 
--- what a number's last digit adds to what is put of a tenth of it
-module _ {o b : List ℕ} {at to : ℕ} (n : ℕ) (m : 10 ≤ n) (x : Appended o at b to (decimal (n / 10))) where
-  pub digit-room : at + length (decimal n) ≤ length o → to < length b
-  digit-room h =
-      let l = rw (decimal-more n m) at h in
-      omega (arith, x .end, appended-length x, simp length-append at l)
+-- ── a loop that puts xs into o and has made b of it: what is left to put, from `to` on, makes the whole ──
 
-  pub digits-then : {d : List ℕ} {r : ℕ} → Appended b to d r ((48 + n % 10) ∷ []) → Appended o at d r (decimal n)
-  digits-then y = rw (decimal-more n m) (appended-then x y)
+pub record Putting (o : List ℕ) (at : ℕ) (xs : List ℕ) (b : List ℕ) (to : ℕ) (left : List ℕ) : Type 0 where
+  pub end : to + length left ≡ at + length xs
+  pub is : laid b to left ≡ laid o at xs
 
--- a tenth of it needs less room
-pub tenth-room : (n at k : ℕ) → 10 ≤ n → at + length (decimal n) ≤ k → at + length (decimal (n / 10)) ≤ k
-tenth-room n at k m h = let l = rw (decimal-more n m) at h in omega (arith, simp length-append at l)
+pub putting-start : (o : List ℕ) (at : ℕ) (xs : List ℕ) → Putting o at xs o at xs
+putting-start o at xs = record { end = refl; is = refl }
 
-pub one-room : (n at k : ℕ) → n < 10 → at + length (decimal n) ≤ k → at < k
-one-room n at k m h = let l = rw (decimal-one n m) at h in omega arith
+module _ {o : List ℕ} {at : ℕ} {xs : List ℕ} {b : List ℕ} {to : ℕ} {left : List ℕ} (p : Putting o at xs b to left) where
+  pub putting-length : length b ≡ length o
+  putting-length = sym (laid-length b to left) ∙ ap length (p .is) ∙ laid-length o at xs
 
--- ── a text in two parts: room for both is room for the first, and then for the second ──
+  -- the next part
+  module _ (ys zs : List ℕ) (e : left ≡ ys ++ zs) where
+    pub putting-short : Short at xs → Short to ys
+    putting-short h = record { bound = omega (arith, h .bound, p .end, ap length e, length-append ys zs) }
 
-pub first-room : (xs ys : List ℕ) (at k : ℕ) → at + length (xs ++ ys) ≤ k → at + length xs ≤ k
-first-room xs ys at k h = omega (arith, length-append xs ys)
+    pub putting-more : {c : List ℕ} {n : ℕ} → Put b to c n ys → Putting o at xs c n zs
+    putting-more {c} {n} y =
+        record {
+          end = omega (arith, p .end, y .end, ap length e, length-append ys zs);
+          is = rw (y .is, y .end) (sym (laid-append b to ys zs) ∙ ap (laid b to) (sym e) ∙ p .is);
+        }
 
-pub then-room : {o b : List ℕ} {at to : ℕ} {xs : List ℕ} (ys : List ℕ) → Appended o at b to xs → at + length (xs ++ ys) ≤ length o
-    → to + length ys ≤ length b
-then-room {xs = xs} ys x h = omega (arith, x .end, appended-length x, length-append xs ys)
+  -- the last part
+  pub putting-last : {c : List ℕ} {n : ℕ} → Put b to c n left → Put o at c n xs
+  putting-last y = record { end = y .end ∙ p .end; is = y .is ∙ p .is }
 
-module _ (n : ℕ) (ns : List ℕ) where
-  pub field-room : (at k : ℕ) → at + length (fields (n ∷ ns)) ≤ k → at + length (field n) ≤ k
-  unfolding fields
-  field-room = first-room (field n) (fields ns)
+  -- no part is left
+  pub putting-end : left ≡ [] → Put o at b to xs
+  unfolding laid
+  putting-end e = putting-last (record { end = omega (arith, ap length e); is = rw e })
 
-  pub fields-room : {o b : List ℕ} {at to : ℕ} → Appended o at b to (field n) → at + length (fields (n ∷ ns)) ≤ length o
-      → to + length (fields ns) ≤ length b
-  unfolding fields
-  fields-room = then-room (fields ns)
+-- ── what is left of a word, and of a line's numbers ──
 
-module _ (w ns : List ℕ) where
-  pub word-room : (at k : ℕ) → at + length (line w ns) ≤ k → at + length w ≤ k
-  unfolding line
-  word-room = first-room w (fields ns)
+-- the bytes from i on
+pub word-step : (l : List ℕ) (i : ℕ) → i < length l → drop i l ≡ (getD l i 0 ∷ []) ++ drop (i + 1) l
+word-step l i h = rw (add-one i) (drop-cons l i 0 h)
 
-  pub line-room : {o b : List ℕ} {at to : ℕ} → Appended o at b to w → at + length (line w ns) ≤ length o → to + length (fields ns) ≤ length b
-  unfolding line
-  line-room = then-room (fields ns)
+pub word-end : (l : List ℕ) {i : ℕ} → i ≤ length l → length l ≤ i → drop i l ≡ []
+word-end l {i} h g = let e : i ≡ length l = omega arith in rw e (drop-length l)
 
--- ── levels ──
+-- those of the numbers from i on
+pub fields-step : (l : List ℕ) (i : ℕ) → i < length l → fields (drop i l) ≡ field (getD l i 0) ++ fields (drop (i + 1) l)
+unfolding fields
+fields-step l i h = ap fields (word-step l i h)
 
-pub level-1 : (l : ℕ) → l ≡ 1 → levelWord l ≡ text "rc"
-unfolding levelWord pick
-level-1 l e = rw e
-
-pub level-2 : (l : ℕ) → l ≡ 2 → levelWord l ≡ text "ra"
-unfolding levelWord pick
-level-2 l e = rw e
-
-pub level-3 : (l : ℕ) → (l ≡ 1 → ⊥) → (l ≡ 2 → ⊥) → levelWord l ≡ text "tcc"
-unfolding levelWord pick
-level-3 l a b = rw (ne-eqb l 1 a, ne-eqb l 2 b)
+pub fields-end : (l : List ℕ) {i : ℕ} → i ≤ length l → length l ≤ i → fields (drop i l) ≡ text "\n"
+unfolding fields
+fields-end l h g = ap fields (word-end l h g)

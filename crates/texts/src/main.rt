@@ -22,7 +22,7 @@ fn print_text(trace: &[u8], k: usize) -> bool {
     let answer = notes::note_answer(trace, k);
     match answer {
         NoteAnswer::Refused(no, place) => {
-            printing::print_refusal(no, place);
+            print_refusal(no, place);
             false
         }
         NoteAnswer::Text(_, _) => {
@@ -31,4 +31,11 @@ fn print_text(trace: &[u8], k: usize) -> bool {
             io::write_all(1, &end)
         }
     }
+}
+
+// `refused NO PLACE`: two numbers of at most 20 digits.
+fn print_refusal(no: u8, place: usize) {
+    let mut out = [0u8; 64];
+    let end = show::put_refused(&mut out, 0, no as usize, place);
+    io::write_all(1, &out[..end]);
 }

@@ -1,18 +1,22 @@
 use borrow.Author.Needs.{needs}
-use native.Mathlib.Omega.{arith}
-use Rattle.show.proofs.Room.{finding-short, listed-short}
 use Rattle.printing.proofs.put_entry.Statement.{statement}
 use Rattle.printing.proofs.put_entry.Tie as tie
 
 put-finding-requires : tie.Need-put-finding-requires
 put-finding-requires c κs =
-    let a = c .before .before .before .before .before .args in
-    (omega arith, omega (arith, finding-short (a .list .now) (λ i. omega (arith, c .before .before .before .before .shared-slice-known .given i)) (a .i)))
+    (c .before .before .before .before .before .pre .0, rw (c .before .enum-told .given .1) at (c .before .before .before .before .before .pre .1))
 
 put-listed-requires : tie.Need-put-listed-requires
 put-listed-requires c κs =
-    let a = c .before .before .before .before .before .args in
-    (omega arith, omega (arith, listed-short (a .list .now) (λ i. omega (arith, c .before .before .before .before .shared-slice-known .given i)) (a .i)))
+    (c .before .before .before .before .before .pre .0, rw (c .before .enum-told2 .given .1) at (c .before .before .before .before .before .pre .1))
+
+returns : tie.Need-returns
+returns c =
+    rw (c .before .before .before .before .enum-told .given .1) (c .before .before .put-finding .ensures)
+
+returns-2 : tie.Need-returns-2
+returns-2 c =
+    rw (c .before .before .before .before .enum-told2 .given .1) (c .before .before .put-listed .ensures)
 
 pub put-entry-spec : {M : Type 1} → statement M
-put-entry-spec = tie.close (tie.spec (λ c. search needs) put-finding-requires (λ c. search needs) put-listed-requires (λ c. search needs) (λ c. search needs) (λ c. search needs) (λ c. search needs))
+put-entry-spec = tie.close (tie.spec (λ c. search needs) put-finding-requires (λ c. search needs) put-listed-requires (λ c. search needs) returns (λ c. search needs) returns-2)

@@ -1,5 +1,5 @@
 use borrow.Author.Needs.{needs}
-use Rattle.show.proofs.Laws.{level-1, level-2, level-3}
+use Rattle.text.proofs.Lines.{level-1, level-2, level-3}
 use Rattle.show.proofs.put_level.Statement.{statement}
 use Rattle.show.proofs.put_level.Tie as tie
 

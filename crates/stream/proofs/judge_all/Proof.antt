@@ -4,11 +4,11 @@ use Rattle.stream.proofs.judge_all.Tie as tie
 
 -- nothing has to hold from turn to turn
 abbrev Inv-loop : tie.InvT-loop
-Inv-loop turns₀ turns = Unit {0}
+Inv-loop text₀ turns₀ text turns = Unit {0}
 
 -- the turns that are left
 abbrev μ-loop : tie.MeasureT-loop
-μ-loop turns₀ turns = turns
+μ-loop text₀ turns₀ text turns = turns
 
 pub judge-all-spec : {M : Type 1} → statement M
 judge-all-spec = tie.close (tie.spec Inv-loop μ-loop (λ c. tt) (λ c κs. tt) (λ c. omega arith) (λ c. omega arith) (λ c. tt) (λ c. tt) (λ c. tt))

@@ -1,0 +1,194 @@
+-- How long the lists of a history that was read can be, and the text.
+use Prim.Native.Nat.{ℕ, suc, _+_, _-_, _*_, _≤_, _<_}
+use mathlib.Core.Path.{_≡_, refl, ap, _∙_}
+use mathlib.Core.Bool.{Bool, true, false}
+use mathlib.Core.List.{List, [], _∷_, _++_}
+use native.Mathlib.Omega.{arith}
+use native.Mathlib.Nat.{mul-suc}
+use lib.ListN.{length, length-append}
+use Rattle.base.specs.Base.{pick, Row, row, firstFit, count, listed, those, joined}
+use Rattle.base.proofs.Tests.{ifso, pick-on, pick-off}
+use Rattle.base.proofs.Searches.{downward, count-hit, count-miss, count-end, listed-step, listed-end, joined-one, joined-none, joined-listed, joined-those}
+use Rattle.theory.specs.Leads.{isListed}
+use Rattle.theory.proofs.Order.{unplaced-all, rest-bound, rest-below}
+use Rattle.rules.specs.History.{History, op, opCount, size, committed}
+use Rattle.rules.specs.Reading.{Reading, refused, read, reading, Stretch}
+use Rattle.rules.specs.Reads.{kindBy, kindOf, isFinding}
+use Rattle.rules.specs.Levels.{isStart, isSession, isRead, isRival, forced, reasons}
+use Rattle.rules.specs.Outcome.{Pair, findings, pairsOf, pairs, order, isAccepted}
+use Rattle.demand1.specs.Lawful.{LawfulHistory}
+use Rattle.demand1.specs.Rows.{Check, numberOf, lengthField, lengthLow, bytesThere, serialFollows, kindKnown, lengthFits, inPlace, valueLawful, withinLimit, newWrite, Refuses, too-long, at-record, bytes-behind}
+use Rattle.demand1.proofs.Lawful.{lawful-history}
+use Rattle.demand1.proofs.Readings.{reached-within, refuses-iff, reads-iff}
+use Rattle.text.specs.Lines.{rejectedLine, acceptedLine}
+use Rattle.text.specs.Answer.{findingText, pairText, blockText, readingText, answerText}
+use Rattle.text.proofs.Lines.{refused-length, rejected-length, accepted-length, read-length, pair-length}
+
+-- ── lists of parts ──
+
+-- what is listed of parts that have k entries at most
+listed-most : {A : Type 0} (f : ℕ → List A) (k e j : ℕ) → ((i : ℕ) → j ≤ i → i < e → length (f i) ≤ k) → length (listed j e f) ≤ k * (e - j)
+listed-most f k e =
+    downward (λ j. ((i : ℕ) → j ≤ i → i < e → length (f i) ≤ k) → length (listed j e f) ≤ k * (e - j)) e
+    (λ j g h. omega (arith, ap length (listed-end f j e g)))
+    (λ j l ih h.
+    let n : e - j ≡ suc (e - (j + 1)) = omega arith in
+    rw n
+    (omega (arith, h j (omega arith) l, ih (λ i a b. h i (omega arith) b), ap length (listed-step f j e l), length-append (f j) (listed (j + 1) e f), mul-suc k (e - (j + 1)))))
+
+three-parts : (a b c : List ℕ) → length (a ++ (b ++ c)) ≡ length a + (length b + length c)
+three-parts a b c = length-append a (b ++ c) ∙ ap (λ (n : ℕ). length a + n) (length-append b c)
+
+-- a part that is there only where a test passes
+pick-most : {A : Type 0} (b : Bool) (x : List A) (k : ℕ) → length x ≤ k → length (pick b x []) ≤ k
+pick-most b x k h = ifso b (λ t. rw (pick-on b x [] t) h) (λ t. rw (pick-off b x [] t) (omega arith))
+
+joined-most : {A : Type 0} (f : A → List ℕ) (b : Bool) (x : A) (k : ℕ) → length (f x) ≤ k → length (joined f (pick b (x ∷ []) [])) ≤ k
+joined-most f b x k h =
+    ifso b (λ t. rw (pick-on b (x ∷ []) [] t, joined-one f x) h) (λ t. rw (pick-off b (x ∷ []) [] t, joined-none f) (omega arith))
+
+count-within : (p : ℕ → Bool) (e j : ℕ) → count j e p ≤ e - j
+count-within p e =
+    downward (λ j. count j e p ≤ e - j) e (λ j g. omega (arith, count-end p j e g))
+    (λ j l ih.
+    ifso (p j) (λ (t : p j ≡ true). omega (arith, count-hit p j e l t)) (λ (t : p j ≡ false). omega (arith, count-miss p j e l t)))
+
+-- ── numbers ──
+
+-- the number of the first row that fits, where no row's is above k
+abbrev Most : ℕ → List Row → Type 0
+Most k [] = Unit
+Most k (row b n ∷ rs) = (n ≤ k) × Most k rs
+
+fit-most : (k : ℕ) (rs : List Row) → Most k rs → firstFit rs ≤ k
+unfolding firstFit
+fit-most k [] m = omega arith
+fit-most k (row true n ∷ rs) m = m .0
+fit-most k (row false n ∷ rs) m = fit-most k rs (m .1)
+
+kind-most : (h : History) (i : ℕ) → kindOf h i ≤ 6
+unfolding kindOf kindBy
+kind-most h i = fit-most 6 _ (omega arith, (omega arith, (omega arith, (omega arith, (omega arith, (omega arith, tt))))))
+
+reason-most : (b : Bool) (n : ℕ) → pick b n 0 ≤ n
+reason-most b n = ifso b (λ t. rw (pick-on b n 0 t) (omega arith)) (λ t. rw (pick-off b n 0 t) (omega arith))
+
+all-reasons : (h : History) (level a b : ℕ) → reasons h level a b ≤ 15
+unfolding reasons
+all-reasons h level a b =
+    omega (arith, reason-most (isStart h a b) 1, reason-most (isSession h a b) 2, reason-most (isRead h a b) 4, reason-most (isRival h level a b) 8)
+
+-- ── a history that was read ──
+
+module _ {h : History} (ok : LawfulHistory h) where
+  pub findings-few : length (findings h) ≤ 1024
+  unfolding findings those
+  findings-few =
+      omega (arith, ok .few-ops, listed-most (λ i. pick (isFinding h i) (i ∷ []) []) 1 (opCount h + 1) 1 (λ i a b. pick-most (isFinding h i) (i ∷ []) 1 (omega arith)))
+
+  findings-text : length (joined (findingText h) (findings h)) ≤ 20480
+  unfolding findings findingText
+  findings-text =
+      rw (joined-those (findingText h) (isFinding h) (opCount h + 1) 1)
+      (omega (
+        arith,
+        ok .few-ops,
+        listed-most (λ i. pick (isFinding h i) (findingText h i) []) 20 (opCount h + 1) 1
+            (λ i a b.
+            let t = ok .in-tx i (record { from = a; to = omega arith }) in
+            pick-most (isFinding h i) (findingText h i) 20
+            (read-length (op h i .tx) i (kindOf h i) (omega (arith, t .to, ok .few-txs)) (omega (arith, ok .few-ops)) (omega (arith, kind-most h i)))),
+      ))
+
+  module _ (level : ℕ) where
+    -- the pair of a and b, where it is listed
+    abbrev entry : ℕ → ℕ → List Pair
+    entry a b = pick (isListed (size h) (forced h level) a b) (record { one = a; two = b } ∷ []) []
+
+    entries-of : (a : ℕ) → pairsOf h level a ≡ listed 0 (size h) (entry a)
+    unfolding pairsOf
+    entries-of a = joined-those (λ b. record { one = a; two = b } ∷ []) (isListed (size h) (forced h level) a) (size h) 0
+
+    pub pairs-few : length (pairs h level) ≤ 16384
+    unfolding pairs
+    pairs-few =
+        omega (
+          arith,
+          ok .few-txs,
+          listed-most (pairsOf h level) 128 (size h) 0
+              (λ a _ _.
+              rw (entries-of a)
+              (omega (arith, ok .few-txs, listed-most (entry a) 1 (size h) 0 (λ b _ _. pick-most (isListed (size h) (forced h level) a b) (record { one = a; two = b } ∷ []) 1 (omega arith))))),
+        )
+
+    row-text : (a : ℕ) → a < size h → length (joined (pairText h level) (pairsOf h level a)) ≤ 2560
+    unfolding pairText
+    row-text a l =
+        rw (entries-of a, joined-listed (pairText h level) (entry a) (size h) 0)
+        (omega (
+          arith,
+          ok .few-txs,
+          listed-most (λ b. joined (pairText h level) (entry a b)) 20 (size h) 0
+              (λ b _ m.
+              joined-most (pairText h level) (isListed (size h) (forced h level) a b) (record { one = a; two = b }) 20
+              (pair-length a b (reasons h level a b) (omega (arith, ok .few-txs)) (omega (arith, ok .few-txs)) (omega (arith, all-reasons h level a b)))),
+        ))
+
+    pairs-text : length (joined (pairText h level) (pairs h level)) ≤ 327680
+    unfolding pairs
+    pairs-text =
+        rw (joined-listed (pairText h level) (pairsOf h level) (size h) 0)
+        (omega (arith, ok .few-txs, listed-most (λ a. joined (pairText h level) (pairsOf h level a)) 2560 (size h) 0 (λ a _ l. row-text a l)))
+
+    pub order-few : length (order h level) ≤ 128
+    unfolding order
+    order-few =
+        omega (arith, ok .few-txs, rest-bound (size h) (committed h) (forced h level) [], unplaced-all (size h) (committed h), count-within (committed h) (size h) 0)
+
+    order-text : length (acceptedLine level (order h level)) ≤ 525
+    unfolding order
+    order-text =
+        omega (arith, order-few, accepted-length level (order h level) (λ i l. omega (arith, ok .few-txs, rest-below (size h) (committed h) (forced h level) [] i l)))
+
+    block-short : length (blockText h level) ≤ 348224
+    unfolding blockText
+    block-short =
+        ifso (isAccepted h level) (λ t. rw (pick-on (isAccepted h level) _ _ t) (omega (arith, order-text)))
+        (λ t. rw (pick-off (isAccepted h level) _ _ t)
+        (omega (arith, three-parts (rejectedLine level (length (findings h)) (length (pairs h level))) (joined (findingText h) (findings h)) (joined (pairText h level) (pairs h level)), rejected-length (length (findings h)) (length (pairs h level)) (omega (arith, findings-few)) (omega (arith, pairs-few)) level, findings-text, pairs-text)))
+
+-- ── the text ──
+
+number-most : (c : Check) → numberOf c ≤ 10
+number-most lengthField = omega arith
+number-most lengthLow = omega arith
+number-most bytesThere = omega arith
+number-most serialFollows = omega arith
+number-most kindKnown = omega arith
+number-most lengthFits = omega arith
+number-most inPlace = omega arith
+number-most valueLawful = omega arith
+number-most withinLimit = omega arith
+number-most newWrite = omega arith
+
+-- a refusal's number and place are small
+refused-small : {s : List ℕ} {n p : ℕ} → Refuses s n p → (n ≤ 11) × (p ≤ 32768)
+refused-small (too-long l) = (omega arith, omega arith)
+refused-small (at-record {c = c} l r f) = (omega (arith, number-most c), omega (arith, reached-within r))
+refused-small (bytes-behind l r p k b) = (omega arith, omega arith)
+
+pub lawful-reading : (s : List ℕ) {h : History} {notes : List Stretch} → reading s ≡ read h notes → LawfulHistory h
+lawful-reading s {h} {notes} e = lawful-history (reads-iff s h notes .0 e)
+
+reading-short : (s : List ℕ) (q : Reading) → reading s ≡ q → length (readingText q) ≤ 1048576
+unfolding readingText
+reading-short s (refused n p) e =
+    let m = refused-small (refuses-iff s n p .0 e) in omega (arith, refused-length n p (omega (arith, m .0)) (omega (arith, m .1)))
+reading-short s (read h notes) e =
+    let ok = lawful-reading s e in
+    omega (arith, three-parts (blockText h 1) (blockText h 2) (blockText h 3), block-short ok 1, block-short ok 2, block-short ok 3)
+
+-- the longest text is shorter than the buffer that the programs have for it
+pub answer-short : (s : List ℕ) → length (answerText s) ≤ 1048576
+unfolding answerText
+answer-short s = reading-short s (reading s) refl

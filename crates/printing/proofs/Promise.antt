@@ -1,0 +1,21 @@
+-- What the promise of `put_answer` gives its caller.
+use Prim.Native.Nat.{ℕ, _≤_}
+use mathlib.Core.Path.{_≡_, ap, sym, _∙_}
+use mathlib.Core.List.{List}
+use native.Mathlib.Omega.{arith}
+use lib.ListN.{length, take, drop}
+use lib.Seq.{take-all, take-at}
+use Rattle.rules.specs.Numbers.{over}
+use Rattle.text.specs.Answer.{answerText}
+use Rattle.printing.specs.Printing.{Written}
+
+-- one answer, and one content of the buffer
+pub answer-one : {s o b c : List ℕ} {n m : ℕ} → Written s o b n → Written s o c m → (n ≡ m) × (b ≡ c)
+answer-one x y = (x .end ∙ sym (y .end), x .is ∙ sym (y .is))
+
+-- with a buffer of 1,048,576 bytes or more, the first n bytes are the whole text
+pub answer-whole : {s o b : List ℕ} {n : ℕ} → Written s o b n → 1048576 ≤ length o → take n b ≡ answerText s
+unfolding over
+answer-whole {s} {o} {b} {n} x h =
+    let e : take (length o) (answerText s) ≡ answerText s = take-all (length o) (answerText s) (omega (arith, x .end, x .short)) in
+    ap (take n) (x .is ∙ ap (λ (t : List ℕ). over t o) e) ∙ take-at (answerText s) (drop (length (answerText s)) o) n (sym (x .end))

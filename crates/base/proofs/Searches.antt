@@ -192,6 +192,13 @@ count-none p e =
     (λ (t : p j ≡ false). ⊎-elim (λ m. ih (omega (arith, count-miss p j e l t)) i (omega arith) b) (λ m. let q : i ≡ j = omega arith in rw q t) (split j i))
     (known (p j)))
 
+-- no more pass than there are
+pub count-most : (p : ℕ → Bool) (e j : ℕ) → count j e p ≤ e - j
+count-most p e =
+    downward (λ j. count j e p ≤ e - j) e (λ j g. omega (arith, count-end p j e g))
+    (λ j l ih.
+    ifso (p j) (λ (t : p j ≡ true). omega (arith, count-hit p j e l t)) (λ (t : p j ≡ false). omega (arith, count-miss p j e l t)))
+
 -- q passes what p does, but for x: it counts one less
 pub count-less : (p q : ℕ → Bool) (x e j : ℕ) → j ≤ x → x < e → p x ≡ true → q x ≡ false → ((i : ℕ) → i < e → (i ≡ x → ⊥) → p i ≡ q i)
     → count j e p ≡ suc (count j e q)

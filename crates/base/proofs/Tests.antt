@@ -108,6 +108,17 @@ unfolding _or_
 or-assoc true b c = refl
 or-assoc false b c = refl
 
+-- neither passes
+pub neither-left : (a b : Bool) → a or b ≡ false → a ≡ false
+unfolding _or_
+neither-left true b e = e
+neither-left false b e = refl
+
+pub neither-right : (a b : Bool) → a or b ≡ false → b ≡ false
+unfolding _or_
+neither-right true b e = absurd (true≢false e)
+neither-right false b e = e
+
 -- a choice
 pub pick-on {ℓ} : {X : Type ℓ} (b : Bool) (x y : X) → b ≡ true → pick b x y ≡ x
 unfolding pick

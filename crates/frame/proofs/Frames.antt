@@ -1,31 +1,21 @@
 -- Laws of a record's fields and framing.
 use Prim.Native.Nat.{ℕ, zero, suc, _+_, _-_, _*_, _^_, _≤_, _<_, min}
 use mathlib.Core.Path.{_≡_, refl, ap, sym, _∙_}
-use mathlib.Core.Bool.{Bool, true, false, true≢false}
+use mathlib.Core.Bool.{true, false}
 use mathlib.Core.List.{List, [], _∷_, _++_}
 use native.Mathlib.Omega.{arith}
 use native.Mathlib.Nat.{suc-add, pow-suc, mul-assoc, mul-comm}
 use lib.ListN.{length, getD, drop, length-take, length-drop}
 use lib.Dec.{ltb}
 use borrow.Author.Tests.{ltb-true, ltb-false, lt-ltb, le-ltb}
-use Rattle.base.specs.Base.{_or_, pick, Row, row, firstFit}
-use Rattle.base.proofs.Tests.{ifso, pick-on, pick-off}
+use Rattle.base.specs.Base.{pick, Row, row, firstFit}
+use Rattle.base.proofs.Tests.{ifso, neither-left, neither-right, pick-on, pick-off}
 use Rattle.rules.specs.Numbers.{le, part}
 use Rattle.rules.specs.Records.{lenAt, kindAt, nextAt, lows, highs, eventAt, breaks, isUnknown, isMisfit, frameRows}
 use Rattle.rules.specs.declared.Event.{Event}
 use Rattle.frame.specs.Framing.{Fit, framing}
 use Rattle.frame.specs.declared.Framed.the-variants as F
-use Rattle.frame.proofs.Rows.{fit-past, fit-here, fit-unfit, RowsCounted, fit-behind}
-
-or-off-left : (a b : Bool) → a or b ≡ false → a ≡ false
-unfolding _or_
-or-off-left true b e = e
-or-off-left false b e = refl
-
-or-off-right : (a b : Bool) → a or b ≡ false → b ≡ false
-unfolding _or_
-or-off-right true b e = absurd (true≢false e)
-or-off-right false b e = e
+use Rattle.base.proofs.Rows.{fit-past, fit-here, fit-unfit, RowsCounted, fit-behind}
 
 -- a number of m + n bytes is its lower m bytes and its upper n
 pub le-add : (m n : ℕ) (s : List ℕ) (at : ℕ) → le (m + n) s at ≡ le m s at + 256 ^ m * le n s (at + m)
@@ -53,12 +43,12 @@ long-enough p {kind} {k} e h = let g : getD lows k 0 ≤ length p + 6 = rw (← 
 -- kinds that are not unknown
 pub known-kind : (kind : ℕ) → isUnknown kind ≡ false → (1 ≤ kind) × (kind ≤ 6)
 unfolding isUnknown
-known-kind kind h = (ltb-false _ _ (or-off-left _ _ h), ltb-false _ _ (or-off-right _ _ h))
+known-kind kind h = (ltb-false _ _ (neither-left _ _ h), ltb-false _ _ (neither-right _ _ h))
 
 -- lengths that are this kind's
 pub fitting-length : (kind len : ℕ) → isMisfit kind len ≡ false → (getD lows kind 0 ≤ len) × (len ≤ getD highs kind 0)
 unfolding isMisfit
-fitting-length kind len h = (ltb-false _ _ (or-off-left _ _ h), ltb-false _ _ (or-off-right _ _ h))
+fitting-length kind len h = (ltb-false _ _ (neither-left _ _ h), ltb-false _ _ (neither-right _ _ h))
 
 -- what each row of a framing that passes says
 pub record Framing (s : List ℕ) (at e : ℕ) : Type 0 where

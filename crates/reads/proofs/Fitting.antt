@@ -2,15 +2,16 @@
 use Prim.Native.Nat.{ℕ, _+_, _<_, _≤_}
 use mathlib.Core.Path.{_≡_, refl, ap, sym}
 use mathlib.Core.Bool.{Bool, true, false}
-use mathlib.Core.List.{List, [], _∷_}
+use mathlib.Core.List.{List, _∷_}
 use mathlib.Core.Logic.{⊎-elim}
 use native.Mathlib.Omega.{arith}
 use native.Mathlib.Decide.{ℕ-discrete}
 use lib.ListN.{List·getD-eq-default}
 use lib.Dec.{ltb, eqb}
 use borrow.Author.Tests.{eq-eqb, ne-eqb, lt-ltb}
-use Rattle.base.specs.Base.{_and_, _or_, pick, Row, row, firstFit}
+use Rattle.base.specs.Base.{_and_, _or_, pick, firstFit}
 use Rattle.base.proofs.Tests.{known, clash, pick-on, pick-off, split}
+use Rattle.base.proofs.Rows.{fit-none, fit-most}
 use Rattle.base.proofs.Searches.{some-end}
 use Rattle.rules.specs.History.{History, tx, op, txCount, opCount, zeroth, noTx, committed, writeOf}
 use Rattle.rules.specs.Reads.{writesAt, wroteBetween, originOf, sourceOf, kindBy, kindOf}
@@ -105,16 +106,7 @@ unfolding kindOf
 kind-is h i x v w u b c e f = rw (b, c, f, e)
 
 -- none is above 6
-fit : (rs : List Row) (b : Bool) (n : ℕ) → n ≤ 6 → firstFit rs ≤ 6 → firstFit (row b n ∷ rs) ≤ 6
-unfolding firstFit
-fit rs true n l f = l
-fit rs false n l f = f
-
-fit-none : firstFit [] ≤ 6
-unfolding firstFit
-fit-none = omega arith
-
 pub kind-le : (h : History) (i : ℕ) → kindOf h i ≤ 6
 unfolding kindOf kindBy
 kind-le h i =
-    fit _ _ 1 (omega arith) (fit _ _ 2 (omega arith) (fit _ _ 3 (omega arith) (fit _ _ 4 (omega arith) (fit _ _ 5 (omega arith) (fit _ _ 6 (omega arith) fit-none)))))
+    fit-most _ 1 _ (omega arith) (fit-most _ 2 _ (omega arith) (fit-most _ 3 _ (omega arith) (fit-most _ 4 _ (omega arith) (fit-most _ 5 _ (omega arith) (fit-most _ 6 _ (omega arith) (omega (arith, fit-none)))))))

@@ -1,7 +1,7 @@
 use mathlib.Core.Path.{_∙_, sym}
 use native.Mathlib.Omega.{arith}
 use Rattle.frame.proofs.Frames.{cut-off, known-kind, lengths-pass, no-field, too-small}
-use Rattle.frame.proofs.Rows.{fit-here, fit-none, fit-past}
+use Rattle.base.proofs.Rows.{fit-here, fit-none, fit-past}
 use borrow.Author.Needs.{needs}
 use Rattle.frame.proofs.frame_no.Statement.{statement}
 use Rattle.frame.proofs.frame_no.Tie as tie

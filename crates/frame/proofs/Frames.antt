@@ -11,7 +11,7 @@ use borrow.Author.Tests.{ltb-true, ltb-false, lt-ltb, le-ltb}
 use Rattle.base.specs.Base.{pick, Row, row, firstFit}
 use Rattle.base.proofs.Tests.{ifso, neither-left, neither-right, pick-on, pick-off}
 use Rattle.rules.specs.Numbers.{le, part}
-use Rattle.rules.specs.Records.{lenAt, kindAt, nextAt, lows, highs, eventAt, breaks, isUnknown, isMisfit, frameRows}
+use Rattle.rules.specs.Records.{lenAt, kindAt, nextAt, lows, highs, eventOf, eventAt, breaks, isUnknown, isMisfit, frameRows}
 use Rattle.rules.specs.declared.Event.{Event}
 use Rattle.frame.specs.Framing.{Fit, framing}
 use Rattle.frame.specs.declared.Framed.the-variants as F
@@ -39,6 +39,10 @@ part-length a e s h = length-take (e - a) (drop a s) ∙ ap (λ (n : ℕ). min (
 -- a payload is as long as its kind's reader needs: the length field counts the six bytes of kind and serial too
 pub long-enough : (p : List ℕ) {kind k : ℕ} → kind ≡ k → getD lows kind 0 ≤ length p + 6 → getD lows k 0 - 6 ≤ length p
 long-enough p {kind} {k} e h = let g : getD lows k 0 ≤ length p + 6 = rw (← e) h in omega arith
+
+-- what a record of the kind k says is what one of this kind does, where k is its kind
+pub of-kind : (p : List ℕ) {kind k : ℕ} {r : Event} → kind ≡ k → r ≡ eventOf k p → r ≡ eventOf kind p
+of-kind p e h = rw e h
 
 -- kinds that are not unknown
 pub known-kind : (kind : ℕ) → isUnknown kind ≡ false → (1 ≤ kind) × (kind ≤ 6)

@@ -18,11 +18,11 @@ unfolding eventOf pick
 event-of-spec =
     tie.close
     (tie.spec
-    (λ c κs. long-enough _ (c .match .keys1) (c .before .before .pre))
-    (λ c κs. long-enough _ (c .match .keys2) (c .before .before .pre))
-    (λ c κs. long-enough _ (c .match .keys3) (c .before .before .pre))
-    (λ c κs. long-enough _ (c .match .keys4) (c .before .before .pre))
-    (λ c κs. long-enough _ (c .match .keys5) (c .before .before .pre))
+    (λ c κs. long-enough (c .before .before .args .p .now) (c .match .keys1) (c .before .before .pre))
+    (λ c κs. long-enough (c .before .before .args .p .now) (c .match .keys2) (c .before .before .pre))
+    (λ c κs. long-enough (c .before .before .args .p .now) (c .match .keys3) (c .before .before .pre))
+    (λ c κs. long-enough (c .before .before .args .p .now) (c .match .keys4) (c .before .before .pre))
+    (λ c κs. long-enough (c .before .before .args .p .now) (c .match .keys5) (c .before .before .pre))
     (λ c. of-kind _ (c .before .match .keys1) (c .read-open .ensures))
     (λ c. of-kind _ (c .before .match .keys2) (c .read-read .ensures))
     (λ c. of-kind _ (c .before .match .keys3) (c .read-write .ensures))

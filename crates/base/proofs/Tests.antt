@@ -128,6 +128,12 @@ pub pick-off {ℓ} : {X : Type ℓ} (b : Bool) (x y : X) → b ≡ false → pic
 unfolding pick
 pick-off b x y e = rw e
 
+-- what f makes of a choice is the choice of what it makes
+pub pick-of : {X Y : Type 0} (f : X → Y) (b : Bool) (x y : X) → f (pick b x y) ≡ pick b (f x) (f y)
+unfolding pick
+pick-of f true x y = refl
+pick-of f false x y = refl
+
 -- a number is below another or not
 pub split : (a b : ℕ) → (a < b) ⊎ (b ≤ a)
 split a b = ⊎-elim (λ e. inl (ltb-true a b e)) (λ e. inr (ltb-false a b e)) (known (ltb a b))

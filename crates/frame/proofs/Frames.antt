@@ -15,7 +15,7 @@ use Rattle.rules.specs.Records.{lenAt, kindAt, nextAt, lows, highs, eventOf, ev
 use Rattle.rules.specs.declared.Event.{Event}
 use Rattle.frame.specs.Framing.{Fit, framing}
 use Rattle.frame.specs.declared.Framed.the-variants as F
-use Rattle.base.proofs.Rows.{fit-past, fit-here, fit-unfit, RowsCounted, fit-behind}
+use Rattle.base.proofs.Rows.{fit-past, fit-here, fit-none, fit-unfit, RowsCounted, fit-behind}
 
 -- a number of m + n bytes is its lower m bytes and its upper n
 pub le-add : (m n : ℕ) (s : List ℕ) (at : ℕ) → le (m + n) s at ≡ le m s at + 256 ^ m * le n s (at + m)
@@ -77,13 +77,24 @@ module _ (s : List ℕ) (at e : ℕ) where
   unfolding frameRows
   cut-off a b d = fit-past _ _ _ (le-ltb _ _ a) (fit-past _ _ _ (le-ltb _ _ b) (fit-here _ _ _ (lt-ltb _ _ d)))
 
-  -- "then 5, 6, length for its kind (4)"
-  abbrev pub laterRows : List Row
-  laterRows = row (breaks s at e) 5 ∷ row (isUnknown (kindAt s at)) 6 ∷ row (isMisfit (kindAt s at) (lenAt s at)) 4 ∷ []
+  -- the three length checks pass: "then 5, 6, length for its kind (4)"
+  module _ (a : at + 2 ≤ length s) (b : 6 ≤ lenAt s at) (d : nextAt s at ≤ length s) where
+    lengths-pass : {x : ℕ} → x ≡ firstFit (row (breaks s at e) 5 ∷ row (isUnknown (kindAt s at)) 6 ∷ row (isMisfit (kindAt s at) (lenAt s at)) 4 ∷ [])
+        → x ≡ firstFit (frameRows s at e)
+    unfolding frameRows
+    lengths-pass h = fit-past _ _ _ (le-ltb _ _ a) (fit-past _ _ _ (le-ltb _ _ b) (fit-past _ _ _ (le-ltb _ _ d) h))
 
-  pub lengths-pass : {x : ℕ} → at + 2 ≤ length s → 6 ≤ lenAt s at → nextAt s at ≤ length s → x ≡ firstFit laterRows → x ≡ firstFit (frameRows s at e)
-  unfolding frameRows
-  lengths-pass a b d h = fit-past _ _ _ (le-ltb _ _ a) (fit-past _ _ _ (le-ltb _ _ b) (fit-past _ _ _ (le-ltb _ _ d) h))
+    pub serial-off : breaks s at e ≡ true → 5 ≡ firstFit (frameRows s at e)
+    serial-off p = lengths-pass (fit-here _ _ _ p)
+
+    pub kind-off : breaks s at e ≡ false → isUnknown (kindAt s at) ≡ true → 6 ≡ firstFit (frameRows s at e)
+    kind-off p q = lengths-pass (fit-past _ _ _ p (fit-here _ _ _ q))
+
+    pub length-off : breaks s at e ≡ false → isUnknown (kindAt s at) ≡ false → isMisfit (kindAt s at) (lenAt s at) ≡ true → 4 ≡ firstFit (frameRows s at e)
+    length-off p q r = lengths-pass (fit-past _ _ _ p (fit-past _ _ _ q (fit-here _ _ _ r)))
+
+    pub none-off : breaks s at e ≡ false → isUnknown (kindAt s at) ≡ false → isMisfit (kindAt s at) (lenAt s at) ≡ false → 0 ≡ firstFit (frameRows s at e)
+    none-off p q r = lengths-pass (fit-past _ _ _ p (fit-past _ _ _ q (fit-past _ _ _ r fit-none)))
 
   pub passed : firstFit (frameRows s at e) ≡ 0 → Framing s at e
   unfolding frameRows

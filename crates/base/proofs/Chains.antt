@@ -26,6 +26,9 @@ last-passes p (suc n) h =
     ifso (p n) (λ t. rw (pick-on (p n) n (last p n) t) (t, omega arith))
     (λ t. let r = last-passes p n (rw (pick-off (p n) n (last p n) t) at h) in rw (pick-off (p n) n (last p n) t) (r .0, omega (arith, r .1)))
 
+pub last-less : (p : ℕ → Bool) (n : ℕ) → 1 ≤ n → last p n < n
+last-less p n a = ⊎-elim (λ z. last-passes p n z .1) (λ z. omega arith) (split 0 (last p n))
+
 -- none above it does
 pub last-none : (p : ℕ → Bool) (n i : ℕ) → last p n < i → i < n → p i ≡ false
 unfolding last

@@ -45,6 +45,12 @@ module _ {o : List ℕ} {at : ℕ} {b : List ℕ} {r : ℕ} {xs : List ℕ} (x :
       back : drop q b ≡ drop q o
       back = rw (y .end) (sym (drop-drop (length ys) r b) ∙ ap (drop (length ys)) appended-back ∙ drop-drop (length ys) r o)
 
+-- a contract that says `Appended` leaves one answer and one content: of `order_all`, of the lists' and the lines' `put_..`
+pub appended-one : {o : List ℕ} {at : ℕ} {b c : List ℕ} {r q : ℕ} {xs : List ℕ} → Appended o at b r xs → Appended o at c q xs → (b ≡ c) × (r ≡ q)
+appended-one {o} {at} {b} {c} {r} {q} {xs} x y =
+    let e : r ≡ q = x .end ∙ sym (y .end) in
+    (x .is ∙ ap (λ (n : ℕ). take at o ++ (xs ++ drop n o)) e ∙ sym (y .is), e)
+
 -- a loop that has come to j, of the numbers from a to before e, and to r in the buffer
 pub record Filling (f : ℕ → List ℕ) (a e : ℕ) (o : List ℕ) (at : ℕ) (j : ℕ) (b : List ℕ) (r : ℕ) : Type 0 where
   pub done : List ℕ

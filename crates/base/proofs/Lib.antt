@@ -3,3 +3,4 @@ pub mod Searches
 pub mod Numbered
 pub mod Fill
 pub mod Chains
+pub mod Rows

@@ -1,13 +1,32 @@
--- Laws of `numbered`.
+-- Laws of `numbered` and `nth`.
 use Prim.Native.Nat.{ℕ, zero, suc, _+_, _≤_}
 use mathlib.Core.Path.{_≡_, refl, _∙_}
-use mathlib.Core.List.{[], _∷_, _++_}
+use mathlib.Core.List.{List, [], _∷_, _++_}
 use native.Mathlib.Omega.{arith}
 use native.Mathlib.Numerals.{add-one}
 use native.Mathlib.Decide.{ℕ-discrete}
 use lib.ListN.{length, getD, length-append, List·getD-append}
 use lib.Seq.{getD-at}
-use Rattle.base.specs.Base.{numbered, nth}
+use lib.Dec.{eqb, eqb·zero-suc, eqb·suc-zero, eqb·suc-suc}
+use Rattle.base.specs.Base.{pick, numbered, nth}
+
+-- an entry of a list with one more at its end
+getD-more : {A : Type 0} (l : List A) (x d : A) (i : ℕ) → getD (l ++ (x ∷ [])) i d ≡ pick (eqb (length l) i) x (getD l i d)
+unfolding pick
+getD-more [] x d zero = refl
+getD-more [] x d (suc i) = rw (eqb·zero-suc i)
+getD-more (y ∷ l) x d zero = rw (eqb·suc-zero (length l))
+getD-more (y ∷ l) x d (suc i) = rw (eqb·suc-suc (length l) i) (getD-more l x d i)
+
+-- .. by number
+pub nth-more : {A : Type 0} (l : List A) (x : A) (k : ℕ) (d : A) → nth (l ++ (x ∷ [])) k d ≡ pick (eqb (length l + 1) k) x (nth l k d)
+unfolding nth
+nth-more l x k d = rw (add-one (length l)) (getD-more (d ∷ l) x d k)
+
+pub nth-none : {A : Type 0} (k : ℕ) (d : A) → nth [] k d ≡ d
+unfolding nth
+nth-none zero d = refl
+nth-none (suc k) d = refl
 
 module _ {A : Type 0} where
   pub numbered-length : (n : ℕ) (f : ℕ → A) → length (numbered n f) ≡ n

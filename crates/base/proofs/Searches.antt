@@ -6,9 +6,9 @@ use mathlib.Core.Logic.{_⊎_, inl, inr, ⊎-elim}
 use mathlib.Core.List.{List, [], _∷_, _++_, append-assoc, append-nil}
 use native.Mathlib.Omega.{arith}
 use native.Mathlib.Nat.{mul-suc, add-comm}
-use lib.ListN.{length, length-append}
+use lib.ListN.{length, getD, length-append}
 use Rattle.base.specs.Base.{_or_, pick, someOf, firstOf, countOf, listOf, some, first, count, listed, those, joined}
-use Rattle.base.proofs.Tests.{known, clash, is-false, or-cases, or-left, or-right, pick-on, pick-off, ifso, split}
+use Rattle.base.proofs.Tests.{known, clash, is-false, or-cases, or-left, or-right, pick-of, ifso, split}
 
 left : (j e : ℕ) → j < e → e - j ≡ suc (e - (j + 1))
 left j e h = omega arith
@@ -192,6 +192,13 @@ count-none p e =
     (λ (t : p j ≡ false). ⊎-elim (λ m. ih (omega (arith, count-miss p j e l t)) i (omega arith) b) (λ m. let q : i ≡ j = omega arith in rw q t) (split j i))
     (known (p j)))
 
+-- no more pass than there are
+pub count-most : (p : ℕ → Bool) (e j : ℕ) → count j e p ≤ e - j
+count-most p e =
+    downward (λ j. count j e p ≤ e - j) e (λ j g. omega (arith, count-end p j e g))
+    (λ j l ih.
+    ifso (p j) (λ (t : p j ≡ true). omega (arith, count-hit p j e l t)) (λ (t : p j ≡ false). omega (arith, count-miss p j e l t)))
+
 -- q passes what p does, but for x: it counts one less
 pub count-less : (p q : ℕ → Bool) (x e j : ℕ) → j ≤ x → x < e → p x ≡ true → q x ≡ false → ((i : ℕ) → i < e → (i ≡ x → ⊥) → p i ≡ q i)
     → count j e p ≡ suc (count j e q)
@@ -218,6 +225,26 @@ listed-same f g e =
     downward (λ j. ((i : ℕ) → j ≤ i → i < e → f i ≡ g i) → listed j e f ≡ listed j e g) e
     (λ j k h. listed-end f j e k ∙ sym (listed-end g j e k))
     (λ j l ih h. listed-step f j e l ∙ rw (h j (omega arith) l, ih (λ i a b. h i (omega arith) b)) (sym (listed-step g j e l)))
+
+-- where each number gives one entry, they are as many, and stand in order
+singles-of : {A : Type 0} (f : ℕ → A) (n a : ℕ) → length (listOf (λ i. f i ∷ []) a n) ≡ n
+unfolding listOf
+singles-of f zero a = refl
+singles-of f (suc n) a = ap suc (singles-of f n (a + 1))
+
+singles-from : {A : Type 0} (f : ℕ → A) (d : A) (n a j : ℕ) → j < n → getD (listOf (λ i. f i ∷ []) a n) j d ≡ f (a + j)
+unfolding listOf
+singles-from f d zero a j l = absurd (omega arith)
+singles-from f d (suc n) a zero l = ap f (omega arith)
+singles-from f d (suc n) a (suc j) l = singles-from f d n (a + 1) j (omega arith) ∙ ap f (omega arith)
+
+pub singles-length : {A : Type 0} (f : ℕ → A) (a e : ℕ) → length (listed a e (λ i. f i ∷ [])) ≡ e - a
+unfolding listed
+singles-length f a e = singles-of f (e - a) a
+
+pub singles-at : {A : Type 0} (f : ℕ → A) (d : A) (a e j : ℕ) → a + j < e → getD (listed a e (λ i. f i ∷ [])) j d ≡ f (a + j)
+unfolding listed
+singles-at f d a e j l = singles-from f d (e - a) a j (omega arith)
 
 pub joined-append : {A B : Type 0} (f : A → List B) (l k : List A) → joined f (l ++ k) ≡ joined f l ++ joined f k
 unfolding joined
@@ -247,12 +274,7 @@ joined-those f p e j =
     ∙ listed-same (λ i. joined f (pick (p i) (i ∷ []) [])) (λ i. pick (p i) (f i) []) e j (λ i a b. one (p i) i)
   where
     one : (b : Bool) (i : ℕ) → joined f (pick b (i ∷ []) []) ≡ pick b (f i) []
-    one b i =
-        ifso b (λ t. ap (joined f) (pick-on b (i ∷ []) [] t) ∙ single i ∙ sym (pick-on b (f i) [] t))
-        (λ t. ap (joined f) (pick-off b (i ∷ []) [] t) ∙ joined-none f ∙ sym (pick-off b (f i) [] t))
-      where
-        single : (i : ℕ) → joined f (i ∷ []) ≡ f i
-        single i = joined-one f i
+    one b i = pick-of (joined f) b (i ∷ []) [] ∙ rw (joined-one f i, joined-none f)
 
 -- entries of k each
 pub joined-length : {A B : Type 0} (f : A → List B) (k : ℕ) → ((x : A) → length (f x) ≡ k) → (l : List A) → length (joined f l) ≡ k * length l

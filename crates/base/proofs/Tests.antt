@@ -108,6 +108,17 @@ unfolding _or_
 or-assoc true b c = refl
 or-assoc false b c = refl
 
+-- neither passes
+pub neither-left : (a b : Bool) → a or b ≡ false → a ≡ false
+unfolding _or_
+neither-left true b e = e
+neither-left false b e = refl
+
+pub neither-right : (a b : Bool) → a or b ≡ false → b ≡ false
+unfolding _or_
+neither-right true b e = absurd (true≢false e)
+neither-right false b e = e
+
 -- a choice
 pub pick-on {ℓ} : {X : Type ℓ} (b : Bool) (x y : X) → b ≡ true → pick b x y ≡ x
 unfolding pick
@@ -116,6 +127,12 @@ pick-on b x y e = rw e
 pub pick-off {ℓ} : {X : Type ℓ} (b : Bool) (x y : X) → b ≡ false → pick b x y ≡ y
 unfolding pick
 pick-off b x y e = rw e
+
+-- what f makes of a choice is the choice of what it makes
+pub pick-of : {X Y : Type 0} (f : X → Y) (b : Bool) (x y : X) → f (pick b x y) ≡ pick b (f x) (f y)
+unfolding pick
+pick-of f true x y = refl
+pick-of f false x y = refl
 
 -- a number is below another or not
 pub split : (a b : ℕ) → (a < b) ⊎ (b ≤ a)

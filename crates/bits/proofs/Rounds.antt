@@ -10,10 +10,10 @@ use lib.ListN.{length}
 use lib.Dec.{eqb}
 use borrow.Author.Tests.{eqb-true, eq-eqb}
 use Rattle.base.specs.Base.{_and_, _or_}
-use Rattle.base.proofs.Tests.{split, same-test, both, and-left, and-right, and-on, and-no-left, or-cases, or-left, or-right}
+use Rattle.base.proofs.Tests.{below-suc, same-test, both, and-left, and-right, and-on, and-no-left, or-cases, or-left, or-right}
 use Rattle.theory.specs.Leads.{via}
 use Rattle.theory.proofs.Leads.{via-zero, via-cases, via-keeps, via-on}
-use Rattle.bits.specs.Bits.{bitOf, Holds, Under, Grown, plusRow, through}
+use Rattle.bits.specs.Bits.{bitOf, Holds, Under, plusRow, through, ledRow, ledRows}
 use Rattle.bits.proofs.Tables.{holds-same, row-none}
 
 -- ── one row ──
@@ -28,81 +28,126 @@ module _ (W E : ℕ → ℕ → Bool) (a b : ℕ) {v : Bool} where
   unfolding through
   through-no e q h = row-none a _ h (λ y hy. and-no-left _ _ (sym e ∙ q))
 
--- row a has what w leads to by way of the numbers below b
-pub record Joining (w : List ℕ) (n a b : ℕ) (u : List ℕ) : Type 0 where
-  pub grown : Grown w n a u
-  pub row : (z y : ℕ) → z < b → y < 128 → bitOf w a z ≡ true → bitOf w z y ≡ true → bitOf u a y ≡ true
+-- row a, number by number: what is led on a table's bits is led on the relation that it holds
+module _ (W E : ℕ → ℕ → Bool) (a : ℕ) where
+  pub led-start : {t : List ℕ} → Holds t E → Holds t (ledRow W a 0 E)
+  unfolding ledRow
+  led-start h = h
 
-module _ {w : List ℕ} {n a : ℕ} where
-  pub joining-start : {t : List ℕ} → Grown w n a t → Joining w n a 0 t
-  joining-start g = record { grown = g; row = λ z y l hy p q. absurd (omega arith) }
+  pub led-step : {t u : List ℕ} (b : ℕ) → b < 128 → Holds t (ledRow W a b E) → Holds u (plusRow (bitOf t) a (through W (bitOf t) a b)) → Holds u (ledRow W a (b + 1) E)
+  unfolding ledRow plusRow through
+  led-step b l p q = rw (add-one b) (holds-same q (λ x y hx hy. rw (p .is x y hx hy, p .is b y l hy)))
 
-  pub joining-step : {t u : List ℕ} (b : ℕ) → n ≤ 128 → a < 128 → b < n → Joining w n a b t
-      → Holds u (plusRow (bitOf t) a (through (bitOf w) (bitOf t) a b)) → Joining w n a (b + 1) u
-  unfolding plusRow through
-  joining-step {t} {u} b hn ha hb j h =
-      let g = j .grown in
-      let small : b < 128 = omega arith in
-      let more : (x y : ℕ) → x < 128 → y < 128 → bitOf t x y ≡ true → bitOf u x y ≡ true
-      = λ x y hx hy e. h .is x y hx hy ∙ or-left _ _ e in
+  led-same : {F : ℕ → ℕ → Bool} → ((x y : ℕ) → x < 128 → y < 128 → F x y ≡ E x y) → (b : ℕ) → b ≤ 128 → (x y : ℕ) → x < 128 → y < 128 → ledRow W a b F x y ≡ ledRow W a b E x y
+  unfolding ledRow plusRow through
+  led-same e zero l x y hx hy = e x y hx hy
+  led-same e (suc b) l x y hx hy = rw (led-same e b (omega arith) x y hx hy, led-same e b (omega arith) b y (omega arith) hy)
+
+-- row by row
+module _ (W E : ℕ → ℕ → Bool) (n : ℕ) where
+  pub rows-start : {t : List ℕ} → Holds t E → Holds t (ledRows W n 0 E)
+  unfolding ledRows
+  rows-start h = h
+
+  pub rows-step : {t u : List ℕ} (a : ℕ) → n ≤ 128 → Holds t (ledRows W n a E) → Holds u (ledRow W a n (bitOf t)) → Holds u (ledRows W n (a + 1) E)
+  unfolding ledRows
+  rows-step a l p q = rw (add-one a) (holds-same q (λ x y hx hy. led-same W _ a (p .is) n l x y hx hy))
+
+-- ── one round ──
+
+-- E's pairs are all in T
+record Within (E T : ℕ → ℕ → Bool) : Type 0 where
+  all : (x y : ℕ) → x < 128 → y < 128 → E x y ≡ true → T x y ≡ true
+
+-- T has what it leads to by way of a number below n
+record Closed (n : ℕ) (T : ℕ → ℕ → Bool) : Type 0 where
+  on : (x b y : ℕ) → b < n → T x b ≡ true → T b y ≡ true → T x y ≡ true
+
+-- U was made of W in a round that has come to row a: it has W's pairs, in the rows before a also what W leads to by way of a number below n,
+-- and nothing that a closed relation with W's pairs has not
+record Grown (W : ℕ → ℕ → Bool) (n a : ℕ) (U : ℕ → ℕ → Bool) : Type 0 where
+  keeps : Within W U
+  joins : (x b y : ℕ) → x < a → x < 128 → b < n → y < 128 → W x b ≡ true → W b y ≡ true → U x y ≡ true
+  sound : (T : ℕ → ℕ → Bool) → Closed n T → Within W T → Within U T
+
+-- .. and in row a to number b
+record Joining (W : ℕ → ℕ → Bool) (n a b : ℕ) (U : ℕ → ℕ → Bool) : Type 0 where
+  grown : Grown W n a U
+  row : (z y : ℕ) → z < b → y < 128 → W a z ≡ true → W z y ≡ true → U a y ≡ true
+
+module _ {W : ℕ → ℕ → Bool} {n : ℕ} (few : n ≤ 128) where
+  module _ {a : ℕ} (low : a < 128) where
+    joining-step : {E : ℕ → ℕ → Bool} (b : ℕ) → b < n → Joining W n a b E → Joining W n a (suc b) (plusRow E a (through W E a b))
+    unfolding plusRow through
+    joining-step {E} b hb j =
+        let g = j .grown in
+        let small : b < 128 = omega arith in
+        record {
+          grown =
+              record {
+                keeps = record { all = λ x y hx hy e. or-left _ _ (g .keeps .all x y hx hy e) };
+                joins = λ x z y l hx lz hy p q. or-left _ _ (g .joins x z y l hx lz hy p q);
+                sound =
+                    λ T c i.
+                    let old = g .sound T c i in
+                    record {
+                      all =
+                          λ x y hx hy e.
+                          ⊎-elim (λ p. old .all x y hx hy p)
+                          (λ q.
+                          let r = and-right _ _ q in
+                          let s : x ≡ a = eqb-true x a (and-left _ _ q) in
+                          rw s (c .on a b y hb (i .all a b low small (and-left _ _ r)) (old .all b y small hy (and-right _ _ r))))
+                          (or-cases _ _ e);
+                    };
+              };
+          row =
+              λ z y l hy p q.
+              ⊎-elim
+              (λ m. let s : z ≡ b = m in or-right _ _ (both _ _ (eq-eqb a a refl) (both _ _ (rw s at p) (g .keeps .all b y small hy (rw s at q)))))
+              (λ m. or-left _ _ (j .row z y m hy p q)) (below-suc l);
+        }
+
+    joining : {E : ℕ → ℕ → Bool} → Grown W n a E → (b : ℕ) → b ≤ n → Joining W n a b (ledRow W a b E)
+    unfolding ledRow
+    joining g zero l = record { grown = g; row = λ z y l hy p q. absurd (omega arith) }
+    joining g (suc b) l = joining-step b l (joining g b (omega arith))
+
+    grown-row : {U : ℕ → ℕ → Bool} → Joining W n a n U → Grown W n (suc a) U
+    grown-row j =
+        record {
+          keeps = j .grown .keeps;
+          joins =
+              λ x z y l hx lz hy p q.
+              ⊎-elim (λ m. let s : x ≡ a = m in rw s (j .row z y lz hy (rw s at p) q)) (λ m. j .grown .joins x z y m hx lz hy p q) (below-suc l);
+          sound = j .grown .sound;
+        }
+
+  -- a round goes row by row
+  grown : (a : ℕ) → a ≤ n → Grown W n a (ledRows W n a W)
+  unfolding ledRows
+  grown zero l =
       record {
-        grown =
-            record {
-              room = h .room;
-              keeps = record { all = λ x y hx hy e. more x y hx hy (g .keeps .all x y hx hy e) };
-              joins = λ x z y l hx lz hy p q. more x y hx hy (g .joins x z y l hx lz hy p q);
-              sound =
-                  λ T c i.
-                  let old = g .sound T c i in
-                  record {
-                    all =
-                        λ x y hx hy e.
-                        ⊎-elim (λ p. old .all x y hx hy p)
-                        (λ q.
-                        let r = and-right _ _ q in
-                        let s : x ≡ a = eqb-true x a (and-left _ _ q) in
-                        rw s (c .on a b y hb (i .all a b ha small (and-left _ _ r)) (old .all b y small hy (and-right _ _ r))))
-                        (or-cases _ _ (sym (h .is x y hx hy) ∙ e));
-                  };
-            };
-        row =
-            λ z y l hy p q.
-            ⊎-elim (λ m. more a y ha hy (j .row z y m hy p q))
-            (λ m.
-            let s : z ≡ b = omega arith in
-            h .is a y ha hy
-            ∙ or-right _ _ (both _ _ (eq-eqb a a refl) (both _ _ (rw s at p) (g .keeps .all b y small hy (rw s at q)))))
-            (split z b);
+        keeps = record { all = λ x y hx hy p. p };
+        joins = λ x b y l hx lb hy p q. absurd (omega arith);
+        sound = λ T c i. i;
       }
+  grown (suc a) l = grown-row (omega arith) (joining (omega arith) (grown a (omega arith)) n (omega arith))
 
-  pub joining-end : {t : List ℕ} → Joining w n a n t → Grown w n (a + 1) t
-  joining-end j =
-      record {
-        room = j .grown .room;
-        keeps = j .grown .keeps;
-        joins =
-            λ x z y l hx lz hy p q.
-            ⊎-elim (λ m. j .grown .joins x z y m hx lz hy p q)
-            (λ m. let s : x ≡ a = omega arith in rw s (j .row z y lz hy (rw s at p) q))
-            (split x a);
-        sound = j .grown .sound;
-      }
-
--- ── rounds ──
+-- a table that holds it has grown so
+grown-held : {W U : ℕ → ℕ → Bool} {n a : ℕ} {u : List ℕ} → Holds u U → Grown W n a U → Grown W n a (bitOf u)
+grown-held h g =
+    record {
+      keeps = record { all = λ x y hx hy e. h .is x y hx hy ∙ g .keeps .all x y hx hy e };
+      joins = λ x b y l hx lb hy p q. h .is x y hx hy ∙ g .joins x b y l hx lb hy p q;
+      sound = λ T c i. record { all = λ x y hx hy e. g .sound T c i .all x y hx hy (sym (h .is x y hx hy) ∙ e) };
+    }
 
 -- a round begins with a copy
-pub grown-start : {w t : List ℕ} (n : ℕ) → w ≡ t → length t ≡ 256 → Grown w n 0 t
-grown-start n e h =
-    rw e
-    (record {
-      room = h;
-      keeps = record { all = λ x y hx hy p. p };
-      joins = λ x b y l hx lb hy p q. absurd (omega arith);
-      sound = λ T c i. i;
-    })
+pub round-copied : (n : ℕ) {t v u : List ℕ} → v ≡ t → Holds u (ledRows (bitOf v) n n (bitOf t)) → Holds u (ledRows (bitOf t) n n (bitOf t))
+round-copied n e h = rw e at h
 
-pub grown-copied : {t v u : List ℕ} (n : ℕ) → v ≡ t → Grown v n n u → Grown t n n u
-grown-copied n e g = rw e at g
+-- ── rounds ──
 
 -- after k rounds the table has what leads by way of numbers below k, and nothing that does not lead
 pub record Rounds (E : ℕ → ℕ → Bool) (n k : ℕ) (t : List ℕ) : Type 0 where
@@ -129,11 +174,12 @@ module _ {s : List ℕ} {n : ℕ} (w : Under n s) where
       }
 
   -- one round more
-  pub rounds-step : {t u : List ℕ} (k : ℕ) → k < n → Rounds (bitOf s) n k t → Grown t n n u → Rounds (bitOf s) n (k + 1) u
-  rounds-step {t} {u} k l r g =
+  pub rounds-step : {t u : List ℕ} (k : ℕ) → k < n → Rounds (bitOf s) n k t → Holds u (ledRows (bitOf t) n n (bitOf t)) → Rounds (bitOf s) n (k + 1) u
+  rounds-step {t} {u} k l r h =
+      let g = grown-held h (grown {W = bitOf t} (w .few) n (omega arith)) in
       record {
         upto = omega arith;
-        room = g .room;
+        room = h .room;
         within = g .sound (via (bitOf s) n) (record { on = via-on (bitOf s) n }) (record { all = r .within }) .all;
         has =
             λ x y hx hy e.
@@ -145,7 +191,7 @@ module _ {s : List ℕ} {n : ℕ} (w : Under n s) where
       }
 
   -- a table that a round leaves as it is could take all rounds that are left
-  rounds-still : {t : List ℕ} (d k : ℕ) → k + d ≡ n → Rounds (bitOf s) n k t → Grown t n n t → Rounds (bitOf s) n n t
+  rounds-still : {t : List ℕ} (d k : ℕ) → k + d ≡ n → Rounds (bitOf s) n k t → Holds t (ledRows (bitOf t) n n (bitOf t)) → Rounds (bitOf s) n n t
   rounds-still zero k e r h = let q : k ≡ n = omega arith in rw q at r
   rounds-still (suc d) k e r h = rounds-still d (k + 1) (omega arith) (rounds-step k (omega arith) r h) h
 
@@ -154,7 +200,7 @@ module _ {s : List ℕ} {n : ℕ} (w : Under n s) where
   rounds-end r = record { room = r .room; is = λ x y hx hy. same-test _ _ (r .within x y hx hy) (r .has x y hx hy) }
 
   -- and so it does after a round that changed nothing: v is the copy that the round began with
-  pub rounds-stop : {t u v : List ℕ} (k : ℕ) → Rounds (bitOf s) n k t → Grown t n n u → v ≡ t → u ≡ v → Holds u (via (bitOf s) n) × (v ≡ u)
+  pub rounds-stop : {t u v : List ℕ} (k : ℕ) → Rounds (bitOf s) n k t → Holds u (ledRows (bitOf t) n n (bitOf t)) → v ≡ t → u ≡ v → Holds u (via (bitOf s) n) × (v ≡ u)
   rounds-stop {t} {u} k r h p q =
       let e : u ≡ t = q ∙ p in
       (rw e (rounds-end (rounds-still (n - k) k (omega (arith, r .upto)) r (rw e at h))), sym q)

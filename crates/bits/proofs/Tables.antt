@@ -12,10 +12,9 @@ use lib.ListN.{length, getD, set, length-set}
 use lib.Seq.{getD-set-same, getD-set-other, ext-getD}
 use borrow.Author.Tests.{eqb-true, eqb-false, eq-eqb, ne-eqb, le-ltb}
 use Rattle.base.specs.Base.{_and_, _or_}
-use Rattle.base.proofs.Tests.{ifso, split, same-test, both, and-left, and-right, and-on, and-no-left, and-no-right, or-on, or-assoc}
+use Rattle.base.proofs.Tests.{ifso, split, same-test, both, and-left, and-right, and-on, and-no-left, and-no-right, or-on, or-off, or-assoc, same-eqb}
 use Rattle.bits.specs.Bits.{testBit, bitOf, Holds, nothing, either, plusBit, plusRow}
-use Rattle.base.proofs.Tests.{or-off, same-eqb}
-use Rattle.bits.proofs.Words.{testBit-zero, testBit-or, testBit-one, word-one}
+use Rattle.bits.proofs.Words.{testBit-zero, testBit-or, testBit-one}
 
 -- ── what a table holds ──
 
@@ -26,25 +25,6 @@ holds-self t h = record { room = h; is = λ x y hx hy. refl }
 -- only what is said below 128 counts
 pub holds-same : {t : List ℕ} {f g : ℕ → ℕ → Bool} → Holds t f → ((x y : ℕ) → x < 128 → y < 128 → f x y ≡ g x y) → Holds t g
 holds-same h e = record { room = h .room; is = λ x y hx hy. h .is x y hx hy ∙ e x y hx hy }
-
--- bit k of word i, by its row and column
-word-bit : (t : List ℕ) (i k : ℕ) → k < 64 → bitOf t (i / 2) (64 * (i % 2) + k) ≡ testBit (getD t i 0) k
-unfolding bitOf
-word-bit t i k h =
-    let e : 2 * (i / 2) + (64 * (i % 2) + k) / 64 ≡ i = omega arith in
-    let m : (64 * (i % 2) + k) % 64 ≡ k = omega arith in
-    rw (e, m)
-
--- a relation is held by one table of 64-bit words
-pub holds-one : {t u : List ℕ} {f : ℕ → ℕ → Bool} → Holds t f → Holds u f → ((i : ℕ) → getD t i 0 < 2 ^ 64) → ((i : ℕ) → getD u i 0 < 2 ^ 64) → t ≡ u
-holds-one {t} {u} p q ht hu =
-    ext-getD 0 t u (p .room ∙ sym (q .room))
-    (λ i l.
-    word-one 64 (getD t i 0) (getD u i 0) (ht i) (hu i)
-    (λ k h.
-    let x : i / 2 < 128 = omega (arith, p .room) in
-    let y : 64 * (i % 2) + k < 128 = omega arith in
-    sym (word-bit t i k h) ∙ p .is _ _ x y ∙ sym (q .is _ _ x y) ∙ word-bit u i k h))
 
 -- ── words rewritten one after the other ──
 

@@ -1,5 +1,5 @@
 -- A table of bits: 128 rows of two words of 64 bits.
-use Prim.Native.Nat.{ℕ, _+_, _*_, _/_, _%_, _^_, _≤_, _<_}
+use Prim.Native.Nat.{ℕ, zero, suc, _+_, _*_, _/_, _%_, _^_, _≤_, _<_}
 use mathlib.Core.Path.{_≡_}
 use mathlib.Core.Bool.{Bool, true, false}
 use mathlib.Core.List.{List}
@@ -40,21 +40,15 @@ plusRow E a r x y = E x y or (eqb x a and r y)
 unfoldable pub through : (ℕ → ℕ → Bool) → (ℕ → ℕ → Bool) → ℕ → ℕ → ℕ → Bool
 through W E x b y = W x b and E b y
 
--- t's pairs are all in T
-pub record Within (t : List ℕ) (T : ℕ → ℕ → Bool) : Type 0 where
-  pub all : (x y : ℕ) → x < 128 → y < 128 → bitOf t x y ≡ true → T x y ≡ true
+-- row a of E gets the rows of the numbers below n that W leads to from a, one after the other, as far as they have grown
+unfoldable pub ledRow : (ℕ → ℕ → Bool) → ℕ → ℕ → (ℕ → ℕ → Bool) → ℕ → ℕ → Bool
+ledRow W a zero E = E
+ledRow W a (suc n) E = plusRow (ledRow W a n E) a (through W (ledRow W a n E) a n)
 
--- T has what it leads to by way of a number below n
-pub record Closed (n : ℕ) (T : ℕ → ℕ → Bool) : Type 0 where
-  pub on : (x b y : ℕ) → b < n → T x b ≡ true → T b y ≡ true → T x y ≡ true
-
--- u was made of w in a round that has come to row a: it has w's pairs, in the rows before a also what w leads to by way of a number below n,
--- and nothing that a closed relation with w's pairs has not
-pub record Grown (w : List ℕ) (n a : ℕ) (u : List ℕ) : Type 0 where
-  pub room : length u ≡ 256
-  pub keeps : Within w (bitOf u)
-  pub joins : (x b y : ℕ) → x < a → x < 128 → b < n → y < 128 → bitOf w x b ≡ true → bitOf w b y ≡ true → bitOf u x y ≡ true
-  pub sound : (T : ℕ → ℕ → Bool) → Closed n T → Within w T → Within u T
+-- .. each of the first m rows, in ascending order
+unfoldable pub ledRows : (ℕ → ℕ → Bool) → ℕ → ℕ → (ℕ → ℕ → Bool) → ℕ → ℕ → Bool
+ledRows W n zero E = E
+ledRows W n (suc m) E = ledRow W m n (ledRows W n m E)
 
 -- a table whose pairs are all of numbers below n
 pub record Under (n : ℕ) (t : List ℕ) : Type 0 where

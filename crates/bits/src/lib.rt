@@ -2,10 +2,10 @@
 ghost use mathlib.Core.Path.{_≡_};
 ghost use mathlib.Core.Bool.{true};
 ghost use mathlib.Core.Logic.{_↔_};
-ghost use Prim.Native.Nat.{_+_, _≤_, _<_};
+ghost use Prim.Native.Nat.{_≤_, _<_};
 ghost use lib.ListN.{length};
 ghost use Rattle.theory.specs.Leads.{via};
-ghost use Rattle.bits.specs.Bits.{bitOf, Holds, Under, Grown, nothing, either, plusBit, plusRow, through};
+ghost use Rattle.bits.specs.Bits.{bitOf, Holds, Under, nothing, either, plusBit, plusRow, through, ledRow, ledRows};
 
 // Whether row a has bit b.
 pub fn bit(t: &[u64], a: usize, b: usize) -> bool
@@ -100,8 +100,8 @@ fn lead_by(t: &mut [u64], w: &[u64], a: usize, b: usize)
 
 // Row a of t gets the rows of t that w leads to from a, as far as they have grown.
 fn lead_row(t: &mut [u64], w: &[u64], n: usize, a: usize)
-    requires { ⌜ Grown (now w) n a (now t) × (length (now w) ≡ 256) × (n ≤ 128) × (a < 128) ⌝ }
-    ensures { λ r. ⌜ Grown (now (w .entry)) n (a + 1) (now (t .exit)) ⌝ }
+    requires { ⌜ (length (now t) ≡ 256) × (length (now w) ≡ 256) × (n ≤ 128) × (a < 128) ⌝ }
+    ensures { λ r. ⌜ Holds (now (t .exit)) (ledRow (bitOf (now (w .entry))) a n (bitOf (now (t .entry)))) ⌝ }
 {
     let mut b = 0;
     while b < n {
@@ -112,8 +112,8 @@ fn lead_row(t: &mut [u64], w: &[u64], n: usize, a: usize)
 
 // Each of the first n rows does, in ascending order.
 fn lead_rows(t: &mut [u64], w: &[u64], n: usize)
-    requires { ⌜ Grown (now w) n 0 (now t) × (length (now w) ≡ 256) × (n ≤ 128) ⌝ }
-    ensures { λ r. ⌜ Grown (now (w .entry)) n n (now (t .exit)) ⌝ }
+    requires { ⌜ (length (now t) ≡ 256) × (length (now w) ≡ 256) × (n ≤ 128) ⌝ }
+    ensures { λ r. ⌜ Holds (now (t .exit)) (ledRows (bitOf (now (w .entry))) n n (bitOf (now (t .entry)))) ⌝ }
 {
     let mut a = 0;
     while a < n {
@@ -125,7 +125,7 @@ fn lead_rows(t: &mut [u64], w: &[u64], n: usize)
 // One round: w, a copy of the whole table, tells which rows are joined.
 fn round(t: &mut [u64], w: &mut [u64], n: usize)
     requires { ⌜ (length (now t) ≡ 256) × (length (now w) ≡ 256) × (n ≤ 128) ⌝ }
-    ensures { λ r. ⌜ Grown (now (t .entry)) n n (now (t .exit)) × (now (w .exit) ≡ now (t .entry)) ⌝ }
+    ensures { λ r. ⌜ Holds (now (t .exit)) (ledRows (bitOf (now (t .entry))) n n (bitOf (now (t .entry)))) × (now (w .exit) ≡ now (t .entry)) ⌝ }
 {
     copy(t, w);
     lead_rows(t, w, n);

@@ -1,31 +1,21 @@
 -- Laws of a record's fields and framing.
 use Prim.Native.Nat.{ℕ, zero, suc, _+_, _-_, _*_, _^_, _≤_, _<_, min}
 use mathlib.Core.Path.{_≡_, refl, ap, sym, _∙_}
-use mathlib.Core.Bool.{Bool, true, false, true≢false}
+use mathlib.Core.Bool.{true, false}
 use mathlib.Core.List.{List, [], _∷_, _++_}
 use native.Mathlib.Omega.{arith}
 use native.Mathlib.Nat.{suc-add, pow-suc, mul-assoc, mul-comm}
 use lib.ListN.{length, getD, drop, length-take, length-drop}
 use lib.Dec.{ltb}
 use borrow.Author.Tests.{ltb-true, ltb-false, lt-ltb, le-ltb}
-use Rattle.base.specs.Base.{_or_, pick, Row, row, firstFit}
-use Rattle.base.proofs.Tests.{ifso, pick-on, pick-off}
+use Rattle.base.specs.Base.{pick, Row, row, firstFit}
+use Rattle.base.proofs.Tests.{ifso, neither-left, neither-right, pick-on, pick-off}
 use Rattle.rules.specs.Numbers.{le, part}
-use Rattle.rules.specs.Records.{lenAt, kindAt, nextAt, lows, highs, eventAt, breaks, isUnknown, isMisfit, frameRows}
+use Rattle.rules.specs.Records.{lenAt, kindAt, nextAt, lows, highs, eventOf, eventAt, breaks, isUnknown, isMisfit, frameRows}
 use Rattle.rules.specs.declared.Event.{Event}
 use Rattle.frame.specs.Framing.{Fit, framing}
 use Rattle.frame.specs.declared.Framed.the-variants as F
-use Rattle.frame.proofs.Rows.{fit-past, fit-here, fit-unfit, RowsCounted, fit-behind}
-
-or-off-left : (a b : Bool) → a or b ≡ false → a ≡ false
-unfolding _or_
-or-off-left true b e = e
-or-off-left false b e = refl
-
-or-off-right : (a b : Bool) → a or b ≡ false → b ≡ false
-unfolding _or_
-or-off-right true b e = absurd (true≢false e)
-or-off-right false b e = e
+use Rattle.base.proofs.Rows.{fit-past, fit-here, fit-none, fit-unfit, RowsCounted, fit-behind}
 
 -- a number of m + n bytes is its lower m bytes and its upper n
 pub le-add : (m n : ℕ) (s : List ℕ) (at : ℕ) → le (m + n) s at ≡ le m s at + 256 ^ m * le n s (at + m)
@@ -50,15 +40,19 @@ part-length a e s h = length-take (e - a) (drop a s) ∙ ap (λ (n : ℕ). min (
 pub long-enough : (p : List ℕ) {kind k : ℕ} → kind ≡ k → getD lows kind 0 ≤ length p + 6 → getD lows k 0 - 6 ≤ length p
 long-enough p {kind} {k} e h = let g : getD lows k 0 ≤ length p + 6 = rw (← e) h in omega arith
 
+-- what a record of the kind k says is what one of this kind does, where k is its kind
+pub of-kind : (p : List ℕ) {kind k : ℕ} {r : Event} → kind ≡ k → r ≡ eventOf k p → r ≡ eventOf kind p
+of-kind p e h = rw e h
+
 -- kinds that are not unknown
 pub known-kind : (kind : ℕ) → isUnknown kind ≡ false → (1 ≤ kind) × (kind ≤ 6)
 unfolding isUnknown
-known-kind kind h = (ltb-false _ _ (or-off-left _ _ h), ltb-false _ _ (or-off-right _ _ h))
+known-kind kind h = (ltb-false _ _ (neither-left _ _ h), ltb-false _ _ (neither-right _ _ h))
 
 -- lengths that are this kind's
 pub fitting-length : (kind len : ℕ) → isMisfit kind len ≡ false → (getD lows kind 0 ≤ len) × (len ≤ getD highs kind 0)
 unfolding isMisfit
-fitting-length kind len h = (ltb-false _ _ (or-off-left _ _ h), ltb-false _ _ (or-off-right _ _ h))
+fitting-length kind len h = (ltb-false _ _ (neither-left _ _ h), ltb-false _ _ (neither-right _ _ h))
 
 -- what each row of a framing that passes says
 pub record Framing (s : List ℕ) (at e : ℕ) : Type 0 where
@@ -83,13 +77,24 @@ module _ (s : List ℕ) (at e : ℕ) where
   unfolding frameRows
   cut-off a b d = fit-past _ _ _ (le-ltb _ _ a) (fit-past _ _ _ (le-ltb _ _ b) (fit-here _ _ _ (lt-ltb _ _ d)))
 
-  -- "then 5, 6, length for its kind (4)"
-  abbrev pub laterRows : List Row
-  laterRows = row (breaks s at e) 5 ∷ row (isUnknown (kindAt s at)) 6 ∷ row (isMisfit (kindAt s at) (lenAt s at)) 4 ∷ []
+  -- the three length checks pass: "then 5, 6, length for its kind (4)"
+  module _ (a : at + 2 ≤ length s) (b : 6 ≤ lenAt s at) (d : nextAt s at ≤ length s) where
+    lengths-pass : {x : ℕ} → x ≡ firstFit (row (breaks s at e) 5 ∷ row (isUnknown (kindAt s at)) 6 ∷ row (isMisfit (kindAt s at) (lenAt s at)) 4 ∷ [])
+        → x ≡ firstFit (frameRows s at e)
+    unfolding frameRows
+    lengths-pass h = fit-past _ _ _ (le-ltb _ _ a) (fit-past _ _ _ (le-ltb _ _ b) (fit-past _ _ _ (le-ltb _ _ d) h))
 
-  pub lengths-pass : {x : ℕ} → at + 2 ≤ length s → 6 ≤ lenAt s at → nextAt s at ≤ length s → x ≡ firstFit laterRows → x ≡ firstFit (frameRows s at e)
-  unfolding frameRows
-  lengths-pass a b d h = fit-past _ _ _ (le-ltb _ _ a) (fit-past _ _ _ (le-ltb _ _ b) (fit-past _ _ _ (le-ltb _ _ d) h))
+    pub serial-off : breaks s at e ≡ true → 5 ≡ firstFit (frameRows s at e)
+    serial-off p = lengths-pass (fit-here _ _ _ p)
+
+    pub kind-off : breaks s at e ≡ false → isUnknown (kindAt s at) ≡ true → 6 ≡ firstFit (frameRows s at e)
+    kind-off p q = lengths-pass (fit-past _ _ _ p (fit-here _ _ _ q))
+
+    pub length-off : breaks s at e ≡ false → isUnknown (kindAt s at) ≡ false → isMisfit (kindAt s at) (lenAt s at) ≡ true → 4 ≡ firstFit (frameRows s at e)
+    length-off p q r = lengths-pass (fit-past _ _ _ p (fit-past _ _ _ q (fit-here _ _ _ r)))
+
+    pub none-off : breaks s at e ≡ false → isUnknown (kindAt s at) ≡ false → isMisfit (kindAt s at) (lenAt s at) ≡ false → 0 ≡ firstFit (frameRows s at e)
+    none-off p q r = lengths-pass (fit-past _ _ _ p (fit-past _ _ _ q (fit-past _ _ _ r fit-none)))
 
   pub passed : firstFit (frameRows s at e) ≡ 0 → Framing s at e
   unfolding frameRows

@@ -14,7 +14,7 @@ use Rattle.rules.specs.declared.Event.{Event}
 use Rattle.rules.specs.declared.Event.the-variants.{Open, Read, Write, Close, End, Note, Other}
 use Rattle.frame.specs.Framing.{Fit}
 use Rattle.trace.specs.Turns.{noAt}
-use Rattle.trace.proofs.Tallies.{nth-more, nth-none}
+use Rattle.base.proofs.Numbered.{nth-more, nth-none}
 use Rattle.trace.proofs.Turning.{fit-at}
 
 -- ── stretches ──
@@ -27,7 +27,7 @@ pub record AllIn (n : ℕ) (notes : List Stretch) : Type 0 where
   pub at : (k : ℕ) → EndsBy n (nth notes k nowhere)
 
 none-in : (n : ℕ) → AllIn n []
-none-in n = record { at = λ k. subst (EndsBy n) (sym (nth-none k)) (omega arith) }
+none-in n = record { at = λ k. subst (EndsBy n) (sym (nth-none k nowhere)) (omega arith) }
 
 one-in : (n : ℕ) (b : Bool) (x y : Stretch) → EndsBy n x → EndsBy n y → EndsBy n (pick b x y)
 unfolding pick
@@ -35,7 +35,7 @@ one-in n true x y p q = p
 one-in n false x y p q = q
 
 more-in : {n : ℕ} {l : List Stretch} (x : Stretch) → AllIn n l → EndsBy n x → AllIn n (l ++ (x ∷ []))
-more-in {n} {l} x a p = record { at = λ k. subst (EndsBy n) (sym (nth-more l x k)) (one-in n _ x (nth l k nowhere) p (a .at k)) }
+more-in {n} {l} x a p = record { at = λ k. subst (EndsBy n) (sym (nth-more l x k nowhere)) (one-in n _ x (nth l k nowhere) p (a .at k)) }
 
 -- behind a record that lies within the trace
 text-in : (s : List ℕ) (at : ℕ) (l : List Stretch) → Fit s at → AllIn (length s) l → (e : Event) → AllIn (length s) (l ++ textAt s at e)

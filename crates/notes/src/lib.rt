@@ -3,6 +3,7 @@ ghost use mathlib.Core.Path.{_≡_};
 ghost use lib.Dec.{ltb, leb};
 ghost use Rattle.base.specs.Base.{_and_};
 ghost use Rattle.rules.specs.Notes.{told, noted, bytesOf};
+ghost use Rattle.notes.specs.Places.{placeOf};
 use rules::NoteAnswer;
 use trace::Out;
 
@@ -33,9 +34,9 @@ pub fn note_answer(s: &[u8], k: usize) -> NoteAnswer
     }
 }
 
-// The text of note number k, a part of the trace; "a refusal hands back an empty stretch".
+// The text of note number k, a part of the trace: its bytes, and where they are; "a refusal hands back an empty stretch", at the trace's first byte.
 pub fn note(s: &[u8], k: usize) -> &[u8]
-    ensures { λ r. ⌜ now r ≡ bytesOf (now (s .entry)) (noted (now (s .entry)) k .stretch) ⌝ }
+    ensures { λ r. ⌜ (now r ≡ bytesOf (now (s .entry)) (noted (now (s .entry)) k .stretch)) × (r .ptr ≡ placeOf (s .entry .ptr) (noted (now (s .entry)) k .stretch)) ⌝ }
 {
     let answer = note_answer(s, k);
     match answer {

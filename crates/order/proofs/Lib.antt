@@ -1,2 +1,3 @@
 pub mod Sets
 pub mod Steps
+pub mod One

@@ -10,13 +10,12 @@ use lib.Dec.{eqb, ltb}
 use lib.ListN.{getD}
 use borrow.Author.Tests.{eq-eqb, ne-eqb, lt-ltb, le-ltb}
 use Rattle.base.specs.Base.{_and_, _or_, some}
-use Rattle.base.proofs.Tests.{known, ifso, clash, is-false, not-true, not-false, both, and-left, and-right, and-on, and-no-left, and-no-right, or-cases, or-left, or-right, or-on, pick-on, pick-off, same-test, split}
+use Rattle.base.proofs.Tests.{known, ifso, clash, is-false, not-true, not-false, both, and-left, and-right, and-on, and-no-left, and-no-right, or-cases, or-left, or-right, or-on, or-off, pick-on, pick-off, and-true, same-eqb, same-test, split, below-more}
 use Rattle.base.proofs.Searches.{some-at, some-of, none-at}
 use Rattle.bits.specs.Bits.{testBit, bitOf}
-use Rattle.base.proofs.Tests.{or-off, and-true, same-eqb, below-more}
 use Rattle.bits.proofs.Words.{testBit-zero, testBit-or, testBit-one, word-one}
 use Rattle.order.specs.declared.Words.{Words}
-use Rattle.order.specs.Sets.{inWords, Plus, Given, Empty, Gathered, lacks}
+use Rattle.order.specs.Sets.{words, inWords, Plus, Given, Gathered, lacks}
 use Rattle.order.specs.Ordering.{waits, isNext}
 
 -- ── a set's words ──
@@ -31,14 +30,9 @@ module _ (w : Words) (a : ℕ) where
   in-high l = pick-off _ _ _ (le-ltb a 64 l)
 
 -- words without bits are a set without numbers
-pub empty-words : (w : Words) → w .lo ≡ 0 → w .hi ≡ 0 → Empty w
-empty-words w p q =
-    record {
-      is =
-          λ x l.
-          ⊎-elim (λ h. in-low w x h ∙ ap (λ (v : ℕ). testBit v x) p ∙ testBit-zero x)
-          (λ h. in-high w x h ∙ ap (λ (v : ℕ). testBit v (x - 64)) q ∙ testBit-zero (x - 64)) (split x 64);
-    }
+pub in-none : (x : ℕ) → inWords (words 0 0) x ≡ false
+in-none x =
+    ⊎-elim (λ h. in-low (words 0 0) x h ∙ testBit-zero x) (λ h. in-high (words 0 0) x h ∙ testBit-zero (x - 64)) (split x 64)
 
 -- ── a set that gets a number, word by word ──
 
@@ -77,8 +71,8 @@ plus-words w a v p q =
 -- ── for callers: a set gathered number by number ──
 
 module _ (p : ℕ → Bool) where
-  pub gather-start : {w : Words} → Empty w → Gathered p 0 w
-  gather-start e = record { is = λ x l. e .is x l ∙ sym (and-no-left _ _ (le-ltb x 0 (omega arith))) }
+  pub gather-start : {w : Words} → w ≡ words 0 0 → Gathered p 0 w
+  gather-start e = rw e (record { is = λ x l. in-none x ∙ sym (and-no-left _ _ (le-ltb x 0 (omega arith))) })
 
   pub gather-hit : {w v : Words} (a : ℕ) → Gathered p a w → p a ≡ true → Plus w a v → Gathered p (a + 1) v
   gather-hit a g q plus =

@@ -1,16 +1,16 @@
 -- One place of the order, as the code fills it.
-use Prim.Native.Nat.{ℕ, suc, _+_, _-_, _<_, _≤_}
+use Prim.Native.Nat.{ℕ, suc, _+_, _<_, _≤_}
 use mathlib.Core.Path.{_≡_, refl, sym, ap, _∙_}
-use mathlib.Core.Bool.{Bool, true, false}
+use mathlib.Core.Bool.{Bool}
 use mathlib.Core.List.{List, [], _∷_, _++_}
 use native.Mathlib.Omega.{arith}
 use native.Mathlib.Numerals.{add-one}
 use lib.Dec.{eqb}
 use lib.ListN.{length, take, set, length-set}
 use lib.Seq.{take-suc-set}
-use Rattle.base.specs.Base.{_or_, some, first, count}
-use Rattle.base.proofs.Tests.{ifso, and-left, same-test}
-use Rattle.base.proofs.Searches.{downward, count-hit, count-miss, count-end, some-at, some-of, first-same}
+use Rattle.base.specs.Base.{_or_, some, first}
+use Rattle.base.proofs.Tests.{and-left, same-test}
+use Rattle.base.proofs.Searches.{count-most, some-at, some-of, first-same}
 use Rattle.base.proofs.Fill.{Appended, appended-none, appended-then, one}
 use Rattle.theory.specs.Order.{mem, misses, ready, unplaced, next, rest}
 use Rattle.theory.proofs.Order.{rest-step, rest-end, unplaced-step, unplaced-all}
@@ -19,7 +19,7 @@ use Rattle.bits.specs.Bits.{Under}
 use Rattle.order.specs.declared.Words.{Words}
 use Rattle.order.specs.Sets.{words, inWords, Plus}
 use Rattle.order.specs.Ordering.{standsBefore, waits, isNext, Orderable}
-use Rattle.order.proofs.Sets.{empty-words}
+use Rattle.order.proofs.Sets.{in-none}
 
 module _ {f : List ℕ} {n : ℕ} {m p : Words} {o : List ℕ} {at : ℕ} (w : Orderable f n m p o at) where
   -- what is missing in p is what is missing among the bytes
@@ -88,20 +88,13 @@ module _ {f : List ℕ} {n : ℕ} {m p : Words} {o : List ℕ} {at : ℕ} (w : O
     pub order-end : n ≤ x → Appended o at o at (rest n (inWords m) (standsBefore f) (take at o))
     order-end g = rw (rest-end n (inWords m) (standsBefore f) (take at o) (omega (arith, next-is e))) (appended-none o at (omega (arith, w .room, w .whole)))
 
--- there is a byte for each number below 128
-count-most : (p : ℕ → Bool) (e j : ℕ) → count j e p ≤ e - j
-count-most p e =
-    downward (λ j. count j e p ≤ e - j) e (λ j g. omega (arith, count-end p j e g))
-    (λ j l ih.
-    ifso (p j) (λ (t : p j ≡ true). omega (arith, count-hit p j e l t)) (λ (t : p j ≡ false). omega (arith, count-miss p j e l t)))
-
 -- at first nothing is placed
 pub order-start : {f : List ℕ} {n : ℕ} {o : List ℕ} (m : Words) → Under n f → length o ≡ 128 → Orderable f n m (words 0 0) o 0
 unfolding mem
 order-start {n = n} m u h =
     record {
       table = u;
-      placed = λ x l. empty-words (words 0 0) refl refl .is x l;
+      placed = λ x l. in-none x;
       whole = h;
       room = omega (arith, unplaced-all n (inWords m), count-most (inWords m) n 0, u .few);
     }

@@ -1,7 +1,7 @@
 -- Sets of numbers below 128, held in two words.
 use Prim.Native.Nat.{ℕ, _+_, _-_, _<_}
 use mathlib.Core.Path.{_≡_}
-use mathlib.Core.Bool.{Bool, false, not}
+use mathlib.Core.Bool.{Bool, not}
 use lib.Dec.{ltb, eqb}
 use Rattle.base.specs.Base.{_and_, _or_, pick}
 use Rattle.bits.specs.Bits.{testBit}
@@ -22,10 +22,6 @@ pub record Plus (w : Words) (a : ℕ) (v : Words) : Type 0 where
 -- v is the word u, of the 64 numbers from b on, and the number a, if it is one of them
 pub record Given (b u a v : ℕ) : Type 0 where
   pub is : (k : ℕ) → k < 64 → testBit v k ≡ testBit u k or eqb (b + k) a
-
--- w has none
-pub record Empty (w : Words) : Type 0 where
-  pub is : (x : ℕ) → x < 128 → inWords w x ≡ false
 
 -- w has the numbers below n that pass p, and no other
 pub record Gathered (p : ℕ → Bool) (n : ℕ) (w : Words) : Type 0 where

@@ -8,7 +8,7 @@ ghost use Rattle.base.specs.Base.{some, first};
 ghost use Rattle.base.proofs.Fill.{Appended};
 ghost use Rattle.theory.specs.Order.{rest};
 ghost use Rattle.bits.specs.Bits.{Under};
-ghost use Rattle.order.specs.Sets.{words, inWords, Plus, Empty, Given, lacks};
+ghost use Rattle.order.specs.Sets.{words, inWords, Plus, Given, lacks};
 ghost use Rattle.order.specs.Ordering.{standsBefore, waits, isNext, Orderable};
 
 // A set of numbers below 128.
@@ -19,7 +19,7 @@ pub struct Words {
 
 // The set without numbers.
 pub fn none() -> Words
-    ensures { λ r. ⌜ Empty r ⌝ }
+    ensures { λ r. ⌜ r ≡ words 0 0 ⌝ }
 {
     Words { lo: 0, hi: 0 }
 }

@@ -7,10 +7,9 @@ use native.Mathlib.Omega.{arith}
 use borrow.Author.Tests.{eqb-true}
 use Rattle.base.specs.Base.{some, last}
 use Rattle.base.proofs.Searches.{some-end}
-use Rattle.base.proofs.Chains.{last-passes, top-hit, top-miss, top-chain}
+use Rattle.base.proofs.Chains.{last-passes, last-less, top-hit, top-miss, top-chain}
 use Rattle.rules.specs.History.{History, op, opCount}
 use Rattle.table.specs.Table.{historyOf, ofTx, lastBelow, lastOf, prevOf, Held, HasOp, Below}
-use Rattle.table.proofs.Grown.{last-less}
 use Rattle.pairs.specs.Pairs.{OnChain}
 
 -- ── where it stands ──

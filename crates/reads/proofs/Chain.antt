@@ -1,13 +1,13 @@
 -- What a transaction wrote is found among its own operations, from the last one backwards.
 use Prim.Native.Nat.{ℕ, _+_, _<_, _≤_}
-use mathlib.Core.Path.{_≡_, refl, sym, _∙_}
+use mathlib.Core.Path.{_≡_, refl, ap, sym, _∙_}
 use mathlib.Core.Bool.{Bool, true, false}
 use mathlib.Core.Logic.{⊎-elim}
 use native.Mathlib.Omega.{arith}
 use lib.Dec.{eqb}
 use borrow.Author.Tests.{eqb-true, eq-eqb}
 use Rattle.base.specs.Base.{_and_}
-use Rattle.base.proofs.Tests.{and-left, and-right, split}
+use Rattle.base.proofs.Tests.{and-left, and-right, and-true, split}
 use Rattle.base.proofs.Searches.{some-end}
 use Rattle.base.proofs.Chains.{last-passes, top-hit, top-miss, top-chain}
 use Rattle.rules.specs.History.{History, op, opCount}
@@ -20,14 +20,9 @@ writes-own : (h : History) (t x i : ℕ) → writesAt h t x i ≡ true → ofTx 
 unfolding writesAt ofTx
 writes-own h t x i e = and-right (op h i .isWrite) (eqb (op h i .tx) t) (and-left (op h i .isWrite and eqb (op h i .tx) t) (eqb (op h i .key) x) e)
 
-and-middle : (a b c : Bool) → b ≡ true → a and b and c ≡ a and c
-unfolding _and_
-and-middle true b c e = rw e
-and-middle false b c e = refl
-
 own-key : (h : History) (x i : ℕ) → writesAt h (op h i .tx) x i ≡ writesKeyAt h x i
 unfolding writesAt writesKeyAt
-own-key h x i = and-middle (op h i .isWrite) (eqb (op h i .tx) (op h i .tx)) (eqb (op h i .key) x) (eq-eqb (op h i .tx) (op h i .tx) refl)
+own-key h x i = ap (λ (b : Bool). b and eqb (op h i .key) x) (and-true (op h i .isWrite) _ (eq-eqb (op h i .tx) (op h i .tx) refl))
 
 -- what t writes below e it writes up to its last operation below e, number j
 module _ (h : History) (t x a e j : ℕ) (q : j ≡ lastBelow h t e) where

@@ -2,15 +2,16 @@
 use Prim.Native.Nat.{ℕ, _+_, _<_, _≤_}
 use mathlib.Core.Path.{_≡_, refl, ap, sym}
 use mathlib.Core.Bool.{Bool, true, false}
-use mathlib.Core.List.{List, [], _∷_}
+use mathlib.Core.List.{List, _∷_}
 use mathlib.Core.Logic.{⊎-elim}
 use native.Mathlib.Omega.{arith}
 use native.Mathlib.Decide.{ℕ-discrete}
 use lib.ListN.{List·getD-eq-default}
 use lib.Dec.{ltb, eqb}
 use borrow.Author.Tests.{eq-eqb, ne-eqb, lt-ltb}
-use Rattle.base.specs.Base.{_and_, _or_, pick, Row, row, firstFit}
-use Rattle.base.proofs.Tests.{known, clash, pick-on, pick-off, split}
+use Rattle.base.specs.Base.{_and_, _or_, pick, firstFit}
+use Rattle.base.proofs.Tests.{known, clash, and-no-right, pick-on, pick-off, split}
+use Rattle.base.proofs.Rows.{fit-none, fit-most}
 use Rattle.base.proofs.Searches.{some-end}
 use Rattle.rules.specs.History.{History, tx, op, txCount, opCount, zeroth, noTx, committed, writeOf}
 use Rattle.rules.specs.Reads.{writesAt, wroteBetween, originOf, sourceOf, kindBy, kindOf}
@@ -68,11 +69,6 @@ unfolding wroteBetween
 between-less h t x a e s =
     ⊎-elim (λ l. lt-ltb a e l) (λ g. absurd (clash s (some-end (writesAt h t x) (a + 1) e (omega arith)))) (split a e)
 
-and-none : (a : Bool) → a and false ≡ false
-unfolding _and_
-and-none true = refl
-and-none false = refl
-
 module _ (h : History) (i t x v : ℕ) where
   pub kind-thin-air : (u : ℕ) → (v ≡ 0 → ⊥) → 1 ≡ kindBy h i t x v 0 u
   unfolding kindBy firstFit _and_ _or_
@@ -88,7 +84,7 @@ module _ (h : History) (i t x v : ℕ) where
     unfolding kindBy firstFit _and_ _or_ pick
     kind-own true d p q = rw (ne-eqb v 0 n, ne-eqb w 0 (λ e. omega arith), eq-eqb t t refl, p)
     kind-own false true p q = rw (ne-eqb v 0 n, ne-eqb w 0 (λ e. omega arith), eq-eqb t t refl, p, between-less h t x w i q, q)
-    kind-own false false p q = rw (ne-eqb v 0 n, ne-eqb w 0 (λ e. omega arith), eq-eqb t t refl, p, q, and-none (ltb w i))
+    kind-own false false p q = rw (ne-eqb v 0 n, ne-eqb w 0 (λ e. omega arith), eq-eqb t t refl, p, q, and-no-right (ltb w i) false refl)
 
     pub kind-other : (u : ℕ) → (u ≡ t → ⊥) → (a b d : Bool) → committed h u ≡ a → wroteBetween h t x 0 i ≡ b → wroteBetween h u x w (opCount h + 1) ≡ d
         → pick a (pick b 5 (pick d 6 0)) 2 ≡ kindBy h i t x v w u
@@ -105,16 +101,7 @@ unfolding kindOf
 kind-is h i x v w u b c e f = rw (b, c, f, e)
 
 -- none is above 6
-fit : (rs : List Row) (b : Bool) (n : ℕ) → n ≤ 6 → firstFit rs ≤ 6 → firstFit (row b n ∷ rs) ≤ 6
-unfolding firstFit
-fit rs true n l f = l
-fit rs false n l f = f
-
-fit-none : firstFit [] ≤ 6
-unfolding firstFit
-fit-none = omega arith
-
 pub kind-le : (h : History) (i : ℕ) → kindOf h i ≤ 6
 unfolding kindOf kindBy
 kind-le h i =
-    fit _ _ 1 (omega arith) (fit _ _ 2 (omega arith) (fit _ _ 3 (omega arith) (fit _ _ 4 (omega arith) (fit _ _ 5 (omega arith) (fit _ _ 6 (omega arith) fit-none)))))
+    fit-most _ 1 _ (omega arith) (fit-most _ 2 _ (omega arith) (fit-most _ 3 _ (omega arith) (fit-most _ 4 _ (omega arith) (fit-most _ 5 _ (omega arith) (fit-most _ 6 _ (omega arith) (omega (arith, fit-none)))))))

@@ -10,13 +10,12 @@ use borrow.Author.Tests.{eqb-true, eqb-false, eq-eqb, ne-eqb}
 use Rattle.base.specs.Base.{_and_, _or_, last}
 use Rattle.base.proofs.Tests.{clash, is-false, same-test, both, and-left, and-right, and-no-left, or-cases, or-on, or-off, not-true}
 use Rattle.base.proofs.Searches.{Passing, some-at, some-of, some-same, some-none}
-use Rattle.base.proofs.Chains.{last-passes}
+use Rattle.base.proofs.Chains.{last-passes, last-less}
 use Rattle.theory.specs.Leads.{via}
 use Rattle.rules.specs.History.{History, op, opCount, size, committed}
 use Rattle.rules.specs.Reads.{sourceOf, isExternal}
 use Rattle.rules.specs.Levels.{basic, writesKey, sees, settles, isRival, forced}
 use Rattle.table.specs.Table.{historyOf, lastOf, prevOf, Held, Below}
-use Rattle.table.proofs.Grown.{last-less}
 use Rattle.reads.proofs.Fitting.{source-less}
 use Rattle.bits.specs.Bits.{bitOf, Holds, Under, nothing, either}
 use Rattle.bits.proofs.Tables.{holds-same}

@@ -12,14 +12,11 @@ use lib.Dec.{eqb}
 use borrow.Author.Tests.{ne-eqb}
 use Rattle.base.specs.Base.{_and_, last}
 use Rattle.base.proofs.Tests.{split, ifso}
-use Rattle.base.proofs.Chains.{last-passes, last-is, last-hit, last-miss, last-same}
+use Rattle.base.proofs.Chains.{last-less, last-is, last-hit, last-miss, last-same}
 use Rattle.rules.specs.History.{History, Tx, Op, op, opCount, noOp, withOp}
 use Rattle.table.specs.Table.{ofTx, lastBelow, lastOf, prevOf, bucketOf, inBucket, headOf, linkOf}
 
 -- ── bounds ──
-
-pub last-less : (p : ℕ → Bool) (n : ℕ) → 1 ≤ n → last p n < n
-last-less p n a = ⊎-elim (λ z. last-passes p n z .1) (λ z. omega arith) (split 0 (last p n))
 
 pub last-of-less : (h : History) (t : ℕ) → lastOf h t < opCount h + 1
 unfolding lastOf lastBelow

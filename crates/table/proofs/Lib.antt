@@ -2,3 +2,4 @@ pub mod Grown
 pub mod Words
 pub mod Stores
 pub mod Walks
+pub mod One

@@ -13,10 +13,11 @@ use lib.Dec.{eqb}
 use borrow.Author.Tests.{eq-eqb, ne-eqb, eqb-true, eqb-false}
 use Rattle.base.specs.Base.{pick, numbered}
 use Rattle.base.proofs.Tests.{clash, ifso, split, and-left, and-right, and-on, pick-on, pick-off}
+use Rattle.base.proofs.Chains.{last-less}
 use Rattle.base.proofs.Numbered.{numbered-length, numbered-same, numbered-more}
 use Rattle.rules.specs.History.{History, Tx, Op, tx, op, txCount, opCount, empty, opened, closed, withOp}
 use Rattle.table.specs.Table.{tableWords, txAt, opAt, opOf, historyOf, lastAt, prevAt, headAt, linkAt, ofTx, lastBelow, lastOf, prevOf, bucketOf, inBucket, headOf, linkOf, Held, HasTx, HoldsHistory, Becomes, noHeads, cleared, putTx, closeTx, putWords, putRead, putWrite, putOp}
-use Rattle.table.proofs.Grown.{last-less, retold, retold-op, retold-last, retold-prev, retold-head, retold-link, last-of-none, byTx, byBucket, bucket-low, with-op-old, with-op-new, with-op-last, with-op-prev}
+use Rattle.table.proofs.Grown.{retold, retold-op, retold-last, retold-prev, retold-head, retold-link, last-of-none, byTx, byBucket, bucket-low, with-op-old, with-op-new, with-op-last, with-op-prev}
 use Rattle.table.proofs.Words.{tx-count, op-count, tx-is, last-small}
 
 -- ── a table that holds x, from its parts ──
@@ -54,6 +55,11 @@ holds {g} {x} k =
     joined : (a b : History) → a .txs ≡ b .txs → a .ops ≡ b .ops → a ≡ b
     joined a b p q = λ i. record { txs = p i; ops = q i }
 
+-- where an operation's first word stays, so do the numbers that are kept with it
+word-stays : (h g : List ℕ) (i : ℕ) → getD g (128 + 2 * i) 0 ≡ getD h (128 + 2 * i) 0 → (prevAt g i ≡ prevAt h i) × (linkAt g i ≡ linkAt h i)
+unfolding prevAt linkAt
+word-stays h g i e = (rw e, rw e)
+
 -- where the words from the first operation's on stay, so does all that they say
 record Behind (h g : List ℕ) : Type 0 where
   count : getD g 0 0 / 128 ≡ getD h 0 0 / 128
@@ -64,13 +70,8 @@ module _ {h g : List ℕ} (w : Behind h g) where
   unfolding historyOf opAt
   ops-kept = rw (w .count) (numbered-same _ (opAt g) (opAt h) (λ i a b. rw (w .same (128 + 2 * i) (omega arith), w .same (129 + 2 * i) (omega arith))))
 
-  prevs-kept : (i : ℕ) → 1 ≤ i → prevAt g i ≡ prevAt h i
-  unfolding prevAt
-  prevs-kept i a = rw (w .same (128 + 2 * i) (omega arith))
-
-  links-kept : (i : ℕ) → 1 ≤ i → linkAt g i ≡ linkAt h i
-  unfolding linkAt
-  links-kept i a = rw (w .same (128 + 2 * i) (omega arith))
+  numbers-kept : (i : ℕ) → 1 ≤ i → (prevAt g i ≡ prevAt h i) × (linkAt g i ≡ linkAt h i)
+  numbers-kept i a = word-stays h g i (w .same (128 + 2 * i) (omega arith))
 
   heads-kept : (b : ℕ) → headAt g b ≡ headAt h b
   unfolding headAt
@@ -88,9 +89,9 @@ module _ {h g : List ℕ} (w : Behind h g) where
         most = p .most;
         txs-in = λ i m n. rw (retold-op (historyOf h) a i) (txs-in i m n);
         lasts = λ t m n. lasts t m n ∙ sym (retold-last (historyOf h) a t);
-        prevs = λ i m n. prevs-kept i m ∙ p .prevs i m n ∙ sym (retold-prev (historyOf h) a i);
+        prevs = λ i m n. numbers-kept i m .0 ∙ p .prevs i m n ∙ sym (retold-prev (historyOf h) a i);
         heads = λ b l. heads-kept b ∙ p .heads b l ∙ sym (retold-head (historyOf h) a b);
-        links = λ i m n t. links-kept i m ∙ p .links i m n (rw (retold-op (historyOf h) a i) at t) ∙ sym (retold-link (historyOf h) a i);
+        links = λ i m n t. numbers-kept i m .1 ∙ p .links i m n (rw (retold-op (historyOf h) a i) at t) ∙ sym (retold-link (historyOf h) a i);
       })
 
 -- ── nothing ──
@@ -249,36 +250,36 @@ module _ (h : List ℕ) (t x : ℕ) (p : HasTx h t) (small : x < 4) where
 
 -- ── one operation more ──
 
+-- a write's word has 128 more than a read's
+flag : (b : Bool) → (pick b 128 0 ≡ 128 * pick b 1 0) × (pick b 1 0 ≤ 1) × (eqb (pick b 1 0) 1 ≡ b)
+unfolding pick
+flag true = (refl, omega arith, refl)
+flag false = (refl, omega arith, refl)
+
 -- the fields of an operation's first word, whatever number q is kept above them
-word-says : (t k v q : ℕ) (b : Bool) → t < 128 → k < 4294967296 → opOf (t + pick b 128 0 + 256 * k + 1099511627776 * q) v ≡ record { tx = t; isWrite = b; key = k; value = v }
-unfolding opOf pick
-word-says t k v q true l m =
-    let a : (t + 128 + 256 * k + 1099511627776 * q) % 128 ≡ t = omega arith in
-    let d : (t + 128 + 256 * k + 1099511627776 * q) / 128 ≡ 2 * (k + 4294967296 * q) + 1 = omega arith in
-    let b : (2 * (k + 4294967296 * q) + 1) % 2 ≡ 1 = omega arith in
-    let e : (t + 128 + 256 * k + 1099511627776 * q) / 256 ≡ k + 4294967296 * q = omega arith in
-    let c : (k + 4294967296 * q) % 4294967296 ≡ k = omega arith in
-    rw (a, d, b, e, c)
-word-says t k v q false l m =
-    let a : (t + 0 + 256 * k + 1099511627776 * q) % 128 ≡ t = omega arith in
-    let d : (t + 0 + 256 * k + 1099511627776 * q) / 128 ≡ 2 * (k + 4294967296 * q) = omega arith in
-    let b : 2 * (k + 4294967296 * q) % 2 ≡ 0 = omega arith in
-    let e : (t + 0 + 256 * k + 1099511627776 * q) / 256 ≡ k + 4294967296 * q = omega arith in
+fields-say : (t n k v q : ℕ) → t < 128 → n ≤ 1 → k < 4294967296
+    → opOf (t + 128 * n + 256 * k + 1099511627776 * q) v ≡ record { tx = t; isWrite = eqb n 1; key = k; value = v }
+unfolding opOf
+fields-say t n k v q l f m =
+    let a : (t + 128 * n + 256 * k + 1099511627776 * q) % 128 ≡ t = omega arith in
+    let d : (t + 128 * n + 256 * k + 1099511627776 * q) / 128 ≡ 2 * (k + 4294967296 * q) + n = omega arith in
+    let b : (2 * (k + 4294967296 * q) + n) % 2 ≡ n = omega arith in
+    let e : (t + 128 * n + 256 * k + 1099511627776 * q) / 256 ≡ k + 4294967296 * q = omega arith in
     let c : (k + 4294967296 * q) % 4294967296 ≡ k = omega arith in
     rw (a, d, b, e, c)
 
-flag-low : (b : Bool) → pick b 128 0 ≤ 128
-unfolding pick
-flag-low true = omega arith
-flag-low false = omega arith
+word-says : (t k v q : ℕ) (b : Bool) → t < 128 → k < 4294967296 → opOf (t + pick b 128 0 + 256 * k + 1099511627776 * q) v ≡ record { tx = t; isWrite = b; key = k; value = v }
+word-says t k v q b l m =
+    let f = flag b in
+    rw (f .0) (fields-say t (pick b 1 0) k v q l (f .1) m ∙ λ i. record { tx = t; isWrite = f .2 i; key = k; value = v })
 
 -- .. and the two numbers that are
 word-keeps : (t k q l : ℕ) (b : Bool) → t < 128 → k < 4294967296 → q < 2048
     → ((t + pick b 128 0 + 256 * k + 1099511627776 * (q + 2048 * l)) / 1099511627776 % 2048 ≡ q)
     × ((t + pick b 128 0 + 256 * k + 1099511627776 * (q + 2048 * l)) / 2251799813685248 ≡ l)
 word-keeps t k q l b m n s =
-    let a : (t + pick b 128 0 + 256 * k + 1099511627776 * (q + 2048 * l)) / 1099511627776 ≡ q + 2048 * l = omega (arith, flag-low b) in
-    (rw a (omega arith), omega (arith, flag-low b))
+    let a : (t + pick b 128 0 + 256 * k + 1099511627776 * (q + 2048 * l)) / 1099511627776 ≡ q + 2048 * l = omega (arith, flag b .0, flag b .1) in
+    (rw a (omega arith), omega (arith, flag b .0, flag b .1))
 
 -- the number of the next operation
 abbrev nextOp : List ℕ → ℕ
@@ -391,13 +392,8 @@ module _ (h : List ℕ) (o : Op) (p : HasTx h (o .tx)) (small : o .key < 4294967
         (numbered-more (getD h 0 0 / 128) (opAt g) (opAt h) o (λ i a b. rw (put-old-word i a (omega arith) .0, put-old-word i a (omega arith) .1))
         (rw (e .word-1, e .word-2) (word-says (o .tx) (o .key) (o .value) (put-tx / 262144 + 2048 * q) (o .isWrite) put-low small)))
 
-    put-old-prev : (i : ℕ) → 1 ≤ i → i ≤ opCount (historyOf h) → prevAt g i ≡ prevAt h i
-    unfolding prevAt
-    put-old-prev i a b = rw (put-old-word i a (omega (arith, op-count h)) .0)
-
-    put-old-link : (i : ℕ) → 1 ≤ i → i ≤ opCount (historyOf h) → linkAt g i ≡ linkAt h i
-    unfolding linkAt
-    put-old-link i a b = rw (put-old-word i a (omega (arith, op-count h)) .0)
+    put-old-numbers : (i : ℕ) → 1 ≤ i → i ≤ opCount (historyOf h) → (prevAt g i ≡ prevAt h i) × (linkAt g i ≡ linkAt h i)
+    put-old-numbers i a b = word-stays h g i (put-old-word i a (omega (arith, op-count h)) .0)
 
     put-keeps : (prevAt g put-op ≡ lastAt h (o .tx)) × (linkAt g put-op ≡ q)
     unfolding prevAt linkAt lastAt
@@ -416,7 +412,7 @@ module _ (h : List ℕ) (o : Op) (p : HasTx h (o .tx)) (small : o .key < 4294967
     put-prevs : (i : ℕ) → 1 ≤ i → i ≤ opCount (historyOf h) + 1 → prevAt g i ≡ prevOf (withOp (historyOf h) o) i
     unfolding prevOf lastOf lastBelow ofTx
     put-prevs i a b =
-        with-op-prev (historyOf h) o (λ x. byTx (x .tx)) i b (λ l. put-old-prev i a l ∙ p .held .prevs i a l)
+        with-op-prev (historyOf h) o (λ x. byTx (x .tx)) i b (λ l. put-old-numbers i a l .0 ∙ p .held .prevs i a l)
         (λ l. let c : i ≡ put-op = l ∙ omega (arith, op-count h) in rw c (put-keeps .0) ∙ p .held .lasts (o .tx) (p .from) (p .to))
 
     put-tx-in : (i : ℕ) → 1 ≤ i → i ≤ opCount (historyOf h) + 1 → (1 ≤ op (withOp (historyOf h) o) i .tx) × (op (withOp (historyOf h) o) i .tx ≤ txCount (historyOf h))
@@ -435,7 +431,7 @@ module _ (h : List ℕ) (o : Op) (p : HasTx h (o .tx)) (small : o .key < 4294967
       unfolding linkOf headOf inBucket
       put-links i a b t =
           with-op-prev (historyOf h) o (λ x. byBucket (bucketOf (x .key) (x .value))) i b
-          (λ l. put-old-link i a l ∙ p .held .links i a l (sym (ap (λ (x : Op). x .isWrite) (with-op-old (historyOf h) o i l)) ∙ t))
+          (λ l. put-old-numbers i a l .1 ∙ p .held .links i a l (sym (ap (λ (x : Op). x .isWrite) (with-op-old (historyOf h) o i l)) ∙ t))
           (λ l.
           let c : i ≡ put-op = l ∙ omega (arith, op-count h) in
           rw c (put-keeps .1) ∙ link (sym (ap (λ (x : Op). x .isWrite) (with-op-new (historyOf h) o)) ∙ rw l at t) ∙ p .held .heads _ (bucket-low (o .key) (o .value)))

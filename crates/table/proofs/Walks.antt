@@ -7,10 +7,9 @@ use native.Mathlib.Omega.{arith}
 use borrow.Author.Tests.{eqb-true, eq-eqb}
 use Rattle.base.specs.Base.{last}
 use Rattle.base.proofs.Tests.{both, and-left, and-right}
-use Rattle.base.proofs.Chains.{last-passes, last-hit, last-miss, last-chain}
+use Rattle.base.proofs.Chains.{last-passes, last-less, last-hit, last-miss, last-chain}
 use Rattle.rules.specs.History.{History, op, opCount, writesValue, writeOf}
 use Rattle.table.specs.Table.{historyOf, bucketOf, inBucket, headOf, linkOf, Held, HasWrite}
-use Rattle.table.proofs.Grown.{last-less}
 
 -- the search for a write of v to x has come to write i of their bucket: no operation above it is one. At 0 the bucket has no more
 pub record ChainWalk (h : History) (x v i : ℕ) : Type 0 where

@@ -4,10 +4,11 @@ use mathlib.Core.Path.{_≡_, ap, sym}
 use mathlib.Core.List.{List}
 use native.Mathlib.Omega.{arith}
 use lib.ListN.{getD}
+use Rattle.base.proofs.Chains.{last-less}
 use Rattle.base.proofs.Numbered.{numbered-length, numbered-at}
 use Rattle.rules.specs.History.{History, Op, tx, op, txCount, opCount, zeroth, noTx, noOp, writesValue, writeOf}
 use Rattle.table.specs.Table.{txAt, opAt, historyOf, lastAt, prevAt, headAt, linkAt, lastOf, prevOf, headOf, linkOf, Held, HasTx, HasOp, HasWrite, Below}
-use Rattle.table.proofs.Grown.{last-less, last-of-less, prev-of-less, head-of-less, link-of-less}
+use Rattle.table.proofs.Grown.{last-of-less, prev-of-less, head-of-less, link-of-less}
 
 pub tx-count : (h : List ℕ) → txCount (historyOf h) ≡ getD h 0 0 % 128
 unfolding historyOf

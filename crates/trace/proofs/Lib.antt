@@ -2,3 +2,4 @@ pub mod Tallies
 pub mod Turning
 pub mod Going
 pub mod Answers
+pub mod One

@@ -17,7 +17,7 @@ use Rattle.rules.specs.declared.Event.the-variants as E
 use Rattle.frame.specs.Framing.{Fit, framing}
 use Rattle.frame.specs.declared.Framed.{Framed}
 use Rattle.frame.specs.declared.Framed.the-variants as F
-use Rattle.frame.proofs.Rows.{fit-append}
+use Rattle.base.proofs.Rows.{fit-append}
 use Rattle.frame.proofs.Frames.{is-bad, is-good, good-fit, behind}
 use Rattle.table.specs.Table.{historyOf, Held}
 use Rattle.steps.specs.Steps.{goes, stepNo, Took}

@@ -9,7 +9,10 @@ use Rattle.frame.proofs.event_at.Tie as tie
 
 event-of-requires : tie.Need-event-of-requires
 event-of-requires c κs =
-    let l : getD lows (c .before .u16-at2 .result) 0 ≤ lenAt (c .before .before .before .before .args .s .now) (c .before .before .before .before .args .at) = rw (c .before .u16-at2 .ensures) (c .before .before .before .before .pre .low) in rw (part-length (c .before .before .before .before .args .at + 8) (c .before .before .before .before .args .at + 2 + c .before .before .u16-at .result) (c .before .before .before .before .args .s .now) (omega arith)) (omega arith)
+    let r = c .before .before in
+    let s = r .before .before in
+    let l : getD lows (c .before .u16-at2 .result) 0 ≤ lenAt (s .args .s .now) (s .args .at) = rw (c .before .u16-at2 .ensures) (s .pre .low) in
+    rw (part-length (s .args .at + 8) (s .args .at + 2 + r .u16-at .result) (s .args .s .now) (omega arith)) (omega arith)
 
 returns : tie.Need-returns
 unfolding eventAt

@@ -14,11 +14,11 @@ part-result-end c =
 
 returns : tie.Need-returns
 returns c =
-    none-handed _ _ (c .before .before .before .note-answer .ensures) (c .before .enum-told .given .1)
+    none-handed _ _ (c .before .before .before .note-answer .ensures) _ (c .before .enum-told .given .1)
 
 returns-2 : tie.Need-returns-2
 returns-2 c =
-    text-handed _ _ (c .before .before .before .before .note-answer .ensures) (c .before .before .answer .given .1)
+    text-handed _ _ (c .before .before .before .before .note-answer .ensures) (c .before .before .answer .given .1) _
 
 pub note-spec : {M : Type 1} → statement M
 note-spec = tie.close (tie.spec (λ c κs. search needs) (λ c. search needs) (λ c. search needs) (λ c. search needs) add-end (λ c. search needs) (λ c. search needs) part-result-end returns returns-2)

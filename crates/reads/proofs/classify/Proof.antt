@@ -1,12 +1,12 @@
-use Rattle.base.proofs.Fill.{Filling, fill-start, fill-step, fill-end, appended-length}
+use Rattle.base.proofs.Fill.{Filling, fill-start, fill-step, fill-end, appended-length, one}
 use Rattle.rules.specs.History.{opCount}
 use Rattle.table.specs.Table.{historyOf}
 use Rattle.reads.specs.Verdicts.{verdictAt, verdicts}
-use Rattle.reads.proofs.Bytes.{one, classified}
+use Rattle.reads.proofs.Bytes.{classified}
 use borrow.Author.Needs.{needs}
 use native.Mathlib.Omega.{arith}
 use mathlib.Core.Path.{_≡_}
-use Prim.Native.Nat.{_+_, _-_, _≤_}
+use Prim.Native.Nat.{_+_, _-_, _≤_, _<_}
 use lib.ListN.{length}
 use Rattle.reads.proofs.classify.Statement.{statement}
 use Rattle.reads.proofs.classify.Tie as tie
@@ -32,7 +32,7 @@ slice-write-k c =
 loop-again : tie.Need-loop-again Inv-loop μ-loop
 unfolding verdictAt
 loop-again c =
-    let room : c .before .before .loop .i + 1 ≤ length (c .before .before .loop .k) =
+    let room : c .before .before .loop .i < length (c .before .before .loop .k) =
     omega (arith, c .before .before .before .before .before .before .pre .1, c .before .before .before .before .before .before .pre .0 .most, c .before .before .loop .inv .1, appended-length (c .before .before .loop .inv .2 .is)) in (
       omega arith,
       omega arith,

@@ -1,8 +1,7 @@
 use mathlib.Core.Path.{_∙_, refl, sym}
 use native.Mathlib.Omega.{arith}
-use Rattle.rules.specs.Reading.{entered, excess, misplaced, repeats, stepRows, unlawful}
-use Rattle.frame.proofs.Rows.{fit-here, fit-none, fit-past}
-use Rattle.steps.proofs.Taken.{enters, refuses}
+use Rattle.rules.specs.Reading.{entered, excess, misplaced, repeats, unlawful}
+use Rattle.steps.proofs.Taken.{row-7, row-8, row-9, row-10, enters}
 use Rattle.steps.specs.Steps.{goes, put}
 use borrow.Author.Needs.{needs}
 use borrow.Author.Tests.{eq-eqb, le-ltb, leb-false, lt-ltb, ne-eqb}
@@ -10,33 +9,43 @@ use Rattle.steps.proofs.take_write.Statement.{statement}
 use Rattle.steps.proofs.take_write.Tie as tie
 
 returns : tie.Need-returns
-unfolding stepRows misplaced
-returns c =
-    refuses _ _ _ (fit-here _ _ _ (eq-eqb _ _ (c .if1 .taken))) (omega arith) (c .before .before .pre .0)
+unfolding misplaced
+returns c = row-7 _ _ _ (c .before .before .pre .0) (eq-eqb _ _ (c .if1 .taken))
 
 returns-2 : tie.Need-returns-2
-unfolding stepRows misplaced unlawful
-returns-2 c =
-    refuses _ _ _ (fit-past _ _ _ (ne-eqb _ _ (c .before .if1 .left)) (fit-here _ _ _ (eq-eqb _ _ (c .if2 .taken)))) (omega arith) (c .before .before .before .pre .0)
+unfolding misplaced unlawful
+returns-2 c = row-8 _ _ _ (c .before .before .before .pre .0) (ne-eqb _ _ (c .before .if1 .left)) (eq-eqb _ _ (c .if2 .taken))
 
 returns-3 : tie.Need-returns-3
-unfolding stepRows misplaced unlawful excess
+unfolding misplaced unlawful excess
 returns-3 c =
-    refuses _ _ _ (fit-past _ _ _ (ne-eqb _ _ (c .before .before .before .before .if1 .left)) (fit-past _ _ _ (ne-eqb _ _ (c .before .before .before .if2 .left)) (fit-here _ _ _ (sym (c .before .is-full .ensures) ∙ c .if3 .taken)))) (omega arith) (c .before .before .before .before .before .before .pre .0)
+    let v = c .before .before .before in
+    row-9 _ _ _ (v .before .before .before .pre .0) (ne-eqb _ _ (v .before .if1 .left)) (ne-eqb _ _ (v .if2 .left)) (sym (c .before .is-full .ensures) ∙ c .if3 .taken)
 
 returns-4 : tie.Need-returns-4
-unfolding stepRows misplaced unlawful excess repeats
+unfolding misplaced unlawful excess repeats
 returns-4 c =
-    refuses _ _ _ (fit-past _ _ _ (ne-eqb _ _ (c .before .before .before .before .before .before .before .if1 .left)) (fit-past _ _ _ (ne-eqb _ _ (c .before .before .before .before .before .before .if2 .left)) (fit-past _ _ _ (sym (c .before .before .before .before .is-full .ensures) ∙ c .before .before .before .if3 .left) (fit-here _ _ _ (rw (← c .before .write-of .ensures .is) (lt-ltb _ _ (c .if4 .taken))))))) (omega arith) (c .before .before .before .before .before .before .before .before .before .pre .0)
+    let f = c .before .before .before in
+    let v = f .before .before .before in
+    row-10 _ _ _ (v .before .before .before .pre .0) (ne-eqb _ _ (v .before .if1 .left)) (ne-eqb _ _ (v .if2 .left)) (sym (f .before .is-full .ensures) ∙ f .if3 .left)
+    (rw (← c .before .write-of .ensures .is) (lt-ltb _ _ (c .if4 .taken)))
 
 put-write-requires : tie.Need-put-write-requires
 put-write-requires c κs =
-    (record { held = c .before .before .before .before .before .before .before .before .before .before .pre .0; from = omega arith; to = c .before .before .before .before .before .before .before .before .before .before .pre .1 }, leb-false _ _ (sym (c .before .before .before .before .before .is-full .ensures) ∙ c .before .before .before .before .if3 .left))
+    let f = c .before .before .before .before in
+    let p = f .before .before .before .before .before .before .pre in
+    (record { held = p .0; from = omega arith; to = p .1 }, leb-false _ _ (sym (f .before .is-full .ensures) ∙ f .if3 .left))
 
 returns-5 : tie.Need-returns-5
-unfolding stepRows misplaced unlawful excess repeats goes put entered
+unfolding misplaced unlawful excess repeats goes put entered
 returns-5 c =
-    enters _ _ _ (fit-past _ _ _ (ne-eqb _ _ (c .before .before .before .before .before .before .before .before .before .before .before .if1 .left)) (fit-past _ _ _ (ne-eqb _ _ (c .before .before .before .before .before .before .before .before .before .before .if2 .left)) (fit-past _ _ _ (sym (c .before .before .before .before .before .before .before .before .is-full .ensures) ∙ c .before .before .before .before .before .before .before .if3 .left) (fit-past _ _ _ (rw (← c .before .before .before .before .before .write-of .ensures .is) (le-ltb _ _ (c .before .before .before .before .if4 .left))) fit-none)))) refl (c .before .before .put-write .ensures)
+    let w = c .before .before .before .before in
+    let f = w .before .before .before in
+    let v = f .before .before .before in
+    enters _ _ _ (ne-eqb _ _ (v .before .if1 .left)) (ne-eqb _ _ (v .if2 .left)) (sym (f .before .is-full .ensures) ∙ f .if3 .left)
+    (rw (← w .before .write-of .ensures .is) (le-ltb _ _ (w .if4 .left))) refl (c .before .before .put-write .ensures)
 
 pub take-write-spec : {M : Type 1} → statement M
-take-write-spec = tie.close (tie.spec returns returns-2 (λ c κs. search needs) (λ c. search needs) returns-3 (λ c κs. search needs) (λ c. search needs) returns-4 put-write-requires (λ c. search needs) returns-5)
+take-write-spec =
+    tie.close
+    (tie.spec returns returns-2 (λ c κs. search needs) (λ c. search needs) returns-3 (λ c κs. search needs) (λ c. search needs) returns-4 put-write-requires (λ c. search needs) returns-5)

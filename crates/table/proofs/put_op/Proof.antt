@@ -16,10 +16,10 @@ pub put-op-spec : {M : Type 1} → statement M
 put-op-spec =
     tie.close
     (tie.spec
+    (λ c. search needs)
     (λ c. omega (arith, op-count (c .before .args .h .now), last-small _ _ (c .before .pre .0)))
-    (λ c. omega (arith, op-count (c .before .args .h .now), last-small _ _ (c .before .pre .0)))
-    (λ c. omega (arith, op-count (c .before .args .h .now), last-small _ _ (c .before .pre .0)))
-    (λ c. omega (arith, op-count (c .before .before .args .h .now), last-small _ _ (c .before .before .pre .0)))
+    (λ c. search needs)
+    (λ c. search needs)
     (λ c. omega (arith, op-count (c .before .before .args .h .now), last-small _ _ (c .before .before .pre .0)))
     (λ c. omega (arith, op-count (c .before .before .args .h .now), last-small _ _ (c .before .before .pre .0)))
     (λ c. omega (arith, op-count (c .before .before .args .h .now), last-small _ _ (c .before .before .pre .0)))
@@ -32,7 +32,7 @@ put-op-spec =
     (λ c. simp length-set (omega (arith, op-count (c .before .before .args .h .now))))
     (λ c. omega (arith, op-count (c .before .before .args .h .now), last-small _ _ (c .before .before .pre .0)))
     (λ c. omega (arith, op-count (c .before .before .args .h .now), last-small _ _ (c .before .before .pre .0)))
-    (λ c. omega (arith, op-count (c .before .before .args .h .now), last-small _ _ (c .before .before .pre .0)))
+    (λ c. search needs)
     (λ c. simp length-set (omega (arith, op-count (c .before .before .args .h .now))))
     (λ c. omega (arith, op-count (c .before .before .args .h .now), last-small _ _ (c .before .before .pre .0)))
     (λ c. simp length-set (omega (arith, op-count (c .before .before .args .h .now))))

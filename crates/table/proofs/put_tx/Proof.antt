@@ -17,12 +17,12 @@ pub put-tx-spec : {M : Type 1} → statement M
 put-tx-spec =
     tie.close
     (tie.spec
-    (λ c. omega (arith, tx-count (c .before .args .h .now), op-count (c .before .args .h .now)))
-    (λ c. omega (arith, tx-count (c .before .args .h .now), op-count (c .before .args .h .now)))
-    (λ c. omega (arith, tx-count (c .before .args .h .now), op-count (c .before .args .h .now)))
-    (λ c. omega (arith, tx-count (c .before .args .h .now), op-count (c .before .args .h .now)))
-    (λ c. omega (arith, tx-count (c .before .args .h .now), op-count (c .before .args .h .now)))
-    (λ c. omega (arith, tx-count (c .before .args .h .now), op-count (c .before .args .h .now)))
+    (λ c. search needs)
+    (λ c. search needs)
+    (λ c. search needs)
+    (λ c. search needs)
+    (λ c. search needs)
+    (λ c. search needs)
     (λ c. omega (arith, tx-count (c .before .args .h .now), op-count (c .before .args .h .now)))
     (λ c. simp length-set (omega arith))
     (λ c. search needs)

@@ -44,3 +44,9 @@ unfolding firstFit RowsCounted
 fit-behind [] k c h = refl
 fit-behind (row true n ∷ l) k c h = absurd (omega (arith, c .0))
 fit-behind (row false n ∷ l) k c h = fit-behind l k (c .1) h
+
+-- no number is greater than m: the answer is not either
+pub fit-most : {m : ℕ} (b : Bool) (n : ℕ) (rs : List Row) → n ≤ m → firstFit rs ≤ m → firstFit (row b n ∷ rs) ≤ m
+unfolding firstFit
+fit-most true n rs l h = l
+fit-most false n rs l h = h

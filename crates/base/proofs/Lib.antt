@@ -4,3 +4,4 @@ pub mod Numbered
 pub mod Fill
 pub mod Chains
 pub mod Rows
+pub mod Empty

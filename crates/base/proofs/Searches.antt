@@ -246,6 +246,15 @@ pub singles-at : {A : Type 0} (f : ℕ → A) (d : A) (a e j : ℕ) → a + j < 
 unfolding listed
 singles-at f d a e j l = singles-from f d (e - a) a j (omega arith)
 
+-- where no part has more than k entries, the whole has at most k times as many as there are parts
+pub listed-most : {A : Type 0} (f : ℕ → List A) (k e j : ℕ) → ((i : ℕ) → j ≤ i → i < e → length (f i) ≤ k) → length (listed j e f) ≤ k * (e - j)
+listed-most f k e =
+    downward (λ j. ((i : ℕ) → j ≤ i → i < e → length (f i) ≤ k) → length (listed j e f) ≤ k * (e - j)) e
+    (λ j g h. omega (arith, ap length (listed-end f j e g)))
+    (λ j l ih h.
+    rw (left j e l)
+    (omega (arith, h j (omega arith) l, ih (λ i a b. h i (omega arith) b), ap length (listed-step f j e l), length-append (f j) (listed (j + 1) e f), mul-suc k (e - (j + 1)))))
+
 pub joined-append : {A B : Type 0} (f : A → List B) (l k : List A) → joined f (l ++ k) ≡ joined f l ++ joined f k
 unfolding joined
 joined-append f [] k = refl

@@ -43,6 +43,13 @@ pub not-false : (b : Bool) → not b ≡ false → b ≡ true
 not-false true e = refl
 not-false false e = sym e
 
+-- a call answered r for the test b, and the code went on by whether not r
+pub denied : {r b : Bool} → r ≡ b → not r ≡ true → b ≡ false
+denied {r} e n = sym e ∙ not-true r n
+
+pub granted : {r b : Bool} → r ≡ b → not r ≡ false → b ≡ true
+granted {r} e n = sym e ∙ not-false r n
+
 -- both pass
 pub both : (a b : Bool) → a ≡ true → b ≡ true → a and b ≡ true
 unfolding _and_

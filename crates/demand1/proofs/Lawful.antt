@@ -10,7 +10,7 @@ use Rattle.rules.specs.History.{History, Op, tx, op, txCount, opCount, empty, o
 use Rattle.rules.specs.Reading.{State, Stretch}
 use Rattle.demand1.specs.Lawful.{IsOp, IsWrite, IsTx, LawfulHistory}
 use Rattle.demand1.specs.Rows.{session, status, opIn, Inside, Passes, inPlace, valueLawful, withinLimit, newWrite, open-inside, read-outside, write-outside, close-outside, end-inside, written-0, status-above-1, open-128th, read-1025th, write-1025th, Next, after-open, after-read, after-write, after-close, after-note, Reaches, start, on, ReadInto, to-the-end}
-use Rattle.rules.proofs.History.{op-count, op-old, op-new, open-count, open-old, open-new, close-count, close-this, close-other}
+use Rattle.rules.proofs.History.{with-op-count, with-op-old, with-op-new, open-count, open-old, open-new, close-count, close-this, close-other}
 use Rattle.demand1.proofs.Events.{same-or, at-least, below}
 use Rattle.demand1.proofs.Steps.{inside}
 
@@ -68,7 +68,7 @@ module _ (h : History) (o : Op) where
   -- an operation is one of the old ones or the new one
   old-or-new : {i : ℕ} → IsOp (withOp h o) i → ((i ≤ opCount h) × (op (withOp h o) i ≡ op h i)) ⊎ ((i ≡ opCount h + 1) × (op (withOp h o) i ≡ o))
   old-or-new {i} p =
-      ⊎-elim (λ l. let n : i ≡ opCount h + 1 = omega (arith, op-count h o, p .to) in inr (n, rw n (op-new h o))) (λ g. inl (g, op-old h o i g))
+      ⊎-elim (λ l. let n : i ≡ opCount h + 1 = omega (arith, with-op-count h o, p .to) in inr (n, rw n (with-op-new h o))) (λ g. inl (g, with-op-old h o i g))
       (split (opCount h) i)
 
   -- a write is one of the old ones or the new one
@@ -84,7 +84,7 @@ module _ (h : History) (o : Op) where
   unfolding withOp
   ops-more r f =
       record {
-        few-ops = omega (arith, op-count h o, f .room);
+        few-ops = omega (arith, with-op-count h o, f .room);
         in-tx = λ i p.
             ⊎-elim (λ a. rw (a .1) (tx-in (withOp h o) (omega arith) (r .in-tx i (record { from = p .from; to = a .0 }))))
             (λ n. rw (n .1) (tx-in (withOp h o) (omega arith) (f .in-tx))) (old-or-new p);

@@ -25,7 +25,7 @@ use Rattle.demand1.specs.Lawful.{LawfulHistory}
 use Rattle.demand2.specs.Kinds.{AllClean}
 use Rattle.demand2.specs.Axiom.{Member, StrictTotal, Commits, SomeOrder, ByTest, HasOrder, Lists, StandsBefore, Shows, FirstShown}
 use Rattle.demand2.specs.Accepted.{CommittedCount, OrderWritten}
-use Rattle.demand2.proofs.Lists.{parts-none, those-none, joined-empty}
+use Rattle.base.proofs.Empty.{parts-none, those-none, joined-empty}
 use Rattle.demand2.proofs.Kind.{findings-iff}
 use Rattle.demand2.proofs.Pairs.{forces}
 use Rattle.demand2.proofs.Axiom.{obeys-iff}

@@ -14,7 +14,7 @@ use Rattle.rules.specs.History.{History, op, opCount, committed, writeOf}
 use Rattle.rules.specs.Reads.{writesAt, wroteBetween, originOf, sourceOf, kindBy, kindOf, isJudged, isFinding}
 use Rattle.rules.specs.Outcome.{findings}
 use Rattle.demand1.proofs.Checks.{write-found, write-known}
-use Rattle.demand2.proofs.Lists.{those-none}
+use Rattle.base.proofs.Empty.{those-none}
 use Rattle.demand1.specs.Lawful.{IsWrite, LawfulHistory}
 use Rattle.demand2.specs.Kinds.{WriteIn, WriteOf, JudgedRead, Fits, thin-air, aborted, future, not-my-last, not-my-own, intermediate, HasKind, Clean, AllClean}
 

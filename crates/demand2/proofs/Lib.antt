@@ -1,4 +1,3 @@
-pub mod Lists
 pub mod Kind
 pub mod Pairs
 pub mod Axiom

@@ -4,11 +4,10 @@ use mathlib.Core.Path.{_≡_, refl, ap, sym, _∙_}
 use mathlib.Core.Bool.{Bool, true, false}
 use mathlib.Core.List.{List, [], _∷_}
 use native.Mathlib.Omega.{arith}
-use native.Mathlib.Nat.{mul-suc}
 use lib.ListN.{length, length-append}
 use Rattle.base.specs.Base.{pick, listed, those}
-use Rattle.base.proofs.Tests.{pick-on, pick-off}
-use Rattle.base.proofs.Searches.{downward, listed-step, listed-end}
+use Rattle.base.proofs.Tests.{pick-on, pick-off, pick-of}
+use Rattle.base.proofs.Searches.{downward, listed-step, listed-end, listed-most}
 use Rattle.base.proofs.Fill.{Appended, appended-none, Sizing, size-step}
 use Rattle.lists.specs.Lists.{entryAt}
 
@@ -31,12 +30,6 @@ pub those-listed : (a e : ℕ) (p : ℕ → Bool) → those a e p ≡ listed a e
 unfolding those entryAt
 those-listed a e p = refl
 
--- a choice between a list and none
-pub pick-length : {A : Type 0} (b : Bool) (x : List A) → length (pick b x []) ≡ pick b (length x) 0
-unfolding pick
-pick-length true x = refl
-pick-length false x = refl
-
 pub pick-most : (b : Bool) (n : ℕ) {r : ℕ} → r ≡ pick b n 0 → r ≤ n
 unfolding pick
 pick-most true n e = omega arith
@@ -49,7 +42,7 @@ pick-four false = refl
 
 pub entry-length : (p : ℕ → Bool) (i : ℕ) → length (entryAt p i) ≡ pick (p i) 1 0
 unfolding entryAt
-entry-length p i = pick-length (p i) (i ∷ [])
+entry-length p i = pick-of length (p i) (i ∷ []) []
 
 entry-most : (p : ℕ → Bool) (i : ℕ) → length (entryAt p i) ≤ 1
 entry-most p i = pick-most (p i) 1 (entry-length p i)
@@ -68,24 +61,9 @@ four-times f g e j h =
     rw (listed-step f j e l, listed-step g j e l) (omega (arith, ih, h j, length-append (f j) (listed (j + 1) e f), length-append (g j) (listed (j + 1) e g))))
     j
 
--- where no place adds more than m, the whole is at most m times as long as there are places
-pub listed-most : {A : Type 0} (f : ℕ → List A) (m e j : ℕ) → ((i : ℕ) → length (f i) ≤ m) → length (listed j e f) ≤ m * (e - j)
-listed-most f m e j h =
-    downward (λ j. length (listed j e f) ≤ m * (e - j)) e (λ j k. rw (listed-end f j e k) (omega arith))
-    (λ j l ih.
-    let q : e - j ≡ suc (e - (j + 1)) = omega arith in
-    rw (listed-step f j e l, q, mul-suc m (e - (j + 1))) (omega (arith, ih, h j, length-append (f j) (listed (j + 1) e f))))
-    j
-
 pub those-most : (p : ℕ → Bool) (a e : ℕ) → length (listed a e (entryAt p)) ≤ e - a
-those-most p a e = omega (arith, listed-most (entryAt p) 1 e a (entry-most p))
+those-most p a e = omega (arith, listed-most (entryAt p) 1 e a (λ i _ _. entry-most p i))
 
 -- so a count that has come anywhere is at most that
-pub count-most : (p : ℕ → Bool) {a e j n : ℕ} → Sizing (entryAt p) a e j n → n ≤ e - a
-count-most p {a} {e} s = omega (arith, s .rest, those-most p a e)
-
--- nothing at any place
-pub listed-none : {A : Type 0} (f : ℕ → List A) (e j : ℕ) → ((i : ℕ) → j ≤ i → i < e → f i ≡ []) → listed j e f ≡ []
-listed-none f e =
-    downward (λ j. ((i : ℕ) → j ≤ i → i < e → f i ≡ []) → listed j e f ≡ []) e (λ j k h. listed-end f j e k)
-    (λ j l ih h. listed-step f j e l ∙ rw (h j (omega arith) l) (ih (λ i a b. h i (omega arith) b)))
+pub counting-most : (p : ℕ → Bool) {a e j n : ℕ} → Sizing (entryAt p) a e j n → n ≤ e - a
+counting-most p {a} {e} s = omega (arith, s .rest, those-most p a e)

@@ -6,13 +6,15 @@ use mathlib.Core.List.{List, [], _∷_}
 use native.Mathlib.Omega.{arith}
 use lib.ListN.{length}
 use Rattle.base.specs.Base.{listed}
-use Rattle.base.proofs.Tests.{clash, is-false, pick-off}
+use Rattle.base.proofs.Tests.{clash, is-false, pick-off, pick-of}
+use Rattle.base.proofs.Empty.{parts-none}
+use Rattle.base.proofs.Searches.{listed-most}
 use Rattle.base.proofs.Fill.{Appended, appended-none}
 use Rattle.rules.specs.History.{History, size}
 use Rattle.table.specs.Table.{historyOf}
 use Rattle.bits.specs.Bits.{bitOf}
 use Rattle.lists.specs.Lists.{entryAt, isIn, secondsOf, pairCount, reasonsIn, pairAt, rowAt, pairsIn, Tables, Cell, Listing}
-use Rattle.lists.proofs.Listings.{those-listed, those-most, listed-none, listed-most, pick-length, pick-four, entry-length, four-times}
+use Rattle.lists.proofs.Listings.{those-listed, those-most, pick-four, entry-length, four-times}
 
 module _ {f c : List ℕ} {n : ℕ} (t : Tables f c n) {a : ℕ} (l : a < n) where
   pub cell-of : {b : ℕ} → b < n → Cell f c a b
@@ -24,7 +26,7 @@ module _ {f c : List ℕ} {n : ℕ} (t : Tables f c n) {a : ℕ} (l : a < n) whe
 
   pub seconds-none : bitOf c a a ≡ false → 0 ≡ length (secondsOf f c n a)
   unfolding secondsOf entryAt
-  seconds-none e = sym (ap length (those-listed 0 n (isIn f c a) ∙ listed-none (entryAt (isIn f c a)) n 0 (λ b u v. pick-off _ _ _ (row-none e b v))))
+  seconds-none e = sym (ap length (those-listed 0 n (isIn f c a) ∙ parts-none (entryAt (isIn f c a)) 0 n .1 (λ b u v. pick-off _ _ _ (row-none e b v))))
 
 -- how many a row has, r; how many there are
 module _ {f c : List ℕ} {n : ℕ} (t : Tables f c n) where
@@ -33,17 +35,17 @@ module _ {f c : List ℕ} {n : ℕ} (t : Tables f c n) where
   row-most a e = omega (arith, ap length (those-listed 0 n (isIn f c a)), those-most (isIn f c a) 0 n, t .few)
 
   pub pairs-most : length (listed 0 n (secondsOf f c n)) ≤ 16384
-  pairs-most = omega (arith, listed-most (secondsOf f c n) 128 n 0 (λ a. row-most a refl), t .few)
+  pairs-most = omega (arith, listed-most (secondsOf f c n) 128 n 0 (λ a _ _. row-most a refl), t .few)
 
 module _ (h : History) (f c v : List ℕ) where
   pub row-left-out : Tables f c (size h) → (a : ℕ) → a < size h → bitOf c a a ≡ false → (o : List ℕ) (at : ℕ) → at ≤ length o
       → Appended o at o at (rowAt h f c v a)
   unfolding rowAt pairAt
-  row-left-out t a l e o at m = rw (listed-none (pairAt h f c v a) (size h) 0 (λ b x y. pick-off _ _ _ (row-none t l e b y))) (appended-none o at m)
+  row-left-out t a l e o at m = rw (parts-none (pairAt h f c v a) 0 (size h) .1 (λ b x y. pick-off _ _ _ (row-none t l e b y))) (appended-none o at m)
 
   pair-four : (a b : ℕ) → length (pairAt h f c v a b) ≡ 4 * length (entryAt (isIn f c a) b)
   unfolding pairAt
-  pair-four a b = rw (pick-length (isIn f c a b) (a ∷ b ∷ reasonsIn h v a b ∷ 0 ∷ []), entry-length (isIn f c a) b) (pick-four (isIn f c a b))
+  pair-four a b = rw (pick-of length (isIn f c a b) (a ∷ b ∷ reasonsIn h v a b ∷ 0 ∷ []) [], entry-length (isIn f c a) b) (pick-four (isIn f c a b))
 
   row-four : (a : ℕ) → length (rowAt h f c v a) ≡ 4 * length (secondsOf f c (size h) a)
   unfolding rowAt secondsOf

@@ -1,4 +1,3 @@
-pub mod Tests
 pub mod Marking
 pub mod Walk
 pub mod Pairs

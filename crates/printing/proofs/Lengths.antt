@@ -1,14 +1,13 @@
 -- How long the lists of a history that was read can be, and the text.
-use Prim.Native.Nat.{ℕ, suc, _+_, _-_, _*_, _≤_, _<_}
+use Prim.Native.Nat.{ℕ, _+_, _*_, _≤_, _<_}
 use mathlib.Core.Path.{_≡_, refl, ap, _∙_}
 use mathlib.Core.Bool.{Bool, true, false}
 use mathlib.Core.List.{List, [], _∷_, _++_}
 use native.Mathlib.Omega.{arith}
-use native.Mathlib.Nat.{mul-suc}
 use lib.ListN.{length, length-append}
 use Rattle.base.specs.Base.{pick, Row, row, firstFit, count, listed, those, joined}
 use Rattle.base.proofs.Tests.{ifso, pick-on, pick-off}
-use Rattle.base.proofs.Searches.{downward, count-hit, count-miss, count-end, listed-step, listed-end, joined-one, joined-none, joined-listed, joined-those}
+use Rattle.base.proofs.Searches.{listed-most, count-most, joined-one, joined-none, joined-listed, joined-those}
 use Rattle.theory.specs.Leads.{isListed}
 use Rattle.theory.proofs.Order.{unplaced-all, rest-bound, rest-below}
 use Rattle.rules.specs.History.{History, op, opCount, size, committed}
@@ -26,16 +25,6 @@ use Rattle.text.proofs.Lines.{refused-length, rejected-length, accepted-length,
 
 -- ── lists of parts ──
 
--- what is listed of parts that have k entries at most
-listed-most : {A : Type 0} (f : ℕ → List A) (k e j : ℕ) → ((i : ℕ) → j ≤ i → i < e → length (f i) ≤ k) → length (listed j e f) ≤ k * (e - j)
-listed-most f k e =
-    downward (λ j. ((i : ℕ) → j ≤ i → i < e → length (f i) ≤ k) → length (listed j e f) ≤ k * (e - j)) e
-    (λ j g h. omega (arith, ap length (listed-end f j e g)))
-    (λ j l ih h.
-    let n : e - j ≡ suc (e - (j + 1)) = omega arith in
-    rw n
-    (omega (arith, h j (omega arith) l, ih (λ i a b. h i (omega arith) b), ap length (listed-step f j e l), length-append (f j) (listed (j + 1) e f), mul-suc k (e - (j + 1)))))
-
 three-parts : (a b c : List ℕ) → length (a ++ (b ++ c)) ≡ length a + (length b + length c)
 three-parts a b c = length-append a (b ++ c) ∙ ap (λ (n : ℕ). length a + n) (length-append b c)
 
@@ -46,12 +35,6 @@ pick-most b x k h = ifso b (λ t. rw (pick-on b x [] t) h) (λ t. rw (pick-off b
 joined-most : {A : Type 0} (f : A → List ℕ) (b : Bool) (x : A) (k : ℕ) → length (f x) ≤ k → length (joined f (pick b (x ∷ []) [])) ≤ k
 joined-most f b x k h =
     ifso b (λ t. rw (pick-on b (x ∷ []) [] t, joined-one f x) h) (λ t. rw (pick-off b (x ∷ []) [] t, joined-none f) (omega arith))
-
-count-within : (p : ℕ → Bool) (e j : ℕ) → count j e p ≤ e - j
-count-within p e =
-    downward (λ j. count j e p ≤ e - j) e (λ j g. omega (arith, count-end p j e g))
-    (λ j l ih.
-    ifso (p j) (λ (t : p j ≡ true). omega (arith, count-hit p j e l t)) (λ (t : p j ≡ false). omega (arith, count-miss p j e l t)))
 
 -- ── numbers ──
 
@@ -143,7 +126,7 @@ module _ {h : History} (ok : LawfulHistory h) where
     pub order-few : length (order h level) ≤ 128
     unfolding order
     order-few =
-        omega (arith, ok .few-txs, rest-bound (size h) (committed h) (forced h level) [], unplaced-all (size h) (committed h), count-within (committed h) (size h) 0)
+        omega (arith, ok .few-txs, rest-bound (size h) (committed h) (forced h level) [], unplaced-all (size h) (committed h), count-most (committed h) (size h) 0)
 
     order-text : length (acceptedLine level (order h level)) ≤ 525
     unfolding order

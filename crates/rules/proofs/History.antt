@@ -16,17 +16,17 @@ use Rattle.rules.specs.History.{History, Tx, Op, zeroth, noTx, noOp, tx,
 -- ── one operation more ──
 
 module _ (h : History) (o : Op) where
-  pub op-count : opCount (withOp h o) ≡ opCount h + 1
+  pub with-op-count : opCount (withOp h o) ≡ opCount h + 1
   unfolding withOp
-  op-count = length-append (h .ops) (o ∷ [])
+  with-op-count = length-append (h .ops) (o ∷ [])
 
-  pub op-old : (i : ℕ) → i ≤ opCount h → op (withOp h o) i ≡ op h i
+  pub with-op-old : (i : ℕ) → i ≤ opCount h → op (withOp h o) i ≡ op h i
   unfolding withOp op
-  op-old i l = List·getD-append (noOp ∷ h .ops) (o ∷ []) noOp i (omega arith)
+  with-op-old i l = List·getD-append (noOp ∷ h .ops) (o ∷ []) noOp i (omega arith)
 
-  pub op-new : op (withOp h o) (opCount h + 1) ≡ o
+  pub with-op-new : op (withOp h o) (opCount h + 1) ≡ o
   unfolding withOp op
-  op-new = rw (add-one (opCount h)) (getD-append-seam (h .ops) o [] noOp)
+  with-op-new = rw (add-one (opCount h)) (getD-append-seam (h .ops) o [] noOp)
 
 -- ── one transaction more ──
 

@@ -7,6 +7,7 @@ use mathlib.Core.Logic.{⊎-elim, _↔_}
 use native.Mathlib.Omega.{arith}
 use lib.ListN.{length}
 use borrow.Author.Tests.{ltb-true, lt-ltb, le-ltb}
+use Rattle.base.proofs.Empty.{not-empty}
 use Rattle.base.proofs.Tests.{clash, is-false, both, and-left, and-right, and-no-left, and-no-right, ifso, split, pick-on, pick-off}
 use Rattle.rules.specs.Numbers.{over}
 use Rattle.rules.specs.History.{History}
@@ -53,10 +54,6 @@ says (Rejected f p) = says-rejected
 says (Accepted n) = says-accepted
 
 -- ── acceptance or not ──
-
--- a list with an entry is not empty
-pub not-empty : {A : Type 0} {x : A} {xs : List A} → x ∷ xs ≡ [] → ⊥
-not-empty e = omega (arith, ap length e)
 
 empty-iff : {A : Type 0} (l : List A) → (isEmpty l ≡ true) ↔ (l ≡ [])
 unfolding isEmpty

@@ -3,17 +3,15 @@ use Prim.Native.Nat.{ℕ, _+_, _≤_, _<_}
 use mathlib.Core.Path.{_≡_, refl, ap, sym, _∙_}
 use mathlib.Core.Bool.{Bool, true, false}
 use mathlib.Core.Logic.{⊎-elim}
-use mathlib.Core.List.{List, [], _∷_}
+use mathlib.Core.List.{List}
 use native.Mathlib.Omega.{arith}
-use native.Mathlib.Numerals.{add-one}
-use lib.ListN.{length-append, List·getD-append}
-use lib.Seq.{getD-at}
 use lib.Dec.{eqb}
 use borrow.Author.Tests.{ne-eqb}
 use Rattle.base.specs.Base.{_and_, last}
 use Rattle.base.proofs.Tests.{split, ifso}
 use Rattle.base.proofs.Chains.{last-less, last-is, last-hit, last-miss, last-same}
-use Rattle.rules.specs.History.{History, Tx, Op, op, opCount, noOp, withOp}
+use Rattle.rules.specs.History.{History, Tx, Op, op, opCount, withOp}
+use Rattle.rules.proofs.History.{with-op-count, with-op-old, with-op-new}
 use Rattle.table.specs.Table.{ofTx, lastBelow, lastOf, prevOf, bucketOf, inBucket, headOf, linkOf}
 
 -- ── bounds ──
@@ -82,37 +80,25 @@ abbrev pub byBucket : ℕ → Op → Bool
 byBucket b o = o .isWrite and eqb (bucketOf (o .key) (o .value)) b
 
 module _ (h : History) (o : Op) where
-  pub with-op-count : opCount (withOp h o) ≡ opCount h + 1
-  unfolding withOp
-  with-op-count = length-append (h .ops) (o ∷ [])
-
-  pub with-op-old : (i : ℕ) → i ≤ opCount h → op (withOp h o) i ≡ op h i
-  unfolding withOp op
-  with-op-old i l = List·getD-append (noOp ∷ h .ops) (o ∷ []) noOp i (omega arith)
-
-  pub with-op-new : op (withOp h o) (opCount h + 1) ≡ o
-  unfolding withOp op
-  with-op-new = rw (add-one (opCount h)) (getD-at (h .ops) o [] noOp (opCount h) refl)
-
   -- the last of a class below the new one
   with-op-below : (c : Op → Bool) (n : ℕ) → n ≤ opCount h + 1 → last (among c (withOp h o)) n ≡ last (among c h) n
-  with-op-below c n l = last-same (among c (withOp h o)) (among c h) n (λ i m. ap c (with-op-old i (omega arith)))
+  with-op-below c n l = last-same (among c (withOp h o)) (among c h) n (λ i m. ap c (with-op-old h o i (omega arith)))
 
   -- a table kept the number a of the class's last operation: it has to keep the new one's where that is of the class, else what it kept
   pub with-op-last : (c : Op → Bool) {a b : ℕ} → a ≡ last (among c h) (opCount h + 1) → (c o ≡ true → b ≡ opCount h + 1) → (c o ≡ false → b ≡ a)
       → b ≡ last (among c (withOp h o)) (opCount (withOp h o) + 1)
   with-op-last c {a} {b} e hit miss =
-      rw with-op-count
-      (ifso (c o) (λ t. hit t ∙ sym (last-hit (among c (withOp h o)) (opCount h + 1) (ap c with-op-new ∙ t)))
-      (λ t. miss t ∙ e ∙ sym (last-miss (among c (withOp h o)) (opCount h + 1) (ap c with-op-new ∙ t) ∙ with-op-below c (opCount h + 1) (omega arith))))
+      rw (with-op-count h o)
+      (ifso (c o) (λ t. hit t ∙ sym (last-hit (among c (withOp h o)) (opCount h + 1) (ap c (with-op-new h o) ∙ t)))
+      (λ t. miss t ∙ e ∙ sym (last-miss (among c (withOp h o)) (opCount h + 1) (ap c (with-op-new h o) ∙ t) ∙ with-op-below c (opCount h + 1) (omega arith))))
 
   -- .. and with each operation, whose class is c of it, that of the one before it: with the new one, what was the class's last
   pub with-op-prev : (c : Op → Op → Bool) (i : ℕ) {b : ℕ} → i ≤ opCount h + 1 → (i ≤ opCount h → b ≡ last (among (c (op h i)) h) i)
       → (i ≡ opCount h + 1 → b ≡ last (among (c o) h) (opCount h + 1)) → b ≡ last (among (c (op (withOp h o) i)) (withOp h o)) i
   with-op-prev c i {b} l old new =
       ⊎-elim
-      (λ m. old (omega arith) ∙ sym (ap (λ (p : Op). last (among (c p) (withOp h o)) i) (with-op-old i (omega arith)) ∙ with-op-below (c (op h i)) i l))
+      (λ m. old (omega arith) ∙ sym (ap (λ (p : Op). last (among (c p) (withOp h o)) i) (with-op-old h o i (omega arith)) ∙ with-op-below (c (op h i)) i l))
       (λ m.
       let e : i ≡ opCount h + 1 = omega arith in
-      new e ∙ sym (rw e (ap (λ (p : Op). last (among (c p) (withOp h o)) (opCount h + 1)) with-op-new ∙ with-op-below (c o) (opCount h + 1) (omega arith))))
+      new e ∙ sym (rw e (ap (λ (p : Op). last (among (c p) (withOp h o)) (opCount h + 1)) (with-op-new h o) ∙ with-op-below (c o) (opCount h + 1) (omega arith))))
       (split i (opCount h + 1))

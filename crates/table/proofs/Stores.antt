@@ -17,7 +17,8 @@ use Rattle.base.proofs.Chains.{last-less}
 use Rattle.base.proofs.Numbered.{numbered-length, numbered-same, numbered-more}
 use Rattle.rules.specs.History.{History, Tx, Op, tx, op, txCount, opCount, empty, opened, closed, withOp}
 use Rattle.table.specs.Table.{tableWords, txAt, opAt, opOf, historyOf, lastAt, prevAt, headAt, linkAt, ofTx, lastBelow, lastOf, prevOf, bucketOf, inBucket, headOf, linkOf, Held, HasTx, HoldsHistory, Becomes, noHeads, cleared, putTx, closeTx, putWords, putRead, putWrite, putOp}
-use Rattle.table.proofs.Grown.{retold, retold-op, retold-last, retold-prev, retold-head, retold-link, last-of-none, byTx, byBucket, bucket-low, with-op-old, with-op-new, with-op-last, with-op-prev}
+use Rattle.rules.proofs.History.{with-op-old, with-op-new}
+use Rattle.table.proofs.Grown.{retold, retold-op, retold-last, retold-prev, retold-head, retold-link, last-of-none, byTx, byBucket, bucket-low, with-op-last, with-op-prev}
 use Rattle.table.proofs.Words.{tx-count, op-count, tx-is, last-small}
 
 -- ── a table that holds x, from its parts ──

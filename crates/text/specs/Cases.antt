@@ -5,16 +5,7 @@ use Prim.Native.String.{String}
 use mathlib.Core.Path.{_≡_, refl}
 use mathlib.Core.List.{List, [], _∷_, _++_, map}
 use lib.ListN.{getD}
-use Rattle.base.specs.Base.{_and_, _or_, pick, someOf, firstOf, countOf, listOf, some, first, count, listed, those, last, joined, numbered, nth, firstFit}
-use Rattle.theory.specs.Leads.{via, isListed}
-use Rattle.theory.specs.Order.{mem, misses, ready, isUnplaced, unplaced, next, fill, rest}
-use Rattle.rules.specs.Numbers.{le}
-use Rattle.rules.specs.History.{tx, op, committed, isOpen, current, writesValue, writeOf, opened, closed, withOp}
-use Rattle.rules.specs.Records.{eventOf, eventAt, breaks, isUnknown, isMisfit, frameRows}
-use Rattle.rules.specs.Reading.{misplaced, unlawful, excess, repeats, stepRows, entered, isEnd, textAt, refusalNo, after, finished, walk, reading}
-use Rattle.rules.specs.Reads.{writesAt, wroteBetween, originOf, sourceOf, kindBy, kindOf, isJudged, isFinding, isExternal, readsFrom}
-use Rattle.rules.specs.Levels.{isStart, isSession, isRead, basic, leads, writesKey, sees, settles, isRival, forced, reasons}
-use Rattle.rules.specs.Outcome.{findings, pairsOf, pairs, order, isEmpty, isAccepted}
+use Rattle.rules.specs.Edges.{as-they-should}
 use Rattle.rules.specs.Traces.{whole, T, r, w}
 use Rattle.rules.specs.Cases.{table}
 use Rattle.text.specs.Lines.{text, decimalBy, decimal, field, fields, line, levelWord, refusedLine, rejectedLine, acceptedLine, readLine, pairLine}
@@ -75,8 +66,9 @@ textTable =
 abbrev pub toPrint : Printed → Printed
 toPrint c = record { bytes = c .bytes; printed = answerText (c .bytes) }
 
-pub as-printed : map toPrint textTable ≡ textTable
-unfolding le tx op committed isOpen current writesValue writeOf opened closed withOp eventOf eventAt breaks isUnknown isMisfit frameRows misplaced unlawful excess repeats stepRows entered isEnd textAt refusalNo after finished walk reading writesAt wroteBetween originOf sourceOf kindBy kindOf isJudged isFinding isExternal readsFrom isStart isSession isRead basic leads writesKey sees settles isRival forced reasons findings pairsOf pairs order isEmpty isAccepted via isListed mem misses ready isUnplaced unplaced next fill rest _and_ _or_ pick someOf firstOf countOf listOf some first count listed those last joined numbered nth firstFit decimalBy decimal field fields line levelWord refusedLine rejectedLine acceptedLine readLine pairLine findingText pairText blockText readingText answerText
+-- `as-they-should` unfolds all that the outcome is computed with
+unfoldable pub as-printed : map toPrint textTable ≡ textTable
+unfolding as-they-should decimalBy decimal field fields line levelWord refusedLine rejectedLine acceptedLine readLine pairLine findingText pairText blockText readingText answerText
 as-printed = refl
 
 -- ── numbers of one digit, two, and more ──
@@ -94,5 +86,5 @@ lineTable =
     ∷ []
 
 pub as-spelt : lineTable ≡ map text ("0" ∷ "9" ∷ "10" ∷ "1024" ∷ "refused 2 32768\n" ∷ "rc accepted 0 127\n" ∷ "tcc rejected 10 16256\n" ∷ "read 127 1024 6\n" ∷ [])
-unfolding pick decimalBy decimal field fields line levelWord refusedLine rejectedLine acceptedLine readLine
+unfolding as-printed
 as-spelt = refl

@@ -8,7 +8,7 @@ use Rattle.rules.specs.History.{opCount}
 use Rattle.rules.specs.Reads.{isFinding}
 use Rattle.table.specs.Table.{historyOf}
 use Rattle.lists.specs.Lists.{entryAt}
-use Rattle.lists.proofs.Listings.{pick-most, count-on, count-most}
+use Rattle.lists.proofs.Listings.{pick-most, count-on, counting-most}
 use Rattle.lists.proofs.Findings.{findings-listed, kind-says}
 use Rattle.lists.proofs.count_findings.Statement.{statement}
 use Rattle.lists.proofs.count_findings.Tie as tie
@@ -31,7 +31,7 @@ returns : tie.Need-returns Inv-loop μ-loop
 returns c =
     let s = c .before .loop .inv .1 in
     let p = c .before .before .before .before .before .pre .held .most in
-    (size-end _ _ _ s (omega (arith, c .before .before .ops .ensures)) ∙ ap length (sym (findings-listed _)), omega (arith, count-most _ s, p))
+    (size-end _ _ _ s (omega (arith, c .before .before .ops .ensures)) ∙ ap length (sym (findings-listed _)), omega (arith, counting-most _ s, p))
 
 pub count-findings-spec : {M : Type 1} → statement M
 count-findings-spec =
@@ -43,7 +43,7 @@ count-findings-spec =
     (λ c. omega (
       arith,
       pick-most _ 1 (c .weight .ensures),
-      count-most _ (c .before .before .before .before .loop .inv .1),
+      counting-most _ (c .before .before .before .before .loop .inv .1),
       c .before .before .before .before .before .before .before .before .pre .held .most,
     ))
     (λ c. omega arith) (λ c. omega arith) loop-again returns)

@@ -4,9 +4,9 @@ use lib.ListN.{length}
 use native.Mathlib.Omega.{arith}
 use borrow.Author.Needs.{needs}
 use Rattle.base.proofs.Fill.{Sizing, size-start, size-end}
-use Rattle.pairs.proofs.Tests.{denied}
+use Rattle.base.proofs.Tests.{denied}
 use Rattle.lists.specs.Lists.{entryAt, isIn, secondsOf}
-use Rattle.lists.proofs.Listings.{those-listed, pick-most, count-on, count-most}
+use Rattle.lists.proofs.Listings.{those-listed, pick-most, count-on, counting-most}
 use Rattle.lists.proofs.Pairs.{cell-of, seconds-none}
 use Rattle.lists.proofs.count_row.Statement.{statement}
 use Rattle.lists.proofs.count_row.Tie as tie
@@ -39,7 +39,7 @@ count-row-spec =
     (λ c. omega arith) (λ c. omega (
       arith,
       pick-most _ 1 (c .weight .ensures),
-      count-most _ (c .before .before .before .loop .inv),
+      counting-most _ (c .before .before .before .loop .inv),
       c .before .before .before .before .before .before .before .before .pre .0 .few,
     ))
     (λ c. omega arith) (λ c. omega arith) loop-again returns-2)

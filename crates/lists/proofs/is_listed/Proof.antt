@@ -1,5 +1,5 @@
 use Rattle.base.specs.Base.{_and_}
-use Rattle.pairs.proofs.Tests.{denied, granted}
+use Rattle.base.proofs.Tests.{denied, granted}
 use Rattle.lists.specs.Lists.{isIn}
 use Rattle.lists.proofs.is_listed.Statement.{statement}
 use Rattle.lists.proofs.is_listed.Tie as tie

@@ -3,7 +3,7 @@ use native.Mathlib.Omega.{arith}
 use Rattle.base.proofs.Fill.{Filling, appended-length, fill-start, fill-room, fill-step, fill-end}
 use Rattle.rules.specs.History.{size}
 use Rattle.table.specs.Table.{historyOf}
-use Rattle.pairs.proofs.Tests.{denied}
+use Rattle.base.proofs.Tests.{denied}
 use Rattle.lists.specs.Lists.{pairAt, rowAt}
 use Rattle.lists.proofs.Pairs.{row-left-out}
 use Rattle.lists.proofs.put_row.Statement.{statement}

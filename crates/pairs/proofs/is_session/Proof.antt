@@ -4,7 +4,7 @@ use borrow.Author.Tests.{lt-ltb, le-ltb}
 use Rattle.base.specs.Base.{_and_}
 use Rattle.rules.specs.Levels.{isSession}
 use Rattle.pairs.proofs.Pairs.{committed-has}
-use Rattle.pairs.proofs.Tests.{denied, granted}
+use Rattle.base.proofs.Tests.{denied, granted}
 use Rattle.pairs.proofs.is_session.Statement.{statement}
 use Rattle.pairs.proofs.is_session.Tie as tie
 

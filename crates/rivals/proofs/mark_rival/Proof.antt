@@ -1,7 +1,7 @@
 use mathlib.Core.Logic.{inl, inr}
 use borrow.Author.Needs.{needs}
 use Rattle.bits.proofs.Tables.{holds-self}
-use Rattle.pairs.proofs.Tests.{denied, granted}
+use Rattle.base.proofs.Tests.{denied, granted}
 use Rattle.rivals.proofs.Rivals.{rival-none, rival-hits}
 use Rattle.rivals.proofs.mark_rival.Statement.{statement}
 use Rattle.rivals.proofs.mark_rival.Tie as tie

@@ -1,7 +1,7 @@
 use mathlib.Core.Path.{sym, _∙_}
 use native.Mathlib.Omega.{arith}
 use borrow.Author.Needs.{needs}
-use Rattle.pairs.proofs.Tests.{denied, granted}
+use Rattle.base.proofs.Tests.{denied, granted}
 use Rattle.rivals.proofs.Seen.{told-bit, from-none, from-all, from-first}
 use Rattle.rivals.proofs.seen_from.Statement.{statement}
 use Rattle.rivals.proofs.seen_from.Tie as tie

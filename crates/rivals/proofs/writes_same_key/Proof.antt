@@ -1,8 +1,7 @@
 use mathlib.Core.Path.{sym}
 use borrow.Author.Needs.{needs}
 use borrow.Author.Tests.{eq-eqb}
-use Rattle.base.proofs.Tests.{or-left}
-use Rattle.pairs.proofs.Tests.{denied, granted}
+use Rattle.base.proofs.Tests.{or-left, denied, granted}
 use Rattle.rivals.specs.Rivals.{writesFor}
 use Rattle.rivals.proofs.Hits.{no-write-for, write-for}
 use Rattle.rivals.proofs.writes_same_key.Statement.{statement}

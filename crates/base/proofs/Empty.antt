@@ -1,14 +1,18 @@
 -- When a listing is empty.
 use Prim.Native.Nat.{ℕ, _+_, _<_, _≤_}
-use mathlib.Core.Path.{_≡_, refl, sym, _∙_}
+use mathlib.Core.Path.{_≡_, refl, ap, sym, _∙_}
 use mathlib.Core.Bool.{Bool, false}
 use mathlib.Core.Logic.{⊎-elim, _↔_}
 use mathlib.Core.List.{List, [], _∷_, _++_}
 use native.Mathlib.Omega.{arith}
+use lib.ListN.{length}
 use Rattle.base.specs.Base.{pick, listed, those, joined}
 use Rattle.base.proofs.Tests.{is-false, pick-on, pick-off, split}
 use Rattle.base.proofs.Searches.{downward, listed-step, listed-end}
-use Rattle.rules.proofs.Outcome.{not-empty}
+
+-- a list with an entry is not empty
+pub not-empty : {A : Type 0} {x : A} {xs : List A} → x ∷ xs ≡ [] → ⊥
+not-empty e = omega (arith, ap length e)
 
 -- two lists in one are empty exactly if both are
 both-empty : {A : Type 0} (xs ys : List A) → xs ++ ys ≡ [] → (xs ≡ []) × (ys ≡ [])

@@ -6,7 +6,7 @@ use mathlib.Core.List.{List, [], _∷_, _++_}
 use native.Mathlib.Omega.{arith}
 use lib.ListN.{length, length-append}
 use Rattle.base.specs.Base.{pick, Row, row, firstFit, count, listed, those, joined}
-use Rattle.base.proofs.Tests.{ifso, pick-on, pick-off}
+use Rattle.base.proofs.Tests.{ifso}
 use Rattle.base.proofs.Searches.{listed-most, count-most, joined-one, joined-none, joined-listed, joined-those}
 use Rattle.theory.specs.Leads.{isListed}
 use Rattle.theory.proofs.Order.{unplaced-all, rest-bound, rest-below}
@@ -25,16 +25,15 @@ use Rattle.text.proofs.Lines.{refused-length, rejected-length, accepted-length,
 
 -- ── lists of parts ──
 
+-- a list in three parts
 three-parts : (a b c : List ℕ) → length (a ++ (b ++ c)) ≡ length a + (length b + length c)
 three-parts a b c = length-append a (b ++ c) ∙ ap (λ (n : ℕ). length a + n) (length-append b c)
 
--- a part that is there only where a test passes
-pick-most : {A : Type 0} (b : Bool) (x : List A) (k : ℕ) → length x ≤ k → length (pick b x []) ≤ k
-pick-most b x k h = ifso b (λ t. rw (pick-on b x [] t) h) (λ t. rw (pick-off b x [] t) (omega arith))
-
-joined-most : {A : Type 0} (f : A → List ℕ) (b : Bool) (x : A) (k : ℕ) → length (f x) ≤ k → length (joined f (pick b (x ∷ []) [])) ≤ k
-joined-most f b x k h =
-    ifso b (λ t. rw (pick-on b (x ∷ []) [] t, joined-one f x) h) (λ t. rw (pick-off b (x ∷ []) [] t, joined-none f) (omega arith))
+-- what holds of both is so of the one that a test picks
+pick-both : {X : Type 0} (Q : X → Type 0) (b : Bool) {x y : X} → Q x → Q y → Q (pick b x y)
+unfolding pick
+pick-both Q true u v = u
+pick-both Q false u v = v
 
 -- ── numbers ──
 
@@ -54,7 +53,7 @@ unfolding kindOf kindBy
 kind-most h i = fit-most 6 _ (omega arith, (omega arith, (omega arith, (omega arith, (omega arith, (omega arith, tt))))))
 
 reason-most : (b : Bool) (n : ℕ) → pick b n 0 ≤ n
-reason-most b n = ifso b (λ t. rw (pick-on b n 0 t) (omega arith)) (λ t. rw (pick-off b n 0 t) (omega arith))
+reason-most b n = pick-both (λ (m : ℕ). m ≤ n) b (omega arith) (omega arith)
 
 all-reasons : (h : History) (level a b : ℕ) → reasons h level a b ≤ 15
 unfolding reasons
@@ -64,10 +63,11 @@ all-reasons h level a b =
 -- ── a history that was read ──
 
 module _ {h : History} (ok : LawfulHistory h) where
+  -- its findings, and their lines
   pub findings-few : length (findings h) ≤ 1024
   unfolding findings those
   findings-few =
-      omega (arith, ok .few-ops, listed-most (λ i. pick (isFinding h i) (i ∷ []) []) 1 (opCount h + 1) 1 (λ i a b. pick-most (isFinding h i) (i ∷ []) 1 (omega arith)))
+      omega (arith, ok .few-ops, listed-most (λ i. pick (isFinding h i) (i ∷ []) []) 1 (opCount h + 1) 1 (λ i a b. pick-both (λ (l : List ℕ). length l ≤ 1) (isFinding h i) (omega arith) (omega arith)))
 
   findings-text : length (joined (findingText h) (findings h)) ≤ 20480
   unfolding findings findingText
@@ -79,8 +79,8 @@ module _ {h : History} (ok : LawfulHistory h) where
         listed-most (λ i. pick (isFinding h i) (findingText h i) []) 20 (opCount h + 1) 1
             (λ i a b.
             let t = ok .in-tx i (record { from = a; to = omega arith }) in
-            pick-most (isFinding h i) (findingText h i) 20
-            (read-length (op h i .tx) i (kindOf h i) (omega (arith, t .to, ok .few-txs)) (omega (arith, ok .few-ops)) (omega (arith, kind-most h i)))),
+            pick-both (λ (l : List ℕ). length l ≤ 20) (isFinding h i)
+            (read-length (op h i .tx) i (kindOf h i) (omega (arith, t .to, ok .few-txs)) (omega (arith, ok .few-ops)) (omega (arith, kind-most h i))) (omega arith)),
       ))
 
   module _ (level : ℕ) where
@@ -92,6 +92,7 @@ module _ {h : History} (ok : LawfulHistory h) where
     unfolding pairsOf
     entries-of a = joined-those (λ b. record { one = a; two = b } ∷ []) (isListed (size h) (forced h level) a) (size h) 0
 
+    -- its pairs, and their lines
     pub pairs-few : length (pairs h level) ≤ 16384
     unfolding pairs
     pairs-few =
@@ -101,7 +102,7 @@ module _ {h : History} (ok : LawfulHistory h) where
           listed-most (pairsOf h level) 128 (size h) 0
               (λ a _ _.
               rw (entries-of a)
-              (omega (arith, ok .few-txs, listed-most (entry a) 1 (size h) 0 (λ b _ _. pick-most (isListed (size h) (forced h level) a b) (record { one = a; two = b } ∷ []) 1 (omega arith))))),
+              (omega (arith, ok .few-txs, listed-most (entry a) 1 (size h) 0 (λ b _ _. pick-both (λ (l : List Pair). length l ≤ 1) (isListed (size h) (forced h level) a b) (omega arith) (omega arith))))),
         )
 
     row-text : (a : ℕ) → a < size h → length (joined (pairText h level) (pairsOf h level a)) ≤ 2560
@@ -113,8 +114,10 @@ module _ {h : History} (ok : LawfulHistory h) where
           ok .few-txs,
           listed-most (λ b. joined (pairText h level) (entry a b)) 20 (size h) 0
               (λ b _ m.
-              joined-most (pairText h level) (isListed (size h) (forced h level) a b) (record { one = a; two = b }) 20
-              (pair-length a b (reasons h level a b) (omega (arith, ok .few-txs)) (omega (arith, ok .few-txs)) (omega (arith, all-reasons h level a b)))),
+              pick-both (λ (l : List Pair). length (joined (pairText h level) l) ≤ 20) (isListed (size h) (forced h level) a b)
+              (rw (joined-one (pairText h level) (record { one = a; two = b }))
+              (pair-length a b (reasons h level a b) (omega (arith, ok .few-txs)) (omega (arith, ok .few-txs)) (omega (arith, all-reasons h level a b))))
+              (rw (joined-none (pairText h level)) (omega arith))),
         ))
 
     pairs-text : length (joined (pairText h level) (pairs h level)) ≤ 327680
@@ -123,6 +126,7 @@ module _ {h : History} (ok : LawfulHistory h) where
         rw (joined-listed (pairText h level) (pairsOf h level) (size h) 0)
         (omega (arith, ok .few-txs, listed-most (λ a. joined (pairText h level) (pairsOf h level a)) 2560 (size h) 0 (λ a _ l. row-text a l)))
 
+    -- its order, and the line of it
     pub order-few : length (order h level) ≤ 128
     unfolding order
     order-few =
@@ -136,12 +140,12 @@ module _ {h : History} (ok : LawfulHistory h) where
     block-short : length (blockText h level) ≤ 348224
     unfolding blockText
     block-short =
-        ifso (isAccepted h level) (λ t. rw (pick-on (isAccepted h level) _ _ t) (omega (arith, order-text)))
-        (λ t. rw (pick-off (isAccepted h level) _ _ t)
-        (omega (arith, three-parts (rejectedLine level (length (findings h)) (length (pairs h level))) (joined (findingText h) (findings h)) (joined (pairText h level) (pairs h level)), rejected-length (length (findings h)) (length (pairs h level)) (omega (arith, findings-few)) (omega (arith, pairs-few)) level, findings-text, pairs-text)))
+        pick-both (λ (t : List ℕ). length t ≤ 348224) (isAccepted h level) (omega (arith, order-text))
+        (omega (arith, three-parts (rejectedLine level (length (findings h)) (length (pairs h level))) (joined (findingText h) (findings h)) (joined (pairText h level) (pairs h level)), rejected-length (length (findings h)) (length (pairs h level)) (omega (arith, findings-few)) (omega (arith, pairs-few)) level, findings-text, pairs-text))
 
 -- ── the text ──
 
+-- a refusal's number and place are small
 number-most : (c : Check) → numberOf c ≤ 10
 number-most lengthField = omega arith
 number-most lengthLow = omega arith
@@ -154,12 +158,12 @@ number-most valueLawful = omega arith
 number-most withinLimit = omega arith
 number-most newWrite = omega arith
 
--- a refusal's number and place are small
 refused-small : {s : List ℕ} {n p : ℕ} → Refuses s n p → (n ≤ 11) × (p ≤ 32768)
 refused-small (too-long l) = (omega arith, omega arith)
 refused-small (at-record {c = c} l r f) = (omega (arith, number-most c), omega (arith, reached-within r))
 refused-small (bytes-behind l r p k b) = (omega arith, omega arith)
 
+-- what is read is lawful
 pub lawful-reading : (s : List ℕ) {h : History} {notes : List Stretch} → reading s ≡ read h notes → LawfulHistory h
 lawful-reading s {h} {notes} e = lawful-history (reads-iff s h notes .0 e)
 

@@ -1,4 +1,5 @@
 // Judges many traces in one run. Standard input has each trace behind its length, 2 bytes little-endian; a line `--` follows each answer.
+ghost use mathlib.Core.Path.{_≡_};
 ghost use Prim.Native.Nat.{_<_, _≤_};
 ghost use lib.ListN.{length};
 
@@ -49,7 +50,7 @@ fn print_front(text: &[u8], end: usize)
 }
 
 fn wide(b: u8) -> usize
-    ensures { λ r. ⌜ r < 256 ⌝ }
+    ensures { λ r. ⌜ (r ≡ b) × (r < 256) ⌝ }
 {
     b as usize
 }

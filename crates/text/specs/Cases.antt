@@ -55,7 +55,7 @@ textTable =
     ∷ prints (P 14) "rc accepted 0 1 2\nra rejected 0 2\npair 0 1 1\npair 1 0 8\ntcc rejected 0 2\npair 0 1 1\npair 1 0 8\n"
     -- T1 r1=0 w1=5; T2 r1=0 w1=6
     ∷ prints (P 15) "rc accepted 0 1 2\nra accepted 0 1 2\ntcc accepted 0 1 2\n"
-    -- T1 w1=11 w2=21; T2 w1=12 w2=22; T3 r1=12 r2=21: the seven lines
+    -- T1 w1=11 w2=21; T2 w1=12 w2=22; T3 r1=12 r2=21: 187 bytes in, seven lines out
     ∷ prints (P 16) "rc accepted 0 2 1 3\nra rejected 0 2\npair 1 2 8\npair 2 1 8\ntcc rejected 0 2\npair 1 2 8\npair 2 1 8\n"
     -- both lists in one block: T1 r2=7 w1=5; T2 r1=5 w2=7 r3=9
     ∷ prints (whole 2 (T 1 (r 2 7 ∷ w 1 5 ∷ []) ++ T 2 (r 1 5 ∷ w 2 7 ∷ r 3 9 ∷ [])))

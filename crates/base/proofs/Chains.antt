@@ -1,14 +1,14 @@
 -- Searches from the top down, and along a chain: of the numbers that pass p, each knows the one before it. A search for a q that only such numbers
 -- pass may follow the chain. A loop's invariant says that the whole search equals the same search up to j, the place in the chain.
 use Prim.Native.Nat.{ℕ, zero, suc, _+_, _<_, _≤_}
-use mathlib.Core.Path.{_≡_, refl, ap, sym, _∙_}
+use mathlib.Core.Path.{_≡_, refl}
 use mathlib.Core.Bool.{Bool, true, false}
-use mathlib.Core.Logic.{_⊎_, inl, inr, ⊎-elim}
+use mathlib.Core.Logic.{⊎-elim}
 use native.Mathlib.Omega.{arith}
 use native.Mathlib.Numerals.{add-one}
-use Rattle.base.specs.Base.{pick, some, last}
-use Rattle.base.proofs.Tests.{known, clash, is-false, same-test, pick-on, pick-off, ifso, split}
-use Rattle.base.proofs.Searches.{some-at, some-of, some-none, none-at}
+use Rattle.base.specs.Base.{some, last}
+use Rattle.base.proofs.Tests.{clash, is-false, same-test, pick-on, pick-off, ifso, split}
+use Rattle.base.proofs.Searches.{some-at, some-of}
 
 -- ── the last that passes ──
 

@@ -8,7 +8,7 @@ use native.Mathlib.Omega.{arith}
 use native.Mathlib.Nat.{mul-suc, add-comm}
 use lib.ListN.{length, getD, length-append}
 use Rattle.base.specs.Base.{_or_, pick, someOf, firstOf, countOf, listOf, some, first, count, listed, those, joined}
-use Rattle.base.proofs.Tests.{known, clash, is-false, or-cases, or-left, or-right, pick-of, ifso, split}
+use Rattle.base.proofs.Tests.{known, clash, is-false, pick-of, ifso, split}
 
 left : (j e : ℕ) → j < e → e - j ≡ suc (e - (j + 1))
 left j e h = omega arith

@@ -10,7 +10,7 @@ use lib.Bits.{bitOr}
 use lib.Dec.{eqb}
 use lib.ListN.{length, getD, set, length-set}
 use lib.Seq.{getD-set-same, getD-set-other, ext-getD}
-use borrow.Author.Tests.{eqb-true, eqb-false, eq-eqb, ne-eqb, le-ltb}
+use borrow.Author.Tests.{eqb-true, eqb-false, eq-eqb, ne-eqb}
 use Rattle.base.specs.Base.{_and_, _or_}
 use Rattle.base.proofs.Tests.{ifso, split, same-test, both, and-left, and-right, and-on, and-no-left, and-no-right, or-on, or-off, or-assoc, same-eqb}
 use Rattle.bits.specs.Bits.{testBit, bitOf, Holds, nothing, either, plusBit, plusRow}

@@ -6,7 +6,8 @@ use mathlib.Core.Logic.{_⊎_, inl, inr, ⊎-elim}
 use mathlib.Core.List.{List, [], _∷_, _++_, append-assoc, append-nil}
 use native.Mathlib.Omega.{arith}
 use native.Mathlib.Nat.{mul-suc, add-comm}
-use lib.ListN.{length, getD, length-append}
+use lib.ListN.{length, getD, length-append, List·getD-append}
+use lib.Seq.{getD-append-add}
 use Rattle.base.specs.Base.{_or_, pick, someOf, firstOf, countOf, listOf, some, first, count, listed, those, joined}
 use Rattle.base.proofs.Tests.{known, clash, is-false, pick-of, ifso, split}
 
@@ -275,15 +276,16 @@ joined-listed f g e =
     (λ j h. ap (joined f) (listed-end g j e h) ∙ joined-none f ∙ sym (listed-end (λ i. joined f (g i)) j e h))
     (λ j l ih. ap (joined f) (listed-step g j e l) ∙ joined-append f (g j) (listed (j + 1) e g) ∙ rw ih (sym (listed-step (λ i. joined f (g i)) j e l)))
 
+-- .. of one entry or none
+pub joined-pick : {A B : Type 0} (f : A → List B) (b : Bool) (x : A) → joined f (pick b (x ∷ []) []) ≡ pick b (f x) []
+joined-pick f b x = pick-of (joined f) b (x ∷ []) [] ∙ rw (joined-one f x, joined-none f)
+
 -- what is joined of those that pass is what each of them gives
 pub joined-those : {B : Type 0} (f : ℕ → List B) (p : ℕ → Bool) (e j : ℕ) → joined f (those j e p) ≡ listed j e (λ i. pick (p i) (f i) [])
 unfolding those
 joined-those f p e j =
     joined-listed f (λ i. pick (p i) (i ∷ []) []) e j
-    ∙ listed-same (λ i. joined f (pick (p i) (i ∷ []) [])) (λ i. pick (p i) (f i) []) e j (λ i a b. one (p i) i)
-  where
-    one : (b : Bool) (i : ℕ) → joined f (pick b (i ∷ []) []) ≡ pick b (f i) []
-    one b i = pick-of (joined f) b (i ∷ []) [] ∙ rw (joined-one f i, joined-none f)
+    ∙ listed-same (λ i. joined f (pick (p i) (i ∷ []) [])) (λ i. pick (p i) (f i) []) e j (λ i a b. joined-pick f (p i) i)
 
 -- entries of k each
 pub joined-length : {A B : Type 0} (f : A → List B) (k : ℕ) → ((x : A) → length (f x) ≡ k) → (l : List A) → length (joined f l) ≡ k * length l
@@ -293,3 +295,14 @@ joined-length f k h (x ∷ l) = length-append (f x) (joined f l) ∙ rw (h x, jo
   where
     by : (n : ℕ) → k + k * n ≡ k * suc n
     by n = sym (mul-suc k n ∙ add-comm (k * n) k)
+
+-- .. and number r of the j-th of them, both from 0
+pub joined-at : {A B : Type 0} (f : A → List B) (k : ℕ) → ((x : A) → length (f x) ≡ k) → (d : A) (z : B) (l : List A) (j r : ℕ) → j < length l → r < k
+    → getD (joined f l) (k * j + r) z ≡ getD (f (getD l j d)) r z
+unfolding joined
+joined-at f k h d z [] j r a b = absurd (omega arith)
+joined-at f k h d z (x ∷ l) zero r a b =
+    let e : k * 0 + r ≡ r = omega arith in rw e (List·getD-append (f x) (joined f l) z r (omega (arith, h x)))
+joined-at f k h d z (x ∷ l) (suc j) r a b =
+    let e : k * suc j + r ≡ length (f x) + (k * j + r) = omega (arith, mul-suc k j, h x) in
+    rw e (getD-append-add (f x) (joined f l) (k * j + r) z ∙ joined-at f k h d z l j r (omega arith) b)

@@ -8,6 +8,7 @@ use native.Mathlib.Omega.{arith}
 use lib.Dec.{ltb, eqb}
 use borrow.Author.Tests.{eqb-true, eqb-false, eq-eqb, ne-eqb, ltb-true, ltb-false, lt-ltb}
 use Rattle.base.specs.Base.{_and_, _or_, Row, row, firstFit}
+use Rattle.base.proofs.Rows.{fit-here, fit-past}
 use Rattle.base.proofs.Tests.{ifso, clash, is-false, is-true, not-true, both, and-left, and-right, or-cases, or-left, or-right, pick-on, pick-off, split}
 use Rattle.base.proofs.Searches.{some-at, some-of}
 use Rattle.rules.specs.History.{History, op, opCount, committed, writeOf}
@@ -127,15 +128,6 @@ pub data KindDecided (F : ℕ → Type 0) : ℕ → ℕ → List Row → Type 0 
   end : {n : ℕ} → KindDecided F n n []
   next : {n e : ℕ} {b : Bool} {rs : List Row} → (b ≡ true) ↔ F n → KindDecided F (n + 1) e rs → KindDecided F n e (row b n ∷ rs)
 
--- a row that fits decides, one that doesn't leaves the rest
-fit-on : (b : Bool) (n : ℕ) (rs : List Row) → b ≡ true → firstFit (row b n ∷ rs) ≡ n
-unfolding firstFit
-fit-on b n rs e = rw e
-
-fit-off : (b : Bool) (n : ℕ) (rs : List Row) → b ≡ false → firstFit (row b n ∷ rs) ≡ firstFit rs
-unfolding firstFit
-fit-off b n rs e = rw e
-
 -- what holds of no number past n, nor of n, holds of none from n on
 from-next : (F : ℕ → Type 0) (n : ℕ) → (F n → ⊥) → (l : ℕ) → n ≤ l → (n + 1 ≤ l → F l → ⊥) → F l → ⊥
 from-next F n d l a f = ⊎-elim (λ m. f (omega arith)) (λ m. let q : l ≡ n = omega arith in rw q d) (split n l)
@@ -149,8 +141,8 @@ pub decides-first : {F : ℕ → Type 0} {n e : ℕ} {rs : List Row} → KindDec
 unfolding firstFit
 decides-first end = none refl (λ l a b. absurd (omega arith))
 decides-first (next {n} {b = b} {rs} d r) =
-    ifso b (λ t. rw (fit-on b n rs t) (hit (omega arith) (d .0 t) (λ l a c. absurd (omega arith))))
-    (λ t. rw (fit-off b n rs t) (firstly-next (λ f. clash (d .1 f) t) (decides-first r)))
+    ifso b (λ t. rw (← fit-here b n rs t) (hit (omega arith) (d .0 t) (λ l a c. absurd (omega arith))))
+    (λ t. rw (← fit-past b n rs t refl) (firstly-next (λ f. clash (d .1 f) t) (decides-first r)))
 
 -- ── the six rows ──
 

@@ -4,16 +4,17 @@ use mathlib.Core.Path.{_≡_, refl, ap, sym, _∙_}
 use mathlib.Core.List.{List, [], _∷_, _++_}
 use mathlib.Core.Logic.{⊎-elim}
 use native.Mathlib.Omega.{arith}
-use lib.ListN.{length, getD, List·getD-append}
-use lib.Seq.{getD-append-add, ext-getD}
+use lib.ListN.{length, getD}
+use lib.Seq.{ext-getD}
 use Rattle.base.specs.Base.{joined}
 use Rattle.base.proofs.Tests.{split}
-use Rattle.base.proofs.Searches.{joined-length}
+use Rattle.base.proofs.Searches.{joined-at}
 use Rattle.theory.specs.Entries.{In, here, there}
 use Rattle.theory.proofs.Entries.{entry-in}
 use Rattle.rules.specs.Numbers.{le}
 use Rattle.rules.specs.History.{History}
 use Rattle.rules.specs.Outcome.{Pair, findings, findingBytes, findingList, pairs, pairBytes, pairList}
+use Rattle.rules.proofs.Lists.{findings-four, pairs-four}
 use Rattle.demand1.specs.Lawful.{LawfulHistory}
 use Rattle.demand3.specs.Lists.{Finding, Fours, noPair, FindingBytes, PairBytes}
 use Rattle.demand3.proofs.Findings.{kind-most, kind-one, finding-kind, findings-are}
@@ -55,25 +56,15 @@ module _ {A : Type 0} (f : A → List ℕ) where
   joined-below (x ∷ xs) h = below-append (f x) (joined f xs) (h x (here refl)) (joined-below xs (λ y i. h y (there i)))
 
   module _ (four : (x : A) → length (f x) ≡ 4) (d : A) where
-    -- byte r of the j-th entry
-    joined-at : (xs : List A) (j r : ℕ) → j < length xs → r < 4 → getD (joined f xs) (4 * j + r) 0 ≡ getD (f (getD xs j d)) r 0
-    unfolding joined
-    joined-at [] j r h g = absurd (omega arith)
-    joined-at (x ∷ xs) zero r h g =
-        let e : 4 * 0 + r ≡ r = omega arith in rw e (List·getD-append (f x) (joined f xs) 0 r (omega (arith, four x)))
-    joined-at (x ∷ xs) (suc j) r h g =
-        let e : 4 * suc j + r ≡ length (f x) + (4 * j + r) = omega (arith, four x) in
-        rw e (getD-append-add (f x) (joined f xs) (4 * j + r) 0 ∙ joined-at xs j r (omega arith) g)
-
     -- the j-th entry whole
     four-at : (xs : List A) (j : ℕ) → j < length xs → FourAt (joined f xs) j (f (getD xs j d))
     four-at xs j h =
         let e : 4 * j ≡ 4 * j + 0 = omega arith in
         record {
-          first = ap (λ (k : ℕ). getD (joined f xs) k 0) e ∙ joined-at xs j 0 h (omega arith);
-          second = joined-at xs j 1 h (omega arith);
-          third = joined-at xs j 2 h (omega arith);
-          fourth = joined-at xs j 3 h (omega arith);
+          first = ap (λ (k : ℕ). getD (joined f xs) k 0) e ∙ joined-at f 4 four d 0 xs j 0 h (omega arith);
+          second = joined-at f 4 four d 0 xs j 1 h (omega arith);
+          third = joined-at f 4 four d 0 xs j 2 h (omega arith);
+          fourth = joined-at f 4 four d 0 xs j 3 h (omega arith);
         }
 
 -- the number that the last two of four bytes spell
@@ -109,7 +100,7 @@ module _ {h : History} (ok : LawfulHistory h) where
   unfolding findingList findingBytes
   findings-spelt =
       record {
-        long = joined-length (findingBytes h) 4 (λ i. refl) (findings h);
+        long = findings-four h;
         bytes = joined-below (findingBytes h) (findings h) (λ i m. finding-below i (findings-are ok .entries i .0 m));
         each =
             λ j l.
@@ -136,7 +127,7 @@ module _ {h : History} (ok : LawfulHistory h) where
     unfolding pairList pairBytes
     pairs-spelt =
         record {
-          long = joined-length (pairBytes h level) 4 (λ p. refl) (pairs h level);
+          long = pairs-four h level;
           bytes = joined-below (pairBytes h level) (pairs h level) pair-below;
           each =
               λ j l.

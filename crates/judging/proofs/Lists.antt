@@ -12,11 +12,11 @@ use Rattle.rules.specs.Outcome.{findings, findingList, pairs, pairList, reporte
 use Rattle.rules.specs.declared.Answer.{Answer}
 use Rattle.rules.specs.declared.Answer.the-variants.{Refused, Rejected}
 use Rattle.rules.proofs.Numbers.{appended-over}
+use Rattle.rules.proofs.Lists.{findings-four, pairs-four}
 use Rattle.rules.proofs.Outcome.{is-accepted, found-rejected, listed-rejected, judged-accepted, judged-rejected, rejection-short, rejection-short-pairs, rejection-fits}
 use Rattle.table.specs.Table.{historyOf}
 use Rattle.lists.specs.Lists.{pairCount, pairsIn, Judging}
-use Rattle.lists.proofs.Findings.{findings-four}
-use Rattle.lists.proofs.Levels.{pairs-four, told-pairs, told-count}
+use Rattle.lists.proofs.Levels.{told-pairs, told-count}
 use Rattle.judging.specs.declared.Counts.{Counts}
 use Rattle.judging.specs.Judging.{Counted, OnAcceptance, OnRejection, OnReading}
 

@@ -6,10 +6,11 @@ use native.Mathlib.Omega.{arith}
 use lib.ListN.{length, getD}
 use Rattle.base.specs.Base.{pick, listed}
 use Rattle.base.proofs.Tests.{ifso, pick-off}
-use Rattle.base.proofs.Searches.{joined-those, joined-length}
+use Rattle.base.proofs.Searches.{joined-those}
 use Rattle.rules.specs.History.{History, op, opCount}
 use Rattle.rules.specs.Reads.{isFinding}
 use Rattle.rules.specs.Outcome.{findings, findingBytes, findingList}
+use Rattle.rules.proofs.Lists.{findings-four}
 use Rattle.reads.specs.Verdicts.{Judged}
 use Rattle.reads.proofs.Entries.{judged-finding, judged-kind}
 use Rattle.lists.specs.Lists.{entryAt, isKind, findingAt}
@@ -24,14 +25,9 @@ module _ (h : History) where
   unfolding findingList findings findingAt
   list-listed = joined-those (findingBytes h) (isFinding h) (opCount h + 1) 1
 
-  -- "Finding, 4 bytes"
-  pub findings-four : length (findingList h) ≡ 4 * length (findings h)
-  unfolding findingList findingBytes
-  findings-four = joined-length (findingBytes h) 4 (λ i. refl) (findings h)
-
   -- so there is room
   pub findings-fit : (m : ℕ) → 4 * length (findings h) ≤ m → 0 + length (listed 1 (opCount h + 1) (findingAt h)) ≤ m
-  findings-fit m l = rw (← list-listed) (omega (arith, findings-four))
+  findings-fit m l = rw (← list-listed) (omega (arith, findings-four h))
 
 -- what operation i's byte says
 module _ {k : List ℕ} {h : History} (j : Judged k h) (i : ℕ) (a : 1 ≤ i) (b : i ≤ opCount h) where

@@ -7,27 +7,18 @@ use native.Mathlib.Omega.{arith}
 use lib.ListN.{length}
 use Rattle.base.specs.Base.{pick, joined}
 use Rattle.base.proofs.Tests.{and-left, and-right, ifso, pick-on, pick-off}
-use Rattle.base.proofs.Searches.{listed-same, joined-one, joined-none, joined-listed, joined-those, joined-length}
+use Rattle.base.proofs.Searches.{listed-same, joined-pick, joined-listed, joined-those}
 use Rattle.theory.specs.Leads.{isListed}
 use Rattle.theory.proofs.Leads.{via-keeps, via-on}
 use Rattle.rules.specs.History.{History, size}
 use Rattle.rules.specs.Levels.{forced, reasons}
 use Rattle.rules.specs.Outcome.{pairsOf, pairs, pairBytes, pairList}
+use Rattle.rules.proofs.Lists.{pairs-four}
 use Rattle.table.specs.Table.{historyOf}
 use Rattle.bits.specs.Bits.{bitOf}
 use Rattle.pairs.specs.Pairs.{before}
 use Rattle.lists.specs.Lists.{isIn, pairCount, reasonsIn, pairAt, rowAt, pairsIn, Listing, Judging}
 use Rattle.lists.proofs.Pairs.{pairs-in-four}
-
--- "Pair, 4 bytes"
-pub pairs-four : (h : History) (level : ℕ) → length (pairList h level) ≡ 4 * length (pairs h level)
-unfolding pairList pairBytes
-pairs-four h level = joined-length (pairBytes h level) 4 (λ p. refl) (pairs h level)
-
--- what is joined of one entry or none
-joined-pick : {A B : Type 0} (f : A → List B) (b : Bool) (x : A) → joined f (pick b (x ∷ []) []) ≡ pick b (f x) []
-joined-pick f b x =
-    ifso b (λ t. rw (pick-on b (x ∷ []) [] t, pick-on b (f x) [] t) (joined-one f x)) (λ t. rw (pick-off b (x ∷ []) [] t, pick-off b (f x) [] t) (joined-none f))
 
 module _ {h k f c v : List ℕ} {level : ℕ} (j : Judging h k f c v level) where
   abbrev H : History

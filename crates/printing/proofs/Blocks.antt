@@ -16,8 +16,9 @@ use Rattle.show.specs.Laid.{Put, Short}
 use Rattle.show.proofs.Laws.{laid-over, first-short, then-short, put-then}
 use Rattle.printing.specs.declared.Block.{Block}
 use Rattle.printing.specs.Printing.{Written, blockOf, isRefused, BlockPut, rejectedText}
+use Rattle.rules.proofs.Lists.{findings-four, pairs-four}
 use Rattle.printing.proofs.Lengths.{answer-short}
-use Rattle.printing.proofs.Entries.{over-most, findings-long, findings-lines, pairs-long, pairs-lines}
+use Rattle.printing.proofs.Entries.{over-most, findings-lines, pairs-lines}
 use Rattle.printing.proofs.Judged.{newFindings, newPairs, newOrder, AcceptedBy, RejectedBy}
 
 -- ── one block ──
@@ -46,10 +47,10 @@ module _ {q : Reading} {level n : ℕ} {O : List ℕ} (x : AcceptedBy q level n 
 
 module _ {q : Reading} {level n m : ℕ} {F P : List ℕ} (x : RejectedBy q level n m F P) where
   pub findings-there : 4 * n ≤ length F
-  findings-there = rw (x .findings) (omega (arith, x .found, findings-long (x .history) newFindings, over-most (findingList (x .history)) newFindings))
+  findings-there = rw (x .findings) (omega (arith, x .found, findings-four (x .history), over-most (findingList (x .history)) newFindings))
 
   pub pairs-there : 4 * m ≤ length P
-  pairs-there = rw (x .pairs) (omega (arith, x .listed, pairs-long (x .history) newPairs level, over-most (pairList (x .history) level) newPairs))
+  pairs-there = rw (x .pairs) (omega (arith, x .listed, pairs-four (x .history) level, over-most (pairList (x .history) level) newPairs))
 
   pub block-rejected : BlockIs q level (rejectedText level n m F P) false
   unfolding blockOf isRefused blockText rejectedText

@@ -5,9 +5,9 @@ use mathlib.Core.List.{List, [], _∷_}
 use native.Mathlib.Omega.{arith}
 use native.Mathlib.Numerals.{add-one}
 use lib.ListN.{length, getD, drop, length-append, List·getD-append}
-use lib.Seq.{drop-cons, getD-append-add}
+use lib.Seq.{drop-cons}
 use Rattle.base.specs.Base.{listed, joined}
-use Rattle.base.proofs.Searches.{downward, listed-step, listed-end, listed-same, joined-length}
+use Rattle.base.proofs.Searches.{downward, listed-step, listed-end, listed-same, joined-length, joined-at}
 use Rattle.rules.specs.Numbers.{le, over}
 use Rattle.rules.specs.History.{History}
 use Rattle.rules.specs.Outcome.{Pair, findings, findingBytes, findingList, pairs, pairBytes, pairList}
@@ -30,21 +30,11 @@ over-most l b = omega (arith, length-append l (drop (length l) b))
 -- ── entries of four bytes ──
 
 module _ {A : Type 0} (f : A → List ℕ) (four : (x : A) → length (f x) ≡ 4) (d : A) where
-  -- byte r of the j-th entry
-  joined-at : (xs : List A) (j r : ℕ) → j < length xs → r < 4 → getD (joined f xs) (4 * j + r) 0 ≡ getD (f (getD xs j d)) r 0
-  unfolding joined
-  joined-at [] j r h g = absurd (omega arith)
-  joined-at (x ∷ xs) zero r h g =
-      let e : 4 * 0 + r ≡ r = omega arith in rw e (List·getD-append (f x) (joined f xs) 0 r (omega (arith, four x)))
-  joined-at (x ∷ xs) (suc j) r h g =
-      let e : 4 * suc j + r ≡ length (f x) + (4 * j + r) = omega (arith, four x) in
-      rw e (getD-append-add (f x) (joined f xs) (4 * j + r) 0 ∙ joined-at xs j r (omega arith) g)
-
-  -- in a buffer that they were written over
+  -- byte r of the j-th, in a buffer that they were written over
   byte-at : (xs : List A) (b : List ℕ) (j r k : ℕ) → k ≡ 4 * j + r → j < length xs → r < 4
       → getD (over (joined f xs) b) k 0 ≡ getD (f (getD xs j d)) r 0
   byte-at xs b j r k e h g =
-      rw e (over-at (joined f xs) b (4 * j + r) (omega (arith, joined-length f 4 four xs)) ∙ joined-at xs j r h g)
+      rw e (over-at (joined f xs) b (4 * j + r) (omega (arith, joined-length f 4 four xs)) ∙ joined-at f 4 four d 0 xs j r h g)
 
 -- ── lines of entries ──
 
@@ -86,10 +76,6 @@ module _ {A : Type 0} (g : A → List ℕ) (d : A) (l : List A) where
 -- ── the two lists ──
 
 module _ (h : History) (b : List ℕ) where
-  pub findings-long : length (findingList h) ≡ 4 * length (findings h)
-  unfolding findingList findingBytes
-  findings-long = joined-length (findingBytes h) 4 (λ i. refl) (findings h)
-
   finding-line : (j : ℕ) → j < length (findings h) → entryLine Reads (over (findingList h) b) j ≡ findingText h (getD (findings h) j 0)
   unfolding findingList findingBytes findingText entryLine le
   finding-line j l =
@@ -103,10 +89,6 @@ module _ (h : History) (b : List ℕ) where
   findings-lines = listed-joined (findingText h) 0 (findings h) (entryLine Reads (over (findingList h) b)) finding-line
 
   module _ (level : ℕ) where
-    pub pairs-long : length (pairList h level) ≡ 4 * length (pairs h level)
-    unfolding pairList pairBytes
-    pairs-long = joined-length (pairBytes h level) 4 (λ p. refl) (pairs h level)
-
     -- no entry
     abbrev no-pair : Pair
     no-pair = record { one = 0; two = 0 }

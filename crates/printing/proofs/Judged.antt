@@ -12,8 +12,8 @@ use Rattle.rules.specs.Outcome.{findings, findingList, pairs, pairList, order, 
 use Rattle.rules.specs.declared.Answer.{Answer}
 use Rattle.rules.specs.declared.Answer.the-variants.{Refused, Rejected, Accepted}
 use Rattle.rules.proofs.Outcome.{verdictNo, Came, came-no-level, came-refused, came-short, came-short-pairs, came-rejected, came-short-order, came-accepted, came}
+use Rattle.rules.proofs.Lists.{findings-four, pairs-four}
 use Rattle.printing.proofs.Lengths.{lawful-reading, findings-few, pairs-few, order-few}
-use Rattle.printing.proofs.Entries.{findings-long, pairs-long}
 
 -- the new buffers
 abbrev pub newFindings : List ℕ
@@ -66,8 +66,8 @@ module _ (s : List ℕ) (level : ℕ) (low : 1 ≤ level) (high : level ≤ 3) w
   comes-by : {x : Outcome} → Came s level newFindings newPairs newOrder x → Comes x
   comes-by (came-no-level d) = absurd (d (low, high))
   comes-by (came-refused a b e) = comes-refused e
-  comes-by (came-short {h} a b e t l) = absurd (omega (arith, new-length 4096, findings-long h [], findings-few (lawful-reading s e)))
-  comes-by (came-short-pairs {h} a b e t g l) = absurd (omega (arith, new-length 65536, pairs-long h [] level, pairs-few (lawful-reading s e) level))
+  comes-by (came-short {h} a b e t l) = absurd (omega (arith, new-length 4096, findings-four h, findings-few (lawful-reading s e)))
+  comes-by (came-short-pairs {h} a b e t g l) = absurd (omega (arith, new-length 65536, pairs-four h level, pairs-few (lawful-reading s e) level))
   comes-by (came-rejected a b e t g k) = comes-rejected e t
   comes-by (came-short-order a b e t l) = absurd (omega (arith, new-length 128, order-few (lawful-reading s e) level))
   comes-by (came-accepted a b e t g) = comes-accepted e t

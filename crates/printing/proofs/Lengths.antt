@@ -5,14 +5,15 @@ use mathlib.Core.Bool.{Bool, true, false}
 use mathlib.Core.List.{List, [], _∷_, _++_}
 use native.Mathlib.Omega.{arith}
 use lib.ListN.{length, length-append}
-use Rattle.base.specs.Base.{pick, Row, row, firstFit, count, listed, those, joined}
+use Rattle.base.specs.Base.{pick, count, listed, those, joined}
 use Rattle.base.proofs.Tests.{ifso}
 use Rattle.base.proofs.Searches.{listed-most, count-most, joined-one, joined-none, joined-listed, joined-those}
 use Rattle.theory.specs.Leads.{isListed}
 use Rattle.theory.proofs.Order.{unplaced-all, rest-bound, rest-below}
 use Rattle.rules.specs.History.{History, op, opCount, size, committed}
 use Rattle.rules.specs.Reading.{Reading, refused, read, reading, Stretch}
-use Rattle.rules.specs.Reads.{kindBy, kindOf, isFinding}
+use Rattle.rules.specs.Reads.{kindOf, isFinding}
+use Rattle.rules.proofs.Kind.{kind-le}
 use Rattle.rules.specs.Levels.{isStart, isSession, isRead, isRival, forced, reasons}
 use Rattle.rules.specs.Outcome.{Pair, findings, pairsOf, pairs, order, isAccepted}
 use Rattle.demand1.specs.Lawful.{LawfulHistory}
@@ -36,21 +37,6 @@ pick-both Q true u v = u
 pick-both Q false u v = v
 
 -- ── numbers ──
-
--- the number of the first row that fits, where no row's is above k
-abbrev Most : ℕ → List Row → Type 0
-Most k [] = Unit
-Most k (row b n ∷ rs) = (n ≤ k) × Most k rs
-
-fit-most : (k : ℕ) (rs : List Row) → Most k rs → firstFit rs ≤ k
-unfolding firstFit
-fit-most k [] m = omega arith
-fit-most k (row true n ∷ rs) m = m .0
-fit-most k (row false n ∷ rs) m = fit-most k rs (m .1)
-
-kind-most : (h : History) (i : ℕ) → kindOf h i ≤ 6
-unfolding kindOf kindBy
-kind-most h i = fit-most 6 _ (omega arith, (omega arith, (omega arith, (omega arith, (omega arith, (omega arith, tt))))))
 
 reason-most : (b : Bool) (n : ℕ) → pick b n 0 ≤ n
 reason-most b n = pick-both (λ (m : ℕ). m ≤ n) b (omega arith) (omega arith)
@@ -80,7 +66,7 @@ module _ {h : History} (ok : LawfulHistory h) where
             (λ i a b.
             let t = ok .in-tx i (record { from = a; to = omega arith }) in
             pick-both (λ (l : List ℕ). length l ≤ 20) (isFinding h i)
-            (read-length (op h i .tx) i (kindOf h i) (omega (arith, t .to, ok .few-txs)) (omega (arith, ok .few-ops)) (omega (arith, kind-most h i))) (omega arith)),
+            (read-length (op h i .tx) i (kindOf h i) (omega (arith, t .to, ok .few-txs)) (omega (arith, ok .few-ops)) (omega (arith, kind-le h i))) (omega arith)),
       ))
 
   module _ (level : ℕ) where

@@ -12,7 +12,7 @@ use Rattle.base.proofs.Tests.{ifso, same-test, and-right, and-on, and-no-left, 
 use Rattle.rules.specs.History.{History, op, opCount, committed}
 use Rattle.rules.specs.Reads.{sourceOf, kindOf, isJudged, isFinding, isExternal, readsFrom}
 use Rattle.reads.specs.Verdicts.{verdictOf, Judged}
-use Rattle.reads.proofs.Fitting.{kind-le}
+use Rattle.rules.proofs.Kind.{kind-le}
 
 module _ (h : History) (i : ℕ) where
   -- ── the byte, case by case ──

@@ -11,7 +11,6 @@ use lib.Dec.{ltb, eqb}
 use borrow.Author.Tests.{eq-eqb, ne-eqb, lt-ltb}
 use Rattle.base.specs.Base.{_and_, _or_, pick, firstFit}
 use Rattle.base.proofs.Tests.{known, clash, and-no-right, pick-on, pick-off, split}
-use Rattle.base.proofs.Rows.{fit-none, fit-most}
 use Rattle.base.proofs.Searches.{some-end}
 use Rattle.rules.specs.History.{History, tx, op, txCount, opCount, zeroth, noTx, committed, writeOf}
 use Rattle.rules.specs.Reads.{writesAt, wroteBetween, originOf, sourceOf, kindBy, kindOf}
@@ -99,9 +98,3 @@ pub kind-is : (h : History) (i x v w u : ℕ) → x ≡ op h i .key → v ≡ op
     → kindBy h i (op h i .tx) x v w u ≡ kindOf h i
 unfolding kindOf
 kind-is h i x v w u b c e f = rw (b, c, f, e)
-
--- none is above 6
-pub kind-le : (h : History) (i : ℕ) → kindOf h i ≤ 6
-unfolding kindOf kindBy
-kind-le h i =
-    fit-most _ 1 _ (omega arith) (fit-most _ 2 _ (omega arith) (fit-most _ 3 _ (omega arith) (fit-most _ 4 _ (omega arith) (fit-most _ 5 _ (omega arith) (fit-most _ 6 _ (omega arith) (omega (arith, fit-none)))))))

@@ -1,9 +1,8 @@
 -- An answer that is the definition's, with the buffers that are the definition's, meets the three demands.
 use Prim.Native.Nat.{ℕ, _≤_}
 use mathlib.Core.Path.{_≡_, refl, ap, sym, _∙_}
-use mathlib.Core.List.{List, []}
+use mathlib.Core.List.{List}
 use mathlib.Core.Logic.{_↔_}
-use native.Mathlib.Omega.{arith}
 use lib.ListN.{length}
 use Rattle.rules.specs.History.{History}
 use Rattle.rules.specs.Reading.{Stretch}
@@ -18,7 +17,7 @@ use Rattle.demand2.specs.Axiom.{HasOrder}
 use Rattle.demand2.proofs.Accepted.{empty-pairs-iff}
 use Rattle.demand2.proofs.Traces.{accepted-trace, order-trace}
 use Rattle.demand3.proofs.Traces.{rejected-trace, lists-trace}
-use Rattle.demands.specs.Demands.{Demand1, Demand2, Demand3, Demands}
+use Rattle.demands.specs.Demands.{Demands}
 use Rattle.demands.proofs.Declined.{declines-iff, refusal-writes-nothing}
 
 -- the number of listed pairs is 0 exactly if there is a commit order, where all reads are clean

@@ -2,7 +2,7 @@
 use Prim.Native.Nat.{ℕ}
 use mathlib.Core.Path.{_≡_, refl, ap, sym, _∙_}
 use mathlib.Core.List.{List}
-use Rattle.rules.specs.Outcome.{Report, declining, rejecting, accepting, reported}
+use Rattle.rules.specs.Outcome.{Report, reported}
 use Rattle.rules.specs.declared.Answer.{Answer}
 use Rattle.rules.proofs.Outcome.{reported-one, Says, says-declined, says-rejected, says-accepted, says}
 use Rattle.demand2.proofs.Accepted.{order-written-one}

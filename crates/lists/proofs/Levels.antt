@@ -1,12 +1,12 @@
 -- What the tables tell is what document 01 lists.
-use Prim.Native.Nat.{ℕ, _*_, _<_}
-use mathlib.Core.Path.{_≡_, refl, ap, sym, _∙_}
-use mathlib.Core.Bool.{Bool, true}
+use Prim.Native.Nat.{ℕ, _<_}
+use mathlib.Core.Path.{_≡_, ap, sym, _∙_}
+use mathlib.Core.Bool.{true}
 use mathlib.Core.List.{List, [], _∷_}
 use native.Mathlib.Omega.{arith}
 use lib.ListN.{length}
 use Rattle.base.specs.Base.{pick, joined}
-use Rattle.base.proofs.Tests.{and-left, and-right, ifso, pick-on, pick-off}
+use Rattle.base.proofs.Tests.{and-left, and-right}
 use Rattle.base.proofs.Searches.{listed-same, joined-pick, joined-listed, joined-those}
 use Rattle.theory.specs.Leads.{isListed}
 use Rattle.theory.proofs.Leads.{via-keeps, via-on}

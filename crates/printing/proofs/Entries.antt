@@ -13,7 +13,7 @@ use Rattle.rules.specs.History.{History}
 use Rattle.rules.specs.Outcome.{Pair, findings, findingBytes, findingList, pairs, pairBytes, pairList}
 use Rattle.text.specs.Lines.{readLine, pairLine}
 use Rattle.text.specs.Answer.{findingText, pairText}
-use Rattle.printing.specs.declared.Lines.the-variants.{Reads, Pairs}
+use Rattle.printing.specs.declared.Lines.the-variants.{ReadLines, PairLines}
 use Rattle.printing.specs.Printing.{entryLine, listText}
 
 -- ── what is written over a buffer ──
@@ -40,14 +40,14 @@ module _ {A : Type 0} (f : A → List ℕ) (four : (x : A) → length (f x) ≡ 
 
 -- from its bytes
 module _ (l : List ℕ) (i : ℕ) {a b c : ℕ} (x : a ≡ getD l (4 * i) 0) (y : b ≡ getD l (4 * i + 1) 0) (z : c ≡ getD l (4 * i + 2) 0) where
-  pub entry-read : {d : ℕ} → d ≡ getD l (4 * i + 3) 0 → entryLine Reads l i ≡ readLine a (c + 256 * d) b
+  pub entry-read : {d : ℕ} → d ≡ getD l (4 * i + 3) 0 → entryLine ReadLines l i ≡ readLine a (c + 256 * d) b
   unfolding entryLine le
   entry-read {d} w =
       let e : 4 * i + 2 + 1 ≡ 4 * i + 3 = omega arith in
       let n : getD l (4 * i + 2) 0 + 256 * (getD l (4 * i + 2 + 1) 0 + 256 * 0) ≡ c + 256 * d = rw (e, z, w) (omega arith) in
       rw (n, x, y)
 
-  pub entry-pair : entryLine Pairs l i ≡ pairLine a b c
+  pub entry-pair : entryLine PairLines l i ≡ pairLine a b c
   unfolding entryLine
   entry-pair = rw (x, y, z)
 
@@ -76,7 +76,7 @@ module _ {A : Type 0} (g : A → List ℕ) (d : A) (l : List A) where
 -- ── the two lists ──
 
 module _ (h : History) (b : List ℕ) where
-  finding-line : (j : ℕ) → j < length (findings h) → entryLine Reads (over (findingList h) b) j ≡ findingText h (getD (findings h) j 0)
+  finding-line : (j : ℕ) → j < length (findings h) → entryLine ReadLines (over (findingList h) b) j ≡ findingText h (getD (findings h) j 0)
   unfolding findingList findingBytes findingText entryLine le
   finding-line j l =
       let at = byte-at (findingBytes h) (λ i. refl) 0 (findings h) b j in
@@ -84,21 +84,21 @@ module _ (h : History) (b : List ℕ) where
       omega (arith, at 2 (4 * j + 2) refl l (omega arith), at 3 (4 * j + 2 + 1) (omega arith) l (omega arith)) in
       rw (at 0 (4 * j) (omega arith) l (omega arith), at 1 (4 * j + 1) refl l (omega arith), n)
 
-  pub findings-lines : listText Reads (over (findingList h) b) (length (findings h)) ≡ joined (findingText h) (findings h)
+  pub findings-lines : listText ReadLines (over (findingList h) b) (length (findings h)) ≡ joined (findingText h) (findings h)
   unfolding listText
-  findings-lines = listed-joined (findingText h) 0 (findings h) (entryLine Reads (over (findingList h) b)) finding-line
+  findings-lines = listed-joined (findingText h) 0 (findings h) (entryLine ReadLines (over (findingList h) b)) finding-line
 
   module _ (level : ℕ) where
     -- no entry
     abbrev no-pair : Pair
     no-pair = record { one = 0; two = 0 }
 
-    pair-line : (j : ℕ) → j < length (pairs h level) → entryLine Pairs (over (pairList h level) b) j ≡ pairText h level (getD (pairs h level) j no-pair)
+    pair-line : (j : ℕ) → j < length (pairs h level) → entryLine PairLines (over (pairList h level) b) j ≡ pairText h level (getD (pairs h level) j no-pair)
     unfolding pairList pairBytes pairText entryLine
     pair-line j l =
         let at = byte-at (pairBytes h level) (λ p. refl) no-pair (pairs h level) b j in
         rw (at 0 (4 * j) (omega arith) l (omega arith), at 1 (4 * j + 1) refl l (omega arith), at 2 (4 * j + 2) refl l (omega arith))
 
-    pub pairs-lines : listText Pairs (over (pairList h level) b) (length (pairs h level)) ≡ joined (pairText h level) (pairs h level)
+    pub pairs-lines : listText PairLines (over (pairList h level) b) (length (pairs h level)) ≡ joined (pairText h level) (pairs h level)
     unfolding listText
-    pairs-lines = listed-joined (pairText h level) no-pair (pairs h level) (entryLine Pairs (over (pairList h level) b)) pair-line
+    pairs-lines = listed-joined (pairText h level) no-pair (pairs h level) (entryLine PairLines (over (pairList h level) b)) pair-line

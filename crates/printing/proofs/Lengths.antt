@@ -1,12 +1,11 @@
 -- How long the lists of a history that was read can be, and the text.
-use Prim.Native.Nat.{ℕ, _+_, _*_, _≤_, _<_}
+use Prim.Native.Nat.{ℕ, _+_, _≤_, _<_}
 use mathlib.Core.Path.{_≡_, refl, ap, _∙_}
 use mathlib.Core.Bool.{Bool, true, false}
 use mathlib.Core.List.{List, [], _∷_, _++_}
 use native.Mathlib.Omega.{arith}
 use lib.ListN.{length, length-append}
-use Rattle.base.specs.Base.{pick, count, listed, those, joined}
-use Rattle.base.proofs.Tests.{ifso}
+use Rattle.base.specs.Base.{pick, listed, those, joined}
 use Rattle.base.proofs.Searches.{listed-most, count-most, joined-one, joined-none, joined-listed, joined-those}
 use Rattle.theory.specs.Leads.{isListed}
 use Rattle.theory.proofs.Order.{unplaced-all, rest-bound, rest-below}

@@ -12,7 +12,7 @@ use Rattle.text.specs.Answer.{blockText, answerText}
 use Rattle.show.specs.Laid.{Put}
 use Rattle.printing.specs.declared.Block.{Block}
 use Rattle.printing.specs.declared.Lines.{Lines}
-use Rattle.printing.specs.declared.Lines.the-variants.{Reads, Pairs}
+use Rattle.printing.specs.declared.Lines.the-variants.{ReadLines, PairLines}
 
 -- the text of the trace s was put over o, as far as o reaches, which made b of it; the whole text has n bytes
 pub record Written (s o b : List ℕ) (n : ℕ) : Type 0 where
@@ -41,8 +41,8 @@ pub record BlockPut (s : List ℕ) (level : ℕ) (o : List ℕ) (at : ℕ) (b : 
 -- the line of its entry i, from 0. "Finding, 4 bytes: transaction, kind, operation number (2 bytes little-endian)". "Pair, 4 bytes: first, second,
 -- reasons, 0."
 unfoldable pub entryLine : Lines → List ℕ → ℕ → List ℕ
-entryLine Reads l i = readLine (getD l (4 * i) 0) (le 2 l (4 * i + 2)) (getD l (4 * i + 1) 0)
-entryLine Pairs l i = pairLine (getD l (4 * i) 0) (getD l (4 * i + 1) 0) (getD l (4 * i + 2) 0)
+entryLine ReadLines l i = readLine (getD l (4 * i) 0) (le 2 l (4 * i + 2)) (getD l (4 * i + 1) 0)
+entryLine PairLines l i = pairLine (getD l (4 * i) 0) (getD l (4 * i + 1) 0) (getD l (4 * i + 2) 0)
 
 -- the lines of its first n entries
 unfoldable pub listText : Lines → List ℕ → ℕ → List ℕ
@@ -50,4 +50,4 @@ listText lines l n = listed 0 n (entryLine lines l)
 
 -- the block of a rejection, of n findings in f and m pairs in p
 unfoldable pub rejectedText : ℕ → ℕ → ℕ → List ℕ → List ℕ → List ℕ
-rejectedText level n m f p = rejectedLine level n m ++ (listText Reads f n ++ listText Pairs p m)
+rejectedText level n m f p = rejectedLine level n m ++ (listText ReadLines f n ++ listText PairLines p m)

@@ -5,7 +5,7 @@ ghost use lib.ListN.{length, getD};
 ghost use Rattle.rules.specs.Reading.{reading};
 ghost use Rattle.show.specs.Laid.{Put, Short};
 ghost use Rattle.printing.specs.Printing.{Written, blockOf, BlockPut, entryLine, listText, rejectedText};
-ghost use Rattle.printing.specs.declared.Lines.the-variants.{Reads, Pairs};
+ghost use Rattle.printing.specs.declared.Lines.the-variants.{ReadLines, PairLines};
 use rules::Answer;
 
 // The text of a trace's answer, as far as the buffer reaches. Answers how long it is.
@@ -68,16 +68,16 @@ fn put_rejected(
     ensures { λ r. ⌜ Put (now (out .entry)) at (now (out .exit)) r (rejectedText level reads listed (now (findings .entry)) (now (pairs .entry))) ⌝ }
 {
     let to = show::put_rejected(out, at, level, reads, listed);
-    let to = put_entries(Lines::Reads, findings, reads, out, to);
-    put_entries(Lines::Pairs, pairs, listed, out, to)
+    let to = put_entries(Lines::ReadLines, findings, reads, out, to);
+    put_entries(Lines::PairLines, pairs, listed, out, to)
 }
 
 // ── lists ──
 
 // What a list's entries are printed as.
 enum Lines {
-    Reads,
-    Pairs,
+    ReadLines,
+    PairLines,
 }
 
 // The lines of the first n entries of a list.
@@ -100,15 +100,15 @@ fn put_entry(lines: Lines, list: &[u8], i: usize, out: &mut [u8], at: usize) -> 
     ensures { λ r. ⌜ Put (now (out .entry)) at (now (out .exit)) r (entryLine lines (now (list .entry)) i) ⌝ }
 {
     match lines {
-        Lines::Reads => put_finding(list, i, out, at),
-        Lines::Pairs => put_listed(list, i, out, at),
+        Lines::ReadLines => put_finding(list, i, out, at),
+        Lines::PairLines => put_listed(list, i, out, at),
     }
 }
 
 // `read T OP KIND`
 fn put_finding(findings: &[u8], i: usize, out: &mut [u8], at: usize) -> usize
-    requires { ⌜ (4 * i + 4 ≤ length (now findings)) × Short at (entryLine Reads (now findings) i) ⌝ }
-    ensures { λ r. ⌜ Put (now (out .entry)) at (now (out .exit)) r (entryLine Reads (now (findings .entry)) i) ⌝ }
+    requires { ⌜ (4 * i + 4 ≤ length (now findings)) × Short at (entryLine ReadLines (now findings) i) ⌝ }
+    ensures { λ r. ⌜ Put (now (out .entry)) at (now (out .exit)) r (entryLine ReadLines (now (findings .entry)) i) ⌝ }
 {
     let t = number_at(findings, 4 * i);
     let kind = number_at(findings, 4 * i + 1);
@@ -118,8 +118,8 @@ fn put_finding(findings: &[u8], i: usize, out: &mut [u8], at: usize) -> usize
 
 // `pair A B REASONS`
 fn put_listed(pairs: &[u8], i: usize, out: &mut [u8], at: usize) -> usize
-    requires { ⌜ (4 * i + 4 ≤ length (now pairs)) × Short at (entryLine Pairs (now pairs) i) ⌝ }
-    ensures { λ r. ⌜ Put (now (out .entry)) at (now (out .exit)) r (entryLine Pairs (now (pairs .entry)) i) ⌝ }
+    requires { ⌜ (4 * i + 4 ≤ length (now pairs)) × Short at (entryLine PairLines (now pairs) i) ⌝ }
+    ensures { λ r. ⌜ Put (now (out .entry)) at (now (out .exit)) r (entryLine PairLines (now (pairs .entry)) i) ⌝ }
 {
     let a = number_at(pairs, 4 * i);
     let b = number_at(pairs, 4 * i + 1);

@@ -2,7 +2,7 @@
 use Prim.Native.Nat.{ℕ, zero, suc, _+_, _-_, _/_, _%_, _^_}
 use mathlib.Core.List.{List, [], _∷_, _++_}
 use lib.ListN.{length}
-use Rattle.rules.specs.Outcome.{Report, Outcome, outcome, declining, rejecting, accepting}
+use Rattle.rules.specs.Outcome.{Outcome, outcome, declining, rejecting, accepting}
 
 -- n in w bytes
 abbrev pub bytes : ℕ → ℕ → List ℕ

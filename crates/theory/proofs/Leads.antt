@@ -5,7 +5,7 @@ use mathlib.Core.Bool.{Bool, true, false}
 use mathlib.Core.Logic.{_⊎_, inl, inr, ⊎-elim, _↔_}
 use native.Mathlib.Omega.{arith}
 use Rattle.base.specs.Base.{_and_, _or_}
-use Rattle.base.proofs.Tests.{known, clash, is-false, same-test, both, and-left, and-right, and-swap, or-cases, or-left, or-right, below-suc}
+use Rattle.base.proofs.Tests.{known, clash, is-false, both, and-left, and-right, and-swap, or-cases, or-left, or-right, below-suc}
 use Rattle.theory.specs.Leads.{Leads, step, then, via, Listed, isListed}
 use Rattle.theory.specs.Order.{Forces}
 
@@ -57,10 +57,6 @@ module _ (f : ℕ → ℕ → Bool) where
 
   via-from : (k b : ℕ) → via f (suc k) k b ≡ true → via f k k b ≡ true
   via-from k b e = ⊎-elim (λ p. p) (λ q. q .1) (via-cases k k b e)
-
-  -- so a round leaves row k as it is, and may work in its own table
-  pub via-row : (k b : ℕ) → via f (suc k) k b ≡ via f k k b
-  via-row k b = same-test _ _ (via-from k b) (via-more k k b)
 
   -- two ways that meet below k are one
   pub via-on : (k a c b : ℕ) → c < k → via f k a c ≡ true → via f k c b ≡ true → via f k a b ≡ true
@@ -184,11 +180,3 @@ module _ {n : ℕ} {m : ℕ → Bool} {f : ℕ → ℕ → Bool} (w : Forces n m
   unfolding isListed
   listed-iff a b =
       (λ e. record { forced = and-left _ _ e; back = via-iff b a .0 (and-right _ _ e) }, λ l. both _ _ (l .forced) (via-iff b a .1 (l .back)))
-
-  -- a number is the first of a listed pair exactly if it leads to itself
-  pub listed-loops : (a b : ℕ) → isListed n f a b ≡ true → via f n a a ≡ true
-  listed-loops a b e = via-iff a a .1 (listed-loop (listed-iff a b .0 e))
-
-  pub loop-is-listed : (a : ℕ) → via f n a a ≡ true → (b : ℕ) × (b < n) × (isListed n f a b ≡ true)
-  loop-is-listed a e =
-      let l = loop-listed (via-iff a a .0 e) in (l .0, w .second-in a (l .0) (l .1 .forced) .0, listed-iff a (l .0) .1 (l .1))

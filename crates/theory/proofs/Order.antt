@@ -83,11 +83,6 @@ ready-less {n} {m} {p = p} {a} r = unplaced-less n m p a (r .below) (r .member) 
 -- ── the smallest that may come next ──
 
 module _ (n : ℕ) (m : ℕ → Bool) (f : ℕ → ℕ → Bool) (p : List ℕ) where
-  -- n stands for none
-  pub next-le : next n m f p ≤ n
-  unfolding next
-  next-le = ⊎-elim (λ z. omega (arith, z .0)) (λ g. omega (arith, g .to)) (first-cases n (ready n m f p) n 0)
-
   pub next-ready : next n m f p < n → NextReady n m f p (next n m f p)
   unfolding next
   next-ready l =
@@ -323,9 +318,6 @@ module _ {n : ℕ} {m : ℕ → Bool} {f : ℕ → ℕ → Bool} where
       pub rest-lawful : Lawful n m f (rest n m f [])
       unfolding rest
       rest-lawful = fits-lawful w starts-none (fill-fits (unplaced n m []) [] refl)
-
-      pub rest-length : length (rest n m f []) ≡ count 0 n m
-      rest-length = lawful-length rest-lawful
 
     -- a lawful order exists exactly if no pair is listed
     pub lawful-iff : ((o : List ℕ) × Lawful n m f o) ↔ ((a b : ℕ) → Listed f a b → ⊥)

@@ -6,7 +6,7 @@ use mathlib.Core.List.{List, [], _∷_, _++_}
 use native.Mathlib.Omega.{arith}
 use Rattle.base.specs.Base.{_and_}
 use Rattle.base.proofs.Searches.{some-same, first-same, count-same}
-use Rattle.theory.specs.Leads.{via, isListed}
+use Rattle.theory.specs.Leads.{via}
 use Rattle.theory.specs.Order.{mem, misses, ready, isUnplaced, unplaced, next, fill, rest}
 
 pub unplaced-same : (n : ℕ) (m m' : ℕ → Bool) → ((a : ℕ) → a < n → m a ≡ m' a) → (p : List ℕ) → unplaced n m p ≡ unplaced n m' p
@@ -19,10 +19,6 @@ module _ (n : ℕ) (f g : ℕ → ℕ → Bool) (hf : (a b : ℕ) → a < n → 
   via-same zero l a b p q = hf a b p q
   via-same (suc k) l a b p q =
       let h : k ≤ n = omega arith in rw (via-same k h a b p q, via-same k h a k p l, via-same k h k b l q)
-
-  pub isListed-same : (a b : ℕ) → a < n → b < n → isListed n f a b ≡ isListed n g a b
-  unfolding isListed
-  isListed-same a b p q = rw (hf a b p q, via-same n (omega arith) b a q p)
 
   module _ (m m' : ℕ → Bool) (hm : (a : ℕ) → a < n → m a ≡ m' a) where
     pub ready-same : (p : List ℕ) (a : ℕ) → a < n → ready n m f p a ≡ ready n m' g p a

@@ -181,7 +181,7 @@ stands-iff o a b = (
 module _ {h : History} (ok : LawfulHistory h) {level : ℕ} (low : 1 ≤ level) (high : level ≤ 3) where
   module _ (clean : AllClean h) where
     -- a commit order that a test gives exists exactly if some list shows one
-    has-order-iff : HasOrder h level ↔ ((o : List ℕ) × Shows h level o)
+    pub has-order-iff : HasOrder h level ↔ ((o : List ℕ) × Shows h level o)
     has-order-iff =
         (λ c. commits-iff ok low high clean .0 (ByTest (c .0), c .1), λ s. (stands (s .0), commits-as (stands-iff (s .0)) (s .1 .commits)))
 

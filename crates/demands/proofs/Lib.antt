@@ -3,3 +3,4 @@ pub mod Meets
 pub mod One
 pub mod Any
 pub mod Worthless
+pub mod Printed

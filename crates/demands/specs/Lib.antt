@@ -1,3 +1,4 @@
 pub mod Declined
 pub mod Demands
 pub mod Judges
+pub mod Printed

@@ -123,3 +123,9 @@ fields-step l i h = ap fields (word-step l i h)
 pub fields-end : (l : List ℕ) {i : ℕ} → i ≤ length l → length l ≤ i → fields (drop i l) ≡ text "\n"
 unfolding fields
 fields-end l h g = ap fields (word-end l h g)
+
+-- ── one answer ──
+
+-- of every function that puts a line: where it ends, and each byte of the buffer
+pub put-one : {o b c : List ℕ} {at n m : ℕ} {xs : List ℕ} → Put o at b n xs → Put o at c m xs → (n ≡ m) × (b ≡ c)
+put-one x y = (x .end ∙ sym (y .end), x .is ∙ sym (y .is))

@@ -47,8 +47,8 @@ way-as f (more r w) = more (f _ _ r) (way-as f w)
 -- ── the list ──
 
 -- a before b
-abbrev pair : ℕ → ℕ → Pair
-pair a b = record { one = a; two = b }
+abbrev pairOf : ℕ → ℕ → Pair
+pairOf a b = record { one = a; two = b }
 
 -- it has one order
 pub before-never : (p q : Pair) → PairBefore p q → PairBefore q p → ⊥
@@ -81,25 +81,25 @@ module _ {h : History} (ok : LawfulHistory h) {level : ℕ} (low : 1 ≤ level) 
   listed-apart {a} {b} l = forced-apart ok level a b (forced-iff ok low high a b .1 (l .forced))
 
   -- the test that the lists are made by
-  abbrev test : ℕ → ℕ → Bool
-  test = isListed (size h) (forced h level)
+  abbrev listTest : ℕ → ℕ → Bool
+  listTest = isListed (size h) (forced h level)
 
   -- the pairs with the first a: those that pass
-  pairsOf-is : (a : ℕ) → pairsOf h level a ≡ listed 0 (size h) (kept (test a) (pair a))
+  pairsOf-is : (a : ℕ) → pairsOf h level a ≡ listed 0 (size h) (kept (listTest a) (pairOf a))
   unfolding pairsOf
-  pairsOf-is a = joined-those (λ b. pair a b ∷ []) (test a) (size h) 0
+  pairsOf-is a = joined-those (λ b. pairOf a b ∷ []) (listTest a) (size h) 0
 
   -- they are listed
   pairsOf-at : (a : ℕ) {p : Pair} → In p (pairsOf h level a) → (p .one ≡ a) × ListedPair h level (p .one) (p .two)
   pairsOf-at a {p} i =
-      let k = kept-iff (test a) (pair a) (size h) 0 p .0 (rw (pairsOf-is a) at i) in
+      let k = kept-iff (listTest a) (pairOf a) (size h) 0 p .0 (rw (pairsOf-is a) at i) in
       let l = listed-pair-iff a (k .at) .0 (k .passes) in
       (ap (λ (q : Pair). q .one) (k .is), rw (k .is) l)
 
   -- and each listed one is there
   pairsOf-in : {p : Pair} → ListedPair h level (p .one) (p .two) → In p (pairsOf h level (p .one))
   pairsOf-in {p} l =
-      let k = kept-iff (test (p .one)) (pair (p .one)) (size h) 0 p in
+      let k = kept-iff (listTest (p .one)) (pairOf (p .one)) (size h) 0 p in
       rw (pairsOf-is (p .one))
       (k .1 (record { at = p .two; from = omega arith; to = listed-members l .1 .below; passes = listed-pair-iff (p .one) (p .two) .1 l; is = refl }))
 
@@ -116,13 +116,13 @@ module _ {h : History} (ok : LawfulHistory h) {level : ℕ} (low : 1 ≤ level) 
             );
         ascend =
             listed-ascends PairBefore (pairsOf h level) (size h) 0
-            (λ a. rw (pairsOf-is a) (kept-all-ascend (test a) (pair a) PairBefore (size h) 0 (λ i j l. by-second refl l)))
+            (λ a. rw (pairsOf-is a) (kept-all-ascend (listTest a) (pairOf a) PairBefore (size h) 0 (λ i j l. by-second refl l)))
             (λ i j x y l u v. by-first (omega (arith, pairsOf-at i u .0, pairsOf-at j v .0)));
       }
 
   -- so each entry's way back is a way of entries
-  pub back-in-list : {p : Pair} → In p (pairs h level) → Way (λ a b. In (pair a b) (pairs h level)) (p .two) (p .one)
-  back-in-list {p} i = way-as (λ a b l. pairs-are .entries (pair a b) .1 l) (back-listed (pairs-are .entries p .0 i))
+  pub back-in-list : {p : Pair} → In p (pairs h level) → Way (λ a b. In (pairOf a b) (pairs h level)) (p .two) (p .one)
+  back-in-list {p} i = way-as (λ a b l. pairs-are .entries (pairOf a b) .1 l) (back-listed (pairs-are .entries p .0 i))
 
   -- when all reads are clean, no pair is listed exactly if there is a commit order
   pub none-listed-iff : AllClean h → ((a b : ℕ) → ListedPair h level a b → ⊥) ↔ HasOrder h level

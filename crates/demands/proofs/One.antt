@@ -4,7 +4,7 @@ use mathlib.Core.Path.{_≡_, refl, ap, sym, _∙_}
 use mathlib.Core.List.{List}
 use Rattle.rules.specs.Outcome.{Report, reported}
 use Rattle.rules.specs.declared.Answer.{Answer}
-use Rattle.rules.proofs.Outcome.{reported-one, Says, says-declined, says-rejected, says-accepted, says}
+use Rattle.rules.proofs.Outcome.{reported-one, ReportIs, says-declined, says-rejected, says-accepted, says}
 use Rattle.demand2.proofs.Accepted.{order-written-one}
 use Rattle.demand3.proofs.Traces.{lists-written-one}
 use Rattle.demands.specs.Demands.{Demands}
@@ -17,7 +17,7 @@ demands-one s level fs ps os r q F P O F' P' O' x y = by (says r) refl
     one : {R : Report} → reported r ≡ R → reported q ≡ R → r ≡ q
     one a b = reported-one r q (a ∙ sym b)
 
-    by : {R : Report} → Says R → reported r ≡ R → (r ≡ q) × (F ≡ F') × (P ≡ P') × (O ≡ O')
+    by : {R : Report} → ReportIs R → reported r ≡ R → (r ≡ q) × (F ≡ F') × (P ≡ P') × (O ≡ O')
     by (says-declined {n} {p}) e =
         let d = y .first .refused n p .1 (x .first .refused n p .0 e) in
         let a = x .first .unchanged (ap (λ (R : Report). R .verdict) e) in

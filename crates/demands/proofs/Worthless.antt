@@ -9,7 +9,7 @@ use Rattle.rules.specs.Outcome.{Verdict, declines, accepts, Report, declining, 
 use Rattle.rules.specs.Traces.{room}
 use Rattle.rules.specs.Cases.{Case, all, table, at-each}
 use Rattle.rules.specs.declared.Answer.{Answer}
-use Rattle.rules.proofs.Outcome.{verdictNo, Says, says-declined, says-rejected, says-accepted, says}
+use Rattle.rules.proofs.Outcome.{verdictNo, ReportIs, says-declined, says-rejected, says-accepted, says}
 use Rattle.demand1.proofs.Readings.{one-outcome}
 use Rattle.demand2.specs.Accepted.{AcceptsTrace}
 use Rattle.demand2.proofs.Accepted.{order-written-one}
@@ -56,7 +56,7 @@ undeclined k l d n p x =
 refusal-says : (r : Answer) → reported r .verdict ≡ declines → (n : ℕ) × (p : ℕ) × (reported r ≡ declining n p)
 refusal-says r v = by (says r) refl
   where
-    by : {R : Report} → Says R → reported r ≡ R → (n : ℕ) × (p : ℕ) × (reported r ≡ declining n p)
+    by : {R : Report} → ReportIs R → reported r ≡ R → (n : ℕ) × (p : ℕ) × (reported r ≡ declining n p)
     by (says-declined {n} {p}) e = (n, p, e)
     by says-rejected e = absurd (omega (arith, ap verdictNo v, ap (λ (R : Report). verdictNo (R .verdict)) e))
     by says-accepted e = absurd (omega (arith, ap verdictNo v, ap (λ (R : Report). verdictNo (R .verdict)) e))
@@ -64,7 +64,7 @@ refusal-says r v = by (says r) refl
 acceptance-says : (r : Answer) → reported r .verdict ≡ accepts → (n : ℕ) × (reported r ≡ accepting n)
 acceptance-says r v = by (says r) refl
   where
-    by : {R : Report} → Says R → reported r ≡ R → (n : ℕ) × (reported r ≡ accepting n)
+    by : {R : Report} → ReportIs R → reported r ≡ R → (n : ℕ) × (reported r ≡ accepting n)
     by (says-accepted {n}) e = (n, e)
     by says-rejected e = absurd (omega (arith, ap verdictNo v, ap (λ (R : Report). verdictNo (R .verdict)) e))
     by says-declined e = absurd (omega (arith, ap verdictNo v, ap (λ (R : Report). verdictNo (R .verdict)) e))

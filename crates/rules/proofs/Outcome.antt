@@ -42,12 +42,12 @@ reported-one (Accepted n) (Rejected f q) e = absurd (omega (arith, same-verdict 
 reported-one (Accepted n) (Accepted m) e = rw (ap (λ (x : Report). x .order) e)
 
 -- a report is one of three
-pub data Says : Report → Type 0 where
-  says-declined : {n p : ℕ} → Says (declining n p)
-  says-rejected : {f p : ℕ} → Says (rejecting f p)
-  says-accepted : {n : ℕ} → Says (accepting n)
+pub data ReportIs : Report → Type 0 where
+  says-declined : {n p : ℕ} → ReportIs (declining n p)
+  says-rejected : {f p : ℕ} → ReportIs (rejecting f p)
+  says-accepted : {n : ℕ} → ReportIs (accepting n)
 
-pub says : (r : Answer) → Says (reported r)
+pub says : (r : Answer) → ReportIs (reported r)
 unfolding reported
 says (Refused n p) = says-declined
 says (Rejected f p) = says-rejected

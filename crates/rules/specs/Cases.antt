@@ -21,14 +21,14 @@ case b x y z = record { bytes = b; rc = x; ra = y; tcc = z }
 abbrev pub all : List ℕ → Outcome → Case
 all b x = case b x x x
 
-abbrev refuses : ℕ → ℕ → Outcome
-refuses = refusesIn 16 16 16
+abbrev refusesWith : ℕ → ℕ → Outcome
+refusesWith = refusesIn 16 16 16
 
-abbrev accepts : List ℕ → Outcome
-accepts = acceptsIn 16 16 16
+abbrev acceptsWith : List ℕ → Outcome
+acceptsWith = acceptsIn 16 16 16
 
-abbrev rejects : List ℕ → List ℕ → Outcome
-rejects = rejectsIn 16 16 16
+abbrev rejectsWith : List ℕ → List ℕ → Outcome
+rejectsWith = rejectsIn 16 16 16
 
 -- 1 before 2 and 2 before 1, both for rivals
 abbrev swapped : List ℕ
@@ -37,41 +37,41 @@ swapped = pair 1 2 8 ++ pair 2 1 8
 abbrev pub table : List Case
 table =
     -- P1 end only
-    all (whole 0 []) (accepts (0 ∷ []))
+    all (whole 0 []) (acceptsWith (0 ∷ []))
     -- P2 no bytes
-    ∷ all [] (refuses 3 0)
+    ∷ all [] (refusesWith 3 0)
     -- P3 T1 r1=5
-    ∷ all (whole 1 (T 1 (r 1 5 ∷ []))) (rejects (read 1 1 1) [])
+    ∷ all (whole 1 (T 1 (r 1 5 ∷ []))) (rejectsWith (read 1 1 1) [])
     -- P4 T1 r1=0
-    ∷ all (whole 1 (T 1 (r 1 0 ∷ []))) (accepts (0 ∷ 1 ∷ []))
+    ∷ all (whole 1 (T 1 (r 1 0 ∷ []))) (acceptsWith (0 ∷ 1 ∷ []))
     -- P5 T1 w1=5 aborted; T2 r1=5
-    ∷ all (whole 2 (block 1 0 (w 1 5 ∷ []) ++ T 2 (r 1 5 ∷ []))) (rejects (read 2 2 2) [])
+    ∷ all (whole 2 (block 1 0 (w 1 5 ∷ []) ++ T 2 (r 1 5 ∷ []))) (rejectsWith (read 2 2 2) [])
     -- P6 T1 r1=5 w1=5
-    ∷ all (whole 1 (T 1 (r 1 5 ∷ w 1 5 ∷ []))) (rejects (read 1 1 3) [])
+    ∷ all (whole 1 (T 1 (r 1 5 ∷ w 1 5 ∷ []))) (rejectsWith (read 1 1 3) [])
     -- P7 T1 w1=5 w1=6 r1=5
-    ∷ all (whole 1 (T 1 (w 1 5 ∷ w 1 6 ∷ r 1 5 ∷ []))) (rejects (read 1 3 4) [])
+    ∷ all (whole 1 (T 1 (w 1 5 ∷ w 1 6 ∷ r 1 5 ∷ []))) (rejectsWith (read 1 3 4) [])
     -- P8 T1 w1=5; T2 w1=6 r1=5
-    ∷ all (whole 2 (T 1 (w 1 5 ∷ []) ++ T 2 (w 1 6 ∷ r 1 5 ∷ []))) (rejects (read 2 3 5) [])
+    ∷ all (whole 2 (T 1 (w 1 5 ∷ []) ++ T 2 (w 1 6 ∷ r 1 5 ∷ []))) (rejectsWith (read 2 3 5) [])
     -- P9 T1 w1=5 w1=6; T2 r1=5
-    ∷ all (whole 2 (T 1 (w 1 5 ∷ w 1 6 ∷ []) ++ T 2 (r 1 5 ∷ []))) (rejects (read 2 3 6) [])
+    ∷ all (whole 2 (T 1 (w 1 5 ∷ w 1 6 ∷ []) ++ T 2 (r 1 5 ∷ []))) (rejectsWith (read 2 3 6) [])
     -- P10 T1 w1=5; T2 w1=6; T3 r1=5 r1=6
-    ∷ case (whole 3 (T 1 (w 1 5 ∷ []) ++ T 2 (w 1 6 ∷ []) ++ T 3 (r 1 5 ∷ r 1 6 ∷ []))) (accepts (0 ∷ 1 ∷ 2 ∷ 3 ∷ [])) (rejects [] swapped)
-    (rejects [] swapped)
+    ∷ case (whole 3 (T 1 (w 1 5 ∷ []) ++ T 2 (w 1 6 ∷ []) ++ T 3 (r 1 5 ∷ r 1 6 ∷ []))) (acceptsWith (0 ∷ 1 ∷ 2 ∷ 3 ∷ [])) (rejectsWith [] swapped)
+    (rejectsWith [] swapped)
     -- P11 as P10, T3 reads 5, 6, 5
-    ∷ all (whole 3 (T 1 (w 1 5 ∷ []) ++ T 2 (w 1 6 ∷ []) ++ T 3 (r 1 5 ∷ r 1 6 ∷ r 1 5 ∷ []))) (rejects [] swapped)
+    ∷ all (whole 3 (T 1 (w 1 5 ∷ []) ++ T 2 (w 1 6 ∷ []) ++ T 3 (r 1 5 ∷ r 1 6 ∷ r 1 5 ∷ []))) (rejectsWith [] swapped)
     -- P12 T1 w1=5; T2 r1=5 w2=7; T3 r2=7 r1=0
-    ∷ case (whole 3 (T 1 (w 1 5 ∷ []) ++ T 2 (r 1 5 ∷ w 2 7 ∷ []) ++ T 3 (r 2 7 ∷ r 1 0 ∷ []))) (accepts (0 ∷ 1 ∷ 2 ∷ 3 ∷ []))
-    (accepts (0 ∷ 1 ∷ 2 ∷ 3 ∷ [])) (rejects [] (pair 0 1 9 ++ pair 1 0 8))
+    ∷ case (whole 3 (T 1 (w 1 5 ∷ []) ++ T 2 (r 1 5 ∷ w 2 7 ∷ []) ++ T 3 (r 2 7 ∷ r 1 0 ∷ []))) (acceptsWith (0 ∷ 1 ∷ 2 ∷ 3 ∷ []))
+    (acceptsWith (0 ∷ 1 ∷ 2 ∷ 3 ∷ [])) (rejectsWith [] (pair 0 1 9 ++ pair 1 0 8))
     -- P13 T1 r2=7 w1=5; T2 r1=5 w2=7
-    ∷ all (whole 2 (T 1 (r 2 7 ∷ w 1 5 ∷ []) ++ T 2 (r 1 5 ∷ w 2 7 ∷ []))) (rejects [] (pair 1 2 4 ++ pair 2 1 4))
+    ∷ all (whole 2 (T 1 (r 2 7 ∷ w 1 5 ∷ []) ++ T 2 (r 1 5 ∷ w 2 7 ∷ []))) (rejectsWith [] (pair 1 2 4 ++ pair 2 1 4))
     -- P14 one session: T1 w1=5; T2 r1=0
-    ∷ case (whole 2 (T 1 (w 1 5 ∷ []) ++ T 1 (r 1 0 ∷ []))) (accepts (0 ∷ 1 ∷ 2 ∷ [])) (rejects [] (pair 0 1 1 ++ pair 1 0 8))
-    (rejects [] (pair 0 1 1 ++ pair 1 0 8))
+    ∷ case (whole 2 (T 1 (w 1 5 ∷ []) ++ T 1 (r 1 0 ∷ []))) (acceptsWith (0 ∷ 1 ∷ 2 ∷ [])) (rejectsWith [] (pair 0 1 1 ++ pair 1 0 8))
+    (rejectsWith [] (pair 0 1 1 ++ pair 1 0 8))
     -- 15 T1 r1=0 w1=5; T2 r1=0 w1=6
-    ∷ all (whole 2 (T 1 (r 1 0 ∷ w 1 5 ∷ []) ++ T 2 (r 1 0 ∷ w 1 6 ∷ []))) (accepts (0 ∷ 1 ∷ 2 ∷ []))
+    ∷ all (whole 2 (T 1 (r 1 0 ∷ w 1 5 ∷ []) ++ T 2 (r 1 0 ∷ w 1 6 ∷ []))) (acceptsWith (0 ∷ 1 ∷ 2 ∷ []))
     -- 16 T1 w1=11 w2=21; T2 w1=12 w2=22; T3 r1=12 r2=21
     ∷ case (whole 3 (T 1 (w 1 11 ∷ w 2 21 ∷ []) ++ T 2 (w 1 12 ∷ w 2 22 ∷ []) ++ T 3 (r 1 12 ∷ r 2 21 ∷ [])))
-    (accepts (0 ∷ 2 ∷ 1 ∷ 3 ∷ [])) (rejects [] swapped) (rejects [] swapped)
+    (acceptsWith (0 ∷ 2 ∷ 1 ∷ 3 ∷ [])) (rejectsWith [] swapped) (rejectsWith [] swapped)
     ∷ []
 
 -- how a case comes out
@@ -95,5 +95,5 @@ pub at-each : (k : ℕ) (d : Case) → k < length table → found (getD table k 
 at-each = fixed found table as-the-document-says
 
 -- "187 bytes"
-pub case-16-length : length (getD table 15 (all [] (refuses 0 0)) .bytes) ≡ 187
+pub case-16-length : length (getD table 15 (all [] (refusesWith 0 0)) .bytes) ≡ 187
 case-16-length = refl

@@ -31,14 +31,14 @@ abbrev edge : List ℕ → ℕ → ℕ → ℕ → ℕ → Outcome → Edge
 edge b l f p o x = record { bytes = b; level = l; f = f; p = p; o = o; out = x }
 
 -- with buffers of 16 bytes
-abbrev refuses : List ℕ → ℕ → ℕ → Edge
-refuses b n at = edge b 3 16 16 16 (refusesIn 16 16 16 n at)
+abbrev refusesAt : List ℕ → ℕ → ℕ → Edge
+refusesAt b n at = edge b 3 16 16 16 (refusesIn 16 16 16 n at)
 
-abbrev accepts : ℕ → List ℕ → List ℕ → Edge
-accepts l b x = edge b l 16 16 16 (acceptsIn 16 16 16 x)
+abbrev acceptsAt : ℕ → List ℕ → List ℕ → Edge
+acceptsAt l b x = edge b l 16 16 16 (acceptsIn 16 16 16 x)
 
-abbrev rejects : ℕ → List ℕ → List ℕ → List ℕ → Edge
-rejects l b fs ps = edge b l 16 16 16 (rejectsIn 16 16 16 fs ps)
+abbrev rejectsAt : ℕ → List ℕ → List ℕ → List ℕ → Edge
+rejectsAt l b fs ps = edge b l 16 16 16 (rejectsIn 16 16 16 fs ps)
 
 -- T1 r1=5; T1 r2=7 w1=5, T2 r1=5 w2=7; T1 r1=0
 abbrev P3 : List ℕ
@@ -54,56 +54,56 @@ P4 = whole 1 (T 1 (r 1 0 ∷ []))
 abbrev noteful : List ℕ
 noteful = trace 0 (note (7 ∷ 8 ∷ []) ∷ opens 1 ∷ note [] ∷ closes 1 ∷ ends 1 ∷ [])
 
-abbrev pub table : List Edge
-table =
+abbrev pub edgeTable : List Edge
+edgeTable =
     -- "after 4,294,967,295 comes 0": it passes, and 1 in its place is refused
-    accepts 3 (trace 4294967295 (T 1 [] ++ (ends 1 ∷ []))) (0 ∷ 1 ∷ [])
-    ∷ refuses (raw 8 1 4294967295 (bytes 2 1) ++ raw 7 4 1 (1 ∷ [])) 5 10
+    acceptsAt 3 (trace 4294967295 (T 1 [] ++ (ends 1 ∷ []))) (0 ∷ 1 ∷ [])
+    ∷ refusesAt (raw 8 1 4294967295 (bytes 2 1) ++ raw 7 4 1 (1 ∷ [])) 5 10
     -- notes of 0 and 64 bytes pass, also inside a transaction; one of 65 does not
-    ∷ accepts 3 (trace 7 (note [] ∷ opens 1 ∷ note (room 64) ∷ closes 1 ∷ ends 1 ∷ [])) (0 ∷ 1 ∷ [])
-    ∷ refuses (trace 0 (note (room 65) ∷ [])) 4 0
-    ∷ accepts 3 noteful (0 ∷ 1 ∷ [])
+    ∷ acceptsAt 3 (trace 7 (note [] ∷ opens 1 ∷ note (room 64) ∷ closes 1 ∷ ends 1 ∷ [])) (0 ∷ 1 ∷ [])
+    ∷ refusesAt (trace 0 (note (room 65) ∷ [])) 4 0
+    ∷ acceptsAt 3 noteful (0 ∷ 1 ∷ [])
     -- 1, then 2: levels 0 and 4 of a trace that is too long; 2, then 3
     ∷ edge (room 32769) 0 0 0 0 (refusesIn 0 0 0 1 0)
     ∷ edge (whole 0 []) 4 16 16 16 (refusesIn 16 16 16 1 0)
-    ∷ refuses (room 32769) 2 32768
-    ∷ refuses (room 32768) 3 0
+    ∷ refusesAt (room 32769) 2 32768
+    ∷ refusesAt (room 32768) 3 0
     -- 3 for the length field, then 4: one byte, which says length 0
-    ∷ refuses (0 ∷ []) 3 0
+    ∷ refusesAt (0 ∷ []) 3 0
     -- 4 for a length below 6, then 3 for its bytes; a length of 6 passes that check
-    ∷ refuses (bytes 2 5) 4 0
-    ∷ refuses (bytes 2 6) 3 0
+    ∷ refusesAt (bytes 2 5) 4 0
+    ∷ refusesAt (bytes 2 6) 3 0
     -- 3 for missing bytes, then 5
-    ∷ refuses (trace 0 (opens 1 ∷ []) ++ bytes 2 8 ++ bytes 2 4 ++ bytes 4 9) 3 10
+    ∷ refusesAt (trace 0 (opens 1 ∷ []) ++ bytes 2 8 ++ bytes 2 4 ++ bytes 4 9) 3 10
     -- 5, then 6
-    ∷ refuses (trace 0 (opens 1 ∷ []) ++ raw 8 9 7 (bytes 2 0)) 5 10
+    ∷ refusesAt (trace 0 (opens 1 ∷ []) ++ raw 8 9 7 (bytes 2 0)) 5 10
     -- 6, then 4 for the kind; kind 0
-    ∷ refuses (raw 9 7 0 (0 ∷ 0 ∷ 0 ∷ [])) 6 0
-    ∷ refuses (raw 6 0 0 []) 6 0
+    ∷ refusesAt (raw 9 7 0 (0 ∷ 0 ∷ 0 ∷ [])) 6 0
+    ∷ refusesAt (raw 6 0 0 []) 6 0
     -- 4 for the kind, then 7; each fixed length, one more and one less
-    ∷ refuses (raw 19 2 0 (room 13)) 4 0
-    ∷ refuses (raw 17 3 0 (room 11)) 4 0
-    ∷ refuses (raw 9 1 0 (room 3)) 4 0
-    ∷ refuses (raw 7 5 0 (0 ∷ [])) 4 0
-    ∷ refuses (raw 6 4 0 []) 4 0
+    ∷ refusesAt (raw 19 2 0 (room 13)) 4 0
+    ∷ refusesAt (raw 17 3 0 (room 11)) 4 0
+    ∷ refusesAt (raw 9 1 0 (room 3)) 4 0
+    ∷ refusesAt (raw 7 5 0 (0 ∷ [])) 4 0
+    ∷ refusesAt (raw 6 4 0 []) 4 0
     -- 7, then 8: a write of 0 outside, a close with status 2 outside, a wrong end number inside
-    ∷ refuses (trace 0 (w 1 0 ∷ [])) 7 0
-    ∷ refuses (trace 0 (closes 2 ∷ [])) 7 0
-    ∷ refuses (trace 0 (opens 1 ∷ ends 5 ∷ [])) 7 10
+    ∷ refusesAt (trace 0 (w 1 0 ∷ [])) 7 0
+    ∷ refusesAt (trace 0 (closes 2 ∷ [])) 7 0
+    ∷ refusesAt (trace 0 (opens 1 ∷ ends 5 ∷ [])) 7 10
     -- 7: open inside, read outside
-    ∷ refuses (trace 0 (opens 1 ∷ opens 2 ∷ [])) 7 10
-    ∷ refuses (trace 0 (r 1 0 ∷ [])) 7 0
+    ∷ refusesAt (trace 0 (opens 1 ∷ opens 2 ∷ [])) 7 10
+    ∷ refusesAt (trace 0 (r 1 0 ∷ [])) 7 0
     -- 8: a written 0, status 2, a wrong end number
-    ∷ refuses (trace 0 (opens 1 ∷ w 1 0 ∷ [])) 8 10
-    ∷ refuses (trace 0 (opens 1 ∷ closes 2 ∷ [])) 8 10
-    ∷ refuses (whole 1 []) 8 0
+    ∷ refusesAt (trace 0 (opens 1 ∷ w 1 0 ∷ [])) 8 10
+    ∷ refusesAt (trace 0 (opens 1 ∷ closes 2 ∷ [])) 8 10
+    ∷ refusesAt (whole 1 []) 8 0
     -- 10: a repeated write, in one transaction, and after an aborted one; another key or another value is none
-    ∷ refuses (trace 0 (opens 1 ∷ w 1 5 ∷ w 1 5 ∷ [])) 10 30
-    ∷ refuses (trace 0 (block 1 0 (w 1 5 ∷ []) ++ T 2 (w 1 5 ∷ []))) 10 49
-    ∷ accepts 3 (whole 1 (T 1 (w 1 5 ∷ w 2 5 ∷ w 1 6 ∷ []))) (0 ∷ 1 ∷ [])
+    ∷ refusesAt (trace 0 (opens 1 ∷ w 1 5 ∷ w 1 5 ∷ [])) 10 30
+    ∷ refusesAt (trace 0 (block 1 0 (w 1 5 ∷ []) ++ T 2 (w 1 5 ∷ []))) 10 49
+    ∷ acceptsAt 3 (whole 1 (T 1 (w 1 5 ∷ w 2 5 ∷ w 1 6 ∷ []))) (0 ∷ 1 ∷ [])
     -- 11: a byte after the end; 3: a record boundary without an end
-    ∷ refuses (whole 0 [] ++ (7 ∷ [])) 11 10
-    ∷ refuses (trace 0 (T 1 [])) 3 19
+    ∷ refusesAt (whole 0 [] ++ (7 ∷ [])) 11 10
+    ∷ refusesAt (trace 0 (T 1 [])) 3 19
     -- 12, then 13, one byte short and exactly fitting; a rejection needs no order buffer
     ∷ edge P3 3 3 0 0 (refusesIn 3 0 0 12 4)
     ∷ edge P3 3 4 0 0 (rejectsIn 4 0 0 (read 1 1 1) [])
@@ -115,37 +115,37 @@ table =
     ∷ edge P4 3 0 0 1 (refusesIn 0 0 1 14 2)
     ∷ edge P4 3 0 0 2 (acceptsIn 0 0 2 (0 ∷ 1 ∷ []))
     -- clean internal reads: of the only write, and of the last of two
-    ∷ accepts 3 (whole 1 (T 1 (w 1 5 ∷ r 1 5 ∷ []))) (0 ∷ 1 ∷ [])
-    ∷ accepts 3 (whole 1 (T 1 (w 1 5 ∷ w 1 6 ∷ r 1 6 ∷ w 1 7 ∷ []))) (0 ∷ 1 ∷ [])
+    ∷ acceptsAt 3 (whole 1 (T 1 (w 1 5 ∷ r 1 5 ∷ []))) (0 ∷ 1 ∷ [])
+    ∷ acceptsAt 3 (whole 1 (T 1 (w 1 5 ∷ w 1 6 ∷ r 1 6 ∷ w 1 7 ∷ []))) (0 ∷ 1 ∷ [])
     -- value 0 after an own write of the key, of another key, and before it
-    ∷ rejects 3 (whole 1 (T 1 (w 1 5 ∷ r 1 0 ∷ []))) (read 1 2 5) []
-    ∷ accepts 3 (whole 1 (T 1 (w 2 5 ∷ r 1 0 ∷ w 1 6 ∷ []))) (0 ∷ 1 ∷ [])
+    ∷ rejectsAt 3 (whole 1 (T 1 (w 1 5 ∷ r 1 0 ∷ []))) (read 1 2 5) []
+    ∷ acceptsAt 3 (whole 1 (T 1 (w 2 5 ∷ r 1 0 ∷ w 1 6 ∷ []))) (0 ∷ 1 ∷ [])
     -- a source that later wrote another key, or wrote the key before
-    ∷ accepts 3 (whole 2 (T 1 (w 1 4 ∷ w 1 5 ∷ w 2 6 ∷ []) ++ T 2 (r 1 5 ∷ []))) (0 ∷ 1 ∷ 2 ∷ [])
+    ∷ acceptsAt 3 (whole 2 (T 1 (w 1 4 ∷ w 1 5 ∷ w 2 6 ∷ []) ++ T 2 (r 1 5 ∷ []))) (0 ∷ 1 ∷ 2 ∷ [])
     -- an aborted reader is not judged, and an aborted writer is no rival
-    ∷ accepts 3 (whole 2 (T 1 (w 1 5 ∷ []) ++ block 2 0 (r 1 9 ∷ []))) (0 ∷ 1 ∷ [])
-    ∷ accepts 3 (whole 2 (block 1 0 (w 1 5 ∷ []) ++ T 1 (r 1 0 ∷ []))) (0 ∷ 2 ∷ [])
+    ∷ acceptsAt 3 (whole 2 (T 1 (w 1 5 ∷ []) ++ block 2 0 (r 1 9 ∷ []))) (0 ∷ 1 ∷ [])
+    ∷ acceptsAt 3 (whole 2 (block 1 0 (w 1 5 ∷ []) ++ T 1 (r 1 0 ∷ []))) (0 ∷ 2 ∷ [])
     -- a session whose middle transaction aborted; a rival two transactions back in its session
-    ∷ rejects 2 (whole 3 (T 1 (w 1 5 ∷ []) ++ block 1 0 [] ++ T 1 (r 1 0 ∷ []))) [] (pair 0 1 1 ++ pair 1 0 8)
-    ∷ rejects 2 (whole 3 (T 1 (w 1 5 ∷ []) ++ T 1 [] ++ T 1 (r 1 0 ∷ []))) [] (pair 0 1 1 ++ pair 1 0 8)
+    ∷ rejectsAt 2 (whole 3 (T 1 (w 1 5 ∷ []) ++ block 1 0 [] ++ T 1 (r 1 0 ∷ []))) [] (pair 0 1 1 ++ pair 1 0 8)
+    ∷ rejectsAt 2 (whole 3 (T 1 (w 1 5 ∷ []) ++ T 1 [] ++ T 1 (r 1 0 ∷ []))) [] (pair 0 1 1 ++ pair 1 0 8)
     -- sums of reasons: session and read; start and read
-    ∷ rejects 1 (whole 2 (T 1 (r 2 7 ∷ w 1 5 ∷ []) ++ T 1 (r 1 5 ∷ w 2 7 ∷ []))) [] (pair 1 2 6 ++ pair 2 1 4)
-    ∷ rejects 2 (whole 2 (T 1 (r 2 0 ∷ w 1 5 ∷ []) ++ T 1 (r 1 0 ∷ []))) [] (pair 0 1 5 ++ pair 1 0 8)
+    ∷ rejectsAt 1 (whole 2 (T 1 (r 2 7 ∷ w 1 5 ∷ []) ++ T 1 (r 1 5 ∷ w 2 7 ∷ []))) [] (pair 1 2 6 ++ pair 2 1 4)
+    ∷ rejectsAt 2 (whole 2 (T 1 (r 2 0 ∷ w 1 5 ∷ []) ++ T 1 (r 1 0 ∷ []))) [] (pair 0 1 5 ++ pair 1 0 8)
     -- a reader that leads to itself is no rival of its own source
-    ∷ rejects 3 (whole 2 (T 1 (r 2 7 ∷ w 1 5 ∷ w 2 8 ∷ []) ++ T 2 (r 1 5 ∷ w 2 7 ∷ []))) [] (pair 1 2 4 ++ pair 2 1 4)
+    ∷ rejectsAt 3 (whole 2 (T 1 (r 2 7 ∷ w 1 5 ∷ w 2 8 ∷ []) ++ T 2 (r 1 5 ∷ w 2 7 ∷ []))) [] (pair 1 2 4 ++ pair 2 1 4)
     -- pairs are worked out over clean reads even when findings exist
-    ∷ rejects 1 (whole 3 (T 1 (r 2 7 ∷ w 1 5 ∷ []) ++ T 2 (r 1 5 ∷ w 2 7 ∷ []) ++ T 3 (r 9 9 ∷ []))) (read 3 5 1) (pair 1 2 4 ++ pair 2 1 4)
+    ∷ rejectsAt 1 (whole 3 (T 1 (r 2 7 ∷ w 1 5 ∷ []) ++ T 2 (r 1 5 ∷ w 2 7 ∷ []) ++ T 3 (r 9 9 ∷ []))) (read 3 5 1) (pair 1 2 4 ++ pair 2 1 4)
     -- level 1: 0 is read from first, and 1 writes the key that is read from 2: a rival is earlier in the reader, not later
-    ∷ accepts 1 (whole 2 (T 1 (w 1 5 ∷ w 2 7 ∷ []) ++ T 2 (r 1 0 ∷ r 2 7 ∷ []))) (0 ∷ 1 ∷ 2 ∷ [])
-    ∷ rejects 1 (whole 2 (T 1 (w 1 5 ∷ w 2 7 ∷ []) ++ T 2 (r 2 7 ∷ r 1 0 ∷ []))) [] (pair 0 1 1 ++ pair 1 0 8)
+    ∷ acceptsAt 1 (whole 2 (T 1 (w 1 5 ∷ w 2 7 ∷ []) ++ T 2 (r 1 0 ∷ r 2 7 ∷ []))) (0 ∷ 1 ∷ 2 ∷ [])
+    ∷ rejectsAt 1 (whole 2 (T 1 (w 1 5 ∷ w 2 7 ∷ []) ++ T 2 (r 2 7 ∷ r 1 0 ∷ []))) [] (pair 0 1 1 ++ pair 1 0 8)
     ∷ []
 
 -- how an edge comes out
-abbrev pub found : Edge → Edge
-found c = edge (c .bytes) (c .level) (c .f) (c .p) (c .o) (judged (c .bytes) (c .level) (room (c .f)) (room (c .p)) (room (c .o)))
+abbrev pub edgeFound : Edge → Edge
+edgeFound c = edge (c .bytes) (c .level) (c .f) (c .p) (c .o) (judged (c .bytes) (c .level) (room (c .f)) (room (c .p)) (room (c .o)))
 
 -- The line names all that an outcome or a note is computed with. To unfold this statement is to unfold them: the other statements, here and in Cases, do so
-unfoldable pub as-they-should : map found table ≡ table
+unfoldable pub as-they-should : map edgeFound edgeTable ≡ edgeTable
 unfolding le over tx op committed isOpen current writesValue writeOf opened closed withOp eventOf eventAt breaks isUnknown isMisfit frameRows misplaced unlawful excess repeats stepRows entered isEnd textAt refusalNo after finished walk reading writesAt wroteBetween originOf sourceOf kindBy kindOf isJudged isFinding isExternal readsFrom isStart isSession isRead basic leads writesKey sees settles isRival forced reasons findings findingBytes pairsOf pairs pairBytes order findingList pairList isEmpty isAccepted acceptance rejection judgedRead isLevel judged via isListed mem misses ready isUnplaced unplaced next fill rest _and_ _or_ pick someOf firstOf countOf listOf some first count listed those last joined numbered nth firstFit isNote notedRead noted
 as-they-should = refl
 

@@ -61,7 +61,7 @@ fn read_close(p: &[u8]) -> Event
     requires { ⌜ 1 ≤ length (now p) ⌝ }
     ensures { λ r. ⌜ r ≡ Event.Close (le 1 (now (p .entry)) 0) ⌝ }
 {
-    Event::Close(p[0])
+    Event::Close(p[0] as u16)
 }
 
 // Kind 5, end: number of transactions opened, 2 bytes.

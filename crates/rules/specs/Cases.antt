@@ -96,4 +96,5 @@ at-each = fixed found table as-the-document-says
 
 -- "187 bytes"
 pub case-16-length : length (getD table 15 (all [] (refusesWith 0 0)) .bytes) ≡ 187
+unfolding as-they-should
 case-16-length = refl

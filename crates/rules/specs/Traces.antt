@@ -1,29 +1,30 @@
--- Traces as document 01 writes them by hand, turned into bytes. Used by the tables of cases alone.
+-- Records turned into bytes, which the writer's definition is made of; and traces as document 01 writes them by hand, for the tables of cases.
 use Prim.Native.Nat.{ℕ, zero, suc, _+_, _-_, _/_, _%_, _^_}
 use mathlib.Core.List.{List, [], _∷_, _++_}
 use lib.ListN.{length}
+use Rattle.rules.specs.Numbers.{bytes}
 use Rattle.rules.specs.Outcome.{Outcome, outcome, declining, rejecting, accepting}
 
--- n in w bytes
-abbrev pub bytes : ℕ → ℕ → List ℕ
-bytes zero n = []
-bytes (suc w) n = n % 256 ∷ bytes w (n / 256)
-
--- a kind and a payload; as a record, with the length that it says and its serial
+-- a record but for its serial: a kind and a payload
 pub record Item : Type 0 where
   pub kind : ℕ
   pub payload : List ℕ
 
-abbrev pub raw : ℕ → ℕ → ℕ → List ℕ → List ℕ
-raw len kind serial p = bytes 2 len ++ bytes 2 kind ++ bytes 4 serial ++ p
-
 abbrev pub item : ℕ → List ℕ → Item
 item k p = record { kind = k; payload = p }
 
+-- "A record is a 2-byte length, a 2-byte kind, a 4-byte serial and a payload, all little-endian", with the length that it says
+unfoldable pub raw : ℕ → ℕ → ℕ → List ℕ → List ℕ
+raw len kind serial p = bytes 2 len ++ bytes 2 kind ++ bytes 4 serial ++ p
+
+-- "The length counts everything after itself."
+unfoldable pub recordOf : ℕ → Item → List ℕ
+recordOf serial i = raw (6 + length (i .payload)) (i .kind) serial (i .payload)
+
 -- records from the serial n on
-abbrev pub trace : ℕ → List Item → List ℕ
+unfoldable pub trace : ℕ → List Item → List ℕ
 trace n [] = []
-trace n (i ∷ is) = raw (6 + length (i .payload)) (i .kind) n (i .payload) ++ trace ((n + 1) % 2 ^ 32) is
+trace n (i ∷ is) = recordOf n i ++ trace ((n + 1) % 2 ^ 32) is
 
 abbrev pub opens : ℕ → Item
 opens s = item 1 (bytes 2 s)

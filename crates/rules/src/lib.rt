@@ -5,7 +5,7 @@ pub enum Event {
     Open(u16),
     Read(u32, u64),
     Write(u32, u64),
-    Close(u8),
+    Close(u16),
     End(u16),
     Note,
     Other,

@@ -89,7 +89,7 @@ fn take_write(h: &mut [u64], t: usize, x: u32, v: u64) -> Next
     Next::Go
 }
 
-fn take_close(h: &mut [u64], t: usize, status: u8) -> Next
+fn take_close(h: &mut [u64], t: usize, status: u16) -> Next
     requires { ⌜ Held (now h) × (t ≤ txCount (historyOf (now h))) ⌝ }
     ensures { λ r. ⌜ Took r (now (h .exit)) (now (h .entry)) t (Event.Close status) ⌝ }
 {

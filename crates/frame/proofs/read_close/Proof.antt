@@ -6,10 +6,14 @@ use Rattle.rules.specs.declared.Event.the-variants.{Close}
 use Rattle.frame.proofs.read_close.Statement.{statement}
 use Rattle.frame.proofs.read_close.Tie as tie
 
+cast-t4 : tie.Need-cast-t4
+cast-t4 c =
+    omega (arith, c .shared-slice-known .given 0)
+
 returns : tie.Need-returns
 unfolding le
 returns c =
     ap Close (omega arith)
 
 pub read-close-spec : {M : Type 1} → statement M
-read-close-spec = tie.close (tie.spec (λ c. search needs) returns)
+read-close-spec = tie.close (tie.spec (λ c. search needs) cast-t4 returns)

@@ -1,0 +1,4 @@
+pub mod Filling
+pub mod Steps
+pub mod Writing
+pub mod Listing

@@ -20,6 +20,10 @@ module _ (h : History) (o : Op) where
   unfolding withOp
   with-op-count = length-append (h .ops) (o ∷ [])
 
+  pub with-op-txs : withOp h o .txs ≡ h .txs
+  unfolding withOp
+  with-op-txs = refl
+
   pub with-op-old : (i : ℕ) → i ≤ opCount h → op (withOp h o) i ≡ op h i
   unfolding withOp op
   with-op-old i l = List·getD-append (noOp ∷ h .ops) (o ∷ []) noOp i (omega arith)
@@ -34,6 +38,10 @@ module _ (h : History) (s : ℕ) where
   pub open-count : txCount (opened h s) ≡ txCount h + 1
   unfolding opened
   open-count = length-append (h .txs) (record { session = s; status = 3 } ∷ [])
+
+  pub open-ops : opened h s .ops ≡ h .ops
+  unfolding opened
+  open-ops = refl
 
   pub open-old : (t : ℕ) → t ≤ txCount h → tx (opened h s) t ≡ tx h t
   unfolding opened tx
@@ -53,7 +61,11 @@ module _ (h : History) (t x : ℕ) where
   unfolding closed
   close-count = numbered-length (txCount h) then
 
-  close-tx : (i : ℕ) → 1 ≤ i → i ≤ txCount h → tx (closed h t x) i ≡ then i
+  pub close-ops : closed h t x .ops ≡ h .ops
+  unfolding closed
+  close-ops = refl
+
+  pub close-tx : (i : ℕ) → 1 ≤ i → i ≤ txCount h → tx (closed h t x) i ≡ then i
   unfolding closed tx
   close-tx i a b = numbered-at zeroth noTx (txCount h) then i a b
 

@@ -1,0 +1,4 @@
+pub mod Rows
+pub mod Grown
+pub mod Followed
+pub mod Lengths

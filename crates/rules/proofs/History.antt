@@ -24,6 +24,10 @@ module _ (h : History) (o : Op) where
   unfolding withOp
   with-op-txs = refl
 
+  pub with-op-tx : (t : ℕ) → tx (withOp h o) t ≡ tx h t
+  unfolding withOp tx
+  with-op-tx t = refl
+
   pub with-op-old : (i : ℕ) → i ≤ opCount h → op (withOp h o) i ≡ op h i
   unfolding withOp op
   with-op-old i l = List·getD-append (noOp ∷ h .ops) (o ∷ []) noOp i (omega arith)
@@ -65,14 +69,15 @@ module _ (h : History) (t x : ℕ) where
   unfolding closed
   close-ops = refl
 
-  pub close-tx : (i : ℕ) → 1 ≤ i → i ≤ txCount h → tx (closed h t x) i ≡ then i
+  close-tx : (i : ℕ) → 1 ≤ i → i ≤ txCount h → tx (closed h t x) i ≡ then i
   unfolding closed tx
   close-tx i a b = numbered-at zeroth noTx (txCount h) then i a b
 
+  pub close-whole : 1 ≤ t → t ≤ txCount h → tx (closed h t x) t ≡ record { session = tx h t .session; status = x }
+  close-whole a b = close-tx t a b ∙ pick-on (eqb t t) (record { session = tx h t .session; status = x }) (tx h t) (eq-eqb t t refl)
+
   pub close-this : 1 ≤ t → t ≤ txCount h → tx (closed h t x) t .status ≡ x
-  close-this a b =
-      ap (λ (y : Tx). y .status)
-      (close-tx t a b ∙ pick-on (eqb t t) (record { session = tx h t .session; status = x }) (tx h t) (eq-eqb t t refl))
+  close-this a b = ap (λ (y : Tx). y .status) (close-whole a b)
 
   pub close-other : (i : ℕ) → 1 ≤ i → i ≤ txCount h → (i ≡ t → ⊥) → tx (closed h t x) i ≡ tx h i
   close-other i a b d = close-tx i a b ∙ pick-off (eqb i t) (record { session = tx h i .session; status = x }) (tx h i) (ne-eqb i t d)

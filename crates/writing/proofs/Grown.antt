@@ -62,7 +62,7 @@ pub open-one : (h : History) → 0 < current h → openCount h ≡ 1
 open-one h l = pick-on (ltb 0 (current h)) 1 0 (lt-ltb 0 (current h) l)
 
 -- each operation is one of the transactions'
-abbrev OpsIn : History → Type 0
+abbrev pub OpsIn : History → Type 0
 OpsIn h = (i : ℕ) → i ≤ opCount h → op h i .tx ≤ txCount h
 
 ops-begin : OpsIn empty

@@ -2,3 +2,5 @@ pub mod Rows
 pub mod Grown
 pub mod Followed
 pub mod Lengths
+pub mod Told
+pub mod Listed

@@ -60,7 +60,7 @@ note-length n e l =
     rw e (λ t. ⊎-elim (λ x. absurd (omega arith)) (λ x. x) (misfit 6 n t), λ d. is-true _ (λ t. let r = fit 6 n t in omega (arith, r .1)))
 
 -- row 4, length for its kind
-length-test : (k n : ℕ) → 1 ≤ k → k ≤ 6 → 6 ≤ n → (isMisfit k n ≡ true) ↔ WrongLength k n
+pub length-test : (k n : ℕ) → 1 ≤ k → k ≤ 6 → 6 ≤ n → (isMisfit k n ≡ true) ↔ WrongLength k n
 length-test k n l h m = (to, from)
   where
     to : isMisfit k n ≡ true → WrongLength k n

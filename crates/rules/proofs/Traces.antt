@@ -23,6 +23,12 @@ unfolding serialFrom
 serial-is n zero l = omega arith
 serial-is n (suc k) l = serial-is ((n + 1) % 2 ^ 32) k (omega arith) ∙ omega arith
 
+pub serial-below : (n k : ℕ) → n < 2 ^ 32 → serialFrom n k < 2 ^ 32
+serial-below n k l = rw (serial-is n k l) (omega arith)
+
+pub serial-next : (n k : ℕ) → n < 2 ^ 32 → serialFrom n (k + 1) ≡ (serialFrom n k + 1) % 2 ^ 32
+serial-next n k l = rw (serial-is n (k + 1) l, serial-is n k l) (omega arith)
+
 pub trace-one : (n : ℕ) (i : Item) → trace n (i ∷ []) ≡ recordOf n i
 unfolding trace
 trace-one n i = append-nil (recordOf n i)

@@ -7,7 +7,7 @@ use mathlib.Core.Logic.{⊎-elim}
 use native.Mathlib.Omega.{arith}
 use native.Mathlib.Numerals.{unary-clauses}
 use lib.Dec.{ltb, eqb}
-use lib.ListN.{length, getD, List·getD-eq-default}
+use lib.ListN.{length, getD, List·getD-append, List·getD-eq-default}
 use lib.Seq.{getD-append-seam}
 use Rattle.base.specs.Base.{pick}
 use Rattle.base.proofs.Tests.{ifso, split}
@@ -52,10 +52,19 @@ slim-other : Slim Other
 unfolding Slim
 slim-other = tt
 
+pub slim-end : (n : ℕ) → Slim (End n)
+unfolding Slim
+slim-end n = tt
+
 -- one more
 pub slim-more : (es : List Event) (e : Event) → EachSlim es → Slim e → EachSlim (es ++ (e ∷ []))
 unfolding pick
 slim-more es e a b i = rw (getD-more es e Other i) (ifso (eqb (length es) i) (λ t. rw t b) (λ t. rw t (a i)))
+
+-- .. and one less
+pub slim-front : (es : List Event) (e : Event) → EachSlim (es ++ (e ∷ [])) → EachSlim es
+slim-front es e a i =
+    ⊎-elim (λ l. rw (List·getD-append es (e ∷ []) Other i l) at (a i)) (λ (g : length es ≤ i). rw (List·getD-eq-default es Other {n = i} g) slim-other) (split i (length es))
 
 -- the one that stands behind others
 pub slim-at : (es : List Event) (e : Event) (rest : List Event) → EachSlim (es ++ (e ∷ rest)) → Slim e

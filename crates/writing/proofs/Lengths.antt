@@ -18,7 +18,7 @@ use Rattle.writing.proofs.Rows.{Taken, open-taken, read-taken, write-ta
 use Rattle.writing.proofs.Grown.{Grown, grown-none, grown-step, openCount, open-none, open-one, empty-current, open-current, op-current, close-current}
 use Rattle.writing.proofs.Followed.{followed}
 
-map-append : {A B : Type 0} (f : A → B) (xs ys : List A) → map f (xs ++ ys) ≡ map f xs ++ map f ys
+pub map-append : {A B : Type 0} (f : A → B) (xs ys : List A) → map f (xs ++ ys) ≡ map f xs ++ map f ys
 map-append f [] ys = refl
 map-append f (x ∷ xs) ys = ap (λ l. f x ∷ l) (map-append f xs ys)
 

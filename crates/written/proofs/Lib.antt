@@ -3,3 +3,4 @@ pub mod Slim
 pub mod Framed
 pub mod Readback
 pub mod Serials
+pub mod Says

@@ -89,7 +89,7 @@ by-kind k l h p1 p2 p3 p4 p5 p6 =
     same-or k 1 p1 (λ d1. same-or k 2 p2 (λ d2. same-or k 3 p3 (λ d3. same-or k 4 p4 (λ d4. same-or k 5 p5 (λ d5. p6 (omega arith))))))
 
 -- a number that is not another than b
-exactly : (a b : ℕ) → ((a ≡ b → ⊥) → ⊥) → a ≡ b
+pub exactly : (a b : ℕ) → ((a ≡ b → ⊥) → ⊥) → a ≡ b
 exactly a b h = same-or a b (λ e. e) (λ d. absurd (h d))
 
 module _ {s : List ℕ} {at : ℕ} (f : Framed s at) where

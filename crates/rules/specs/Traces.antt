@@ -36,7 +36,7 @@ abbrev pub w : ℕ → ℕ → Item
 w x v = item 3 (bytes 4 x ++ bytes 8 v)
 
 abbrev pub closes : ℕ → Item
-closes c = item 4 (c ∷ [])
+closes c = item 4 (bytes 1 c)
 
 abbrev pub ends : ℕ → Item
 ends n = item 5 (bytes 2 n)

@@ -9,12 +9,13 @@ use Rattle.base.specs.Base.{joined}
 use Rattle.base.proofs.Searches.{joined-append, joined-one, joined-none}
 use Rattle.rules.specs.Numbers.{bytes}
 use Rattle.rules.specs.History.{History, txCount, opCount, current, writeOf}
+use Rattle.rules.specs.Records.{eventAt}
 use Rattle.rules.specs.Reading.{State, Stretch, entered, reading, read}
 use Rattle.rules.specs.declared.Event.{Event}
 use Rattle.rules.specs.declared.Event.the-variants.{Open, Read, Write, Close}
 use Rattle.demand1.specs.Rows.{session, key, value, status, noteText, Passes, inPlace, valueLawful, withinLimit, newWrite, open-inside, read-outside, write-outside, close-outside, end-inside, written-0, status-above-1, open-128th, read-1025th, write-1025th, Next, after-open, after-read, after-write, after-close, after-note, Reaches, start, on, ReadInto, to-the-end}
 use Rattle.demand1.proofs.Histories.{inside-current, outside-current}
-use Rattle.demand1.proofs.Events.{at-least, below}
+use Rattle.demand1.proofs.Events.{Framed, passes-framed, open-event, read-event, write-event, close-event, at-least, below}
 use Rattle.demand1.proofs.Steps.{inside}
 use Rattle.demand1.proofs.Checks.{write-found}
 use Rattle.demand1.proofs.Readings.{reads-iff}
@@ -41,19 +42,22 @@ module _ (s : List ℕ) (st : State) (p : Passes s st) where
   abbrev h : History
   h = st .history
 
+  f : Framed s (st .at)
+  f = passes-framed p
+
   -- each is a step that is taken, or a note
   pub data Stepped (x : State) : Type 0 where
-    by-step : (e : Event) → Taken h e → x .history ≡ entered h (current h) e → x .notes ≡ st .notes → Stepped x
+    by-step : (e : Event) → Taken h e → eventAt s (st .at) ≡ e → x .history ≡ entered h (current h) e → x .notes ≡ st .notes → Stepped x
     by-note : x .history ≡ h → (x .notes ≡ [] → ⊥) → Stepped x
 
   pub stepped : {x : State} → Next s st x → Stepped x
   unfolding entered
   stepped (after-open k) =
-      by-step (Open (session s (st .at))) (open-taken (outside-current h (λ i. p inPlace (open-inside k i))) (below (txCount h) 127 (λ l. p withinLimit (open-128th k l)))) refl refl
+      by-step (Open (session s (st .at))) (open-taken (outside-current h (λ i. p inPlace (open-inside k i))) (below (txCount h) 127 (λ l. p withinLimit (open-128th k l)))) (open-event f k) refl refl
   stepped (after-read k) =
       let i = inside s st p (read-outside k) in
       let c = inside-current h i in
-      by-step (Read (key s (st .at)) (value s (st .at))) (read-taken (omega (arith, c, i .0)) (below (opCount h) 1024 (λ l. p withinLimit (read-1025th k l)))) (rw c) refl
+      by-step (Read (key s (st .at)) (value s (st .at))) (read-taken (omega (arith, c, i .0)) (below (opCount h) 1024 (λ l. p withinLimit (read-1025th k l)))) (read-event f k) (rw c) refl
   stepped (after-write k) =
       let i = inside s st p (write-outside k) in
       let c = inside-current h i in
@@ -62,11 +66,11 @@ module _ (s : List ℕ) (st : State) (p : Passes s st) where
       by-step (Write x v)
       (write-taken (omega (arith, c, i .0)) (below 0 v (λ l. p valueLawful (written-0 k (omega arith)))) (below (opCount h) 1024 (λ l. p withinLimit (write-1025th k l)))
       (none (writeOf h x v) (λ l. p newWrite (record { writes = k; by = writeOf h x v; earlier = write-found h x v l }))))
-      (rw c) refl
+      (write-event f k) (rw c) refl
   stepped (after-close k) =
       let i = inside s st p (close-outside k) in
       let c = inside-current h i in
-      by-step (Close (status s (st .at))) (close-taken (omega (arith, c, i .0)) (at-least (status s (st .at)) 1 (λ l. p valueLawful (status-above-1 k l)))) (rw c) refl
+      by-step (Close (status s (st .at))) (close-taken (omega (arith, c, i .0)) (at-least (status s (st .at)) 1 (λ l. p valueLawful (status-above-1 k l)))) (close-event f k) (rw c) refl
   stepped (after-note k) = by-note refl (λ e. omega (arith, ap length e, length-append (st .notes) (noteText s (st .at) ∷ [])))
 
 -- the history of a state that reading comes to
@@ -75,7 +79,7 @@ reached start = so grown-none
 reached {s} (on {st} {next} r p n) = by (reached r) (stepped s st p n)
   where
     by : GrownSo (st .history) → Stepped s st p next → GrownSo (next .history)
-    by g (by-step e t i _) = rw i (so (grown-step e g t))
+    by g (by-step e t _ i _) = rw i (so (grown-step e g t))
     by g (by-note i _) = rw i g
 
 -- .. and of a trace that is read, which ends outside a transaction

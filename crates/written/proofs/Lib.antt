@@ -4,3 +4,5 @@ pub mod Framed
 pub mod Readback
 pub mod Serials
 pub mod Says
+pub mod Spelt
+pub mod Retold

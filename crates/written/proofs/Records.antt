@@ -72,11 +72,6 @@ module _ (front : List ℕ) (m : ℕ) (i : Item) (back : List ℕ) where
 
 -- ── its event ──
 
--- a status
-first-byte : (c : ℕ) (back : List ℕ) → le 1 ((c ∷ []) ++ back) 0 ≡ c
-unfolding le
-first-byte c back = omega arith
-
 -- a key and a value
 op-key : (x v : ℕ) (back : List ℕ) → x < 4294967296 → le 4 ((bytes 4 x ++ bytes 8 v) ++ back) 0 ≡ x
 op-key x v back l = rw (append-assoc (bytes 4 x) (bytes 8 v) back) (le-bytes 4 x (bytes 8 v ++ back) l)
@@ -114,7 +109,7 @@ module _ (front : List ℕ) (m : ℕ) (back : List ℕ) where
       ∙ rw (record-field front m i back 4 0, record-field front m i back 8 4, op-key x v back l, op-value x v back k)
   event-back (narrow-close {c} l) =
       close-event (event-framed (narrow-close l)) (record-kind front m (itemOf (Close c)) back (omega arith))
-      ∙ ap Close (record-field front m (itemOf (Close c)) back 1 0 ∙ first-byte c back)
+      ∙ ap Close (record-field front m (itemOf (Close c)) back 1 0 ∙ le-bytes 1 c back l)
   event-back (narrow-end {n} l) =
       end-event (event-framed (narrow-end l)) (record-kind front m (itemOf (End n)) back (omega arith))
       ∙ ap End (record-field front m (itemOf (End n)) back 2 0 ∙ le-bytes 2 n back l)

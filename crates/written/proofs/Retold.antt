@@ -1,0 +1,116 @@
+-- A trace that is read and has no notes is what its steps are written as, with its first serial.
+use Prim.Native.Nat.{ℕ, _+_, _*_, _%_, _^_, _<_, _≤_}
+use mathlib.Core.Path.{_≡_, refl, ap, sym, _∙_}
+use mathlib.Core.List.{List, [], _∷_, _++_}
+use native.Mathlib.Omega.{arith}
+use lib.ListN.{length, take, length-append}
+use lib.Seq.{take-length}
+use Rattle.rules.specs.Numbers.{le}
+use Rattle.rules.specs.History.{History, txCount, current, empty}
+use Rattle.rules.specs.Records.{eventAt}
+use Rattle.rules.specs.Reading.{State, Stretch, entered}
+use Rattle.rules.specs.Traces.{recordOf, trace}
+use Rattle.rules.specs.declared.Event.{Event}
+use Rattle.rules.specs.declared.Event.the-variants.{End}
+use Rattle.rules.proofs.Traces.{serialFrom, serial-next}
+use Rattle.demand1.specs.Rows.{serial, endNumber, behind, moved, Passes, serialFollows, valueLawful, end-wrong, Next, after-open, after-read, after-write, after-close, after-note, Reaches, start, on, ReadInto, to-the-end}
+use Rattle.demand1.proofs.Events.{Framed, passes-framed, exactly, same-or}
+use Rattle.demand1.proofs.Steps.{next-is}
+use Rattle.writing.specs.Writing.{itemOf, recordsOf, traceOf}
+use Rattle.writing.specs.Listing.{historySteps}
+use Rattle.writing.proofs.Rows.{Taken}
+use Rattle.writing.proofs.Grown.{Grown, grown-none, grown-step}
+use Rattle.writing.proofs.Told.{told}
+use Rattle.writing.proofs.Lengths.{records-more}
+use Rattle.writing.proofs.Listed.{Stepped, by-step, by-note, stepped, reached}
+use Rattle.written.specs.Writes.{AllBytes}
+use Rattle.written.proofs.Slim.{EachSlim, slim-none, slim-more, le-below}
+use Rattle.written.proofs.Spelt.{step-spelt, slim-event, end-spelt}
+
+-- the records before a state are those of its history's steps
+record Retold (s : List ℕ) (st : State) : Type 0 where
+  pub front : take (st .at) s ≡ recordsOf (serial s 0) (historySteps (st .history))
+  pub follows : 0 < st .at → st .serial ≡ serialFrom (serial s 0) (length (historySteps (st .history)))
+  pub none : st .at ≡ 0 → historySteps (st .history) ≡ []
+  pub slim : EachSlim (historySteps (st .history))
+
+module _ (s : List ℕ) (b : AllBytes s) where
+  abbrev n : ℕ
+  n = serial s 0
+
+  -- the serial of the record that a state has come to
+  serial-here : {st : State} → Passes s st → Retold s st → serial s (st .at) ≡ serialFrom n (length (historySteps (st .history)))
+  unfolding serialFrom
+  serial-here {st} p r =
+      same-or (st .at) 0 (λ z. rw (z, r .none z) refl)
+      (λ d. exactly (serial s (st .at)) (st .serial) (λ e. p serialFollows (omega arith, e)) ∙ r .follows (omega arith))
+
+  -- the state behind the record
+  behind-it : {st x : State} → Next s st x → (x .at ≡ behind s (st .at)) × (x .serial ≡ (serial s (st .at) + 1) % 2 ^ 32)
+  behind-it (after-open k) = (refl, refl)
+  behind-it (after-read k) = (refl, refl)
+  behind-it (after-write k) = (refl, refl)
+  behind-it (after-close k) = (refl, refl)
+  behind-it (after-note k) = (refl, refl)
+
+  -- a step more
+  retold-step : {st x : State} → Passes s st → Reaches s st → (e : Event) → Taken (st .history) e → eventAt s (st .at) ≡ e → x .history ≡ entered (st .history) (current (st .history)) e
+      → Next s st x → Retold s st → Retold s x
+  retold-step {st} {x} p rs e t q i nx r =
+      record {
+        front = rw (at-is, steps) (step-spelt b f t q ∙ rw (r .front, here) (sym (records-more n es e)));
+        follows = λ _. rw steps (serial-is ∙ rw here (sym (ap (serialFrom n) (length-append es (e ∷ [])) ∙ serial-next n (length es) (le-below 4 s 4 b))));
+        none = λ z. absurd (omega (arith, at-is, f .sized .low));
+        slim = rw steps (slim-more es e (r .slim) (rw q at (slim-event b f)));
+      }
+    where
+      es : List Event
+      es = historySteps (st .history)
+
+      f : Framed s (st .at)
+      f = passes-framed p
+
+      at-is : x .at ≡ behind s (st .at)
+      at-is = behind-it nx .0
+
+      serial-is : x .serial ≡ (serial s (st .at) + 1) % 2 ^ 32
+      serial-is = behind-it nx .1
+
+      here : serial s (st .at) ≡ serialFrom n (length es)
+      here = serial-here p r
+
+      steps : historySteps (x .history) ≡ es ++ (e ∷ [])
+      steps = ap historySteps i ∙ told (grown-step e (reached rs) t)
+
+  retold : {st : State} → Reaches s st → st .notes ≡ [] → Retold s st
+  unfolding recordsOf trace
+  retold start z =
+      let e = told grown-none in
+      record { front = rw e refl; follows = λ l. absurd (omega arith); none = λ _. e; slim = rw e slim-none }
+  retold (on {st} {next} rs p nx) z = by (stepped s st p nx) (λ m. retold rs m)
+    where
+      by : Stepped s st p next → (st .notes ≡ [] → Retold s st) → Retold s next
+      by (by-step e t q i m) r = retold-step p rs e t q i nx (r (sym m ∙ z))
+      by (by-note _ d) r = absurd (d z)
+
+  -- "a trace without notes, read and written again, gives its own bytes"
+  own : {h : History} {notes : List Stretch} → ReadInto s h notes → notes ≡ [] → (traceOf n (historySteps h) h ≡ s) × EachSlim (historySteps h)
+  own (to-the-end {st} l rs p k e) z = (records-more n es (End (txCount (st .history))) ∙ sym (sym (take-length s) ∙ whole), r .slim)
+    where
+      r : Retold s st
+      r = retold rs z
+
+      es : List Event
+      es = historySteps (st .history)
+
+      number : endNumber s (st .at) ≡ txCount (st .history)
+      number = exactly (endNumber s (st .at)) (txCount (st .history)) (λ d. p valueLawful (end-wrong k d))
+
+      whole : take (length s) s ≡ recordsOf n es ++ recordOf (serialFrom n (length es)) (itemOf (End (txCount (st .history))))
+      whole = rw (← e) (end-spelt b (passes-framed p) k ∙ rw (r .front, serial-here p r, number))
+
+  pub own-bytes : {h : History} → ReadInto s h [] → traceOf n (historySteps h) h ≡ s
+  own-bytes r = own r refl .0
+
+  pub own-slim : {h : History} → ReadInto s h [] → EachSlim (historySteps h)
+  own-slim r = own r refl .1

@@ -17,10 +17,12 @@ pub mod encode;
 pub mod generate;
 pub mod graph;
 pub mod hash;
+pub mod process;
 pub mod random;
 pub mod report;
 pub mod text;
 pub mod trace;
+pub mod workers;
 
 use graph::History;
 use report::{Level, Verdict};

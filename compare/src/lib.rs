@@ -23,6 +23,7 @@ pub mod report;
 pub mod text;
 pub mod trace;
 pub mod workers;
+pub mod writing;
 
 use graph::History;
 use report::{Level, Verdict};

@@ -2,7 +2,7 @@
 //!
 //! Row 1 (the level) has no place here since [`crate::report::Level`] cannot
 //! be wrong, rows 12 to 15 concern buffers and notes asked for, which this
-//! package does not have, and number 16 is given in writing.
+//! package does not have, and number 16 is given in [`crate::writing`].
 
 use crate::hash::FastMap;
 

@@ -242,6 +242,11 @@ pub fn first_serial(trace: &[u8]) -> u32 {
     trace::records(trace).next().map_or(0, |first| first.serial)
 }
 
+/// The input of the program `writer`: a starting serial (4 bytes) and steps.
+pub fn input_of(serial: u32, steps: &[Step]) -> Vec<u8> {
+    [&serial.to_le_bytes(), steps_to_bytes(steps).as_slice()].concat()
+}
+
 /// What the program `writer` does with its input, a starting serial (4 bytes)
 /// and steps; without a serial there is nothing to write.
 pub fn write_input(input: &[u8], room: usize) -> Result<Vec<u8>, Refusal> {

@@ -20,6 +20,8 @@ pub mod hash;
 pub mod process;
 pub mod random;
 pub mod report;
+pub mod sequence_cases;
+pub mod sequences;
 pub mod text;
 pub mod trace;
 pub mod workers;

@@ -20,6 +20,7 @@ pub mod hash;
 pub mod process;
 pub mod random;
 pub mod report;
+pub mod scribes;
 pub mod sequence_cases;
 pub mod sequences;
 pub mod text;

@@ -1,5 +1,6 @@
-//! Compares a program `judge` with the independent judge on many traces, and
-//! the independent judge's two deciders with each other.
+//! Compares a program `judge` with the independent judge on many traces, the
+//! independent judge's two deciders with each other, and the programs that
+//! write traces with the independent writer.
 
 use ferozhak_compare::cases::{self, Case};
 use ferozhak_compare::generate::{self, Origin};
@@ -8,7 +9,7 @@ use ferozhak_compare::random::Random;
 use ferozhak_compare::report::{self, Level, Verdict};
 use ferozhak_compare::trace::{Refusal, Trace, MAX_BYTES};
 use ferozhak_compare::workers::{self, add_each, Difference, Extent, Tally};
-use ferozhak_compare::{brute, Answer};
+use ferozhak_compare::{brute, scribes, Answer};
 use std::io::{self, BufRead, BufReader, Write};
 use std::process::{Child, ChildStdin, ChildStdout, ExitCode};
 
@@ -16,15 +17,25 @@ const USAGE: &str = "Usage:
   compare --judge COMMAND [options]    compares the program with the Rust judge: a run for each trace
   compare --stream COMMAND [options]   the same with the program `stream`: many traces a run
   compare --self [options]             compares the Rust judge's two deciders only
+  compare --scribe COMMAND [options]   compares the program `scribe` with the Rust writer: many items a run
+  compare --writer COMMAND [options]   the same with the program `writer`: a run for each sequence of steps
+  compare --rewrite COMMAND [options]  the same with the program `rewrite`: a run for each trace
 A COMMAND is a program and its arguments, parted by spaces.
 Options:
-  --traces N    at least this many traces (default 100000)
+  --traces N    at least this many traces (default 100000); with --scribe, --writer and --rewrite
+                this many random sequences and as many random traces, besides the known cases
+                (default 300 for --writer and --rewrite)
   --seed S      the seed of the random traces (default 1)
   --threads K   how many threads, each running one program at a time (default 1)
 ";
 
+/// What is compared.
+enum Compared {
+    Judges(Program),
+    Writers(scribes::Program),
+}
+
 /// What the Rust judge is compared with.
-#[derive(Clone)]
 enum Program {
     /// Only its own second decider.
     None,
@@ -35,7 +46,7 @@ enum Program {
 }
 
 struct Options {
-    program: Program,
+    compared: Compared,
     extent: Extent,
 }
 
@@ -47,8 +58,14 @@ fn main() -> ExitCode {
             return ExitCode::from(2);
         }
     };
-    let (summary, difference) = run(&options);
-    let mut out = summary.describe(&options);
+    let Options { compared, extent } = &options;
+    let (mut out, difference) = match compared {
+        Compared::Judges(program) => {
+            let (summary, difference) = run(program, extent);
+            (summary.describe(program, extent), difference)
+        }
+        Compared::Writers(program) => scribes::compare(program, extent),
+    };
     if let Some(difference) = &difference {
         out.push_str(&difference.describe());
     }
@@ -61,14 +78,8 @@ fn main() -> ExitCode {
 }
 
 fn parse_options(mut words: impl Iterator<Item = String>) -> Result<Options, String> {
-    let mut options = Options {
-        program: Program::None,
-        extent: Extent {
-            traces: 100_000,
-            seed: 1,
-            threads: 1,
-        },
-    };
+    let mut compared = None;
+    let (mut traces, mut seed, mut threads) = (None, 1, 1);
     let mut only_self = false;
     while let Some(word) = words.next() {
         if word == "--self" {
@@ -77,40 +88,57 @@ fn parse_options(mut words: impl Iterator<Item = String>) -> Result<Options, Str
         }
         let value = words.next().ok_or(format!("{word} needs a value"))?;
         let wrong = |_| format!("{word} {value} is not a number");
+        let judges = |program| Some(Compared::Judges(program));
+        let writers = |program| Some(Compared::Writers(program));
         match word.as_str() {
-            "--judge" => options.program = Program::Each(value),
-            "--stream" => options.program = Program::Stream(value),
-            "--traces" => options.extent.traces = value.parse().map_err(wrong)?,
-            "--seed" => options.extent.seed = value.parse().map_err(wrong)?,
-            "--threads" => options.extent.threads = value.parse::<usize>().map_err(wrong)?.max(1),
+            "--judge" => compared = judges(Program::Each(value)),
+            "--stream" => compared = judges(Program::Stream(value)),
+            "--scribe" => compared = writers(scribes::Program::Scribe(value)),
+            "--writer" => compared = writers(scribes::Program::Writer(value)),
+            "--rewrite" => compared = writers(scribes::Program::Rewrite(value)),
+            "--traces" => traces = Some(value.parse().map_err(wrong)?),
+            "--seed" => seed = value.parse().map_err(wrong)?,
+            "--threads" => threads = value.parse::<usize>().map_err(wrong)?.max(1),
             _ => return Err(format!("unknown option {word}")),
         }
     }
-    if only_self != matches!(options.program, Program::None) {
-        return Err("give one of --judge COMMAND, --stream COMMAND and --self".into());
-    }
-    Ok(options)
+    let compared = match compared {
+        None if only_self => Compared::Judges(Program::None),
+        Some(compared) if !only_self => compared,
+        _ => {
+            return Err("give one of --judge COMMAND, --stream COMMAND, --self, \
+                        --scribe COMMAND, --writer COMMAND and --rewrite COMMAND"
+                .into())
+        }
+    };
+    // A run for each item takes its time.
+    let usual = match compared {
+        Compared::Writers(scribes::Program::Writer(_) | scribes::Program::Rewrite(_)) => 300,
+        _ => 100_000,
+    };
+    let extent = Extent {
+        traces: traces.unwrap_or(usual),
+        seed,
+        threads,
+    };
+    Ok(Options { compared, extent })
 }
 
 /// Judges all traces, up to the first difference.
-fn run(options: &Options) -> (Summary, Option<Box<Difference>>) {
-    let Extent {
-        traces,
-        seed,
-        threads,
-    } = options.extent;
+fn run(program: &Program, extent: &Extent) -> (Summary, Option<Box<Difference>>) {
     let cases = cases::all();
-    let start = || Judge::of(&options.program);
+    let start = || Judge::of(program);
     let check = |index: usize, judge: &mut Judge, summary: &mut Summary| {
         // Each trace has its own random stream, so that a run is the same
         // whatever the number of threads.
         let subject = match cases.get(index) {
             Some(case) => Subject::known(index, case),
-            None => Subject::random(index, seed),
+            None => Subject::random(index, extent.seed),
         };
         subject.check(judge, summary)
     };
-    workers::share(traces.max(cases.len()), threads, start, check)
+    let total = extent.traces.max(cases.len());
+    workers::share(total, extent.threads, start, check)
 }
 
 /// A trace to be judged.
@@ -345,19 +373,16 @@ impl Summary {
         }
     }
 
-    fn describe(&self, options: &Options) -> String {
+    fn describe(&self, program: &Program, extent: &Extent) -> String {
         let traces: usize = self.origins.iter().sum();
-        let judges = match &options.program {
+        let judges = match program {
             Program::Each(command) | Program::Stream(command) => {
                 format!("by '{command}' and in Rust")
             }
             Program::None => "in Rust only".into(),
         };
         let mut lines = vec![
-            format!(
-                "{traces} traces of seed {}, judged {judges}",
-                options.extent.seed
-            ),
+            format!("{traces} traces of seed {}, judged {judges}", extent.seed),
             format!("{} verdicts also by trying every order", self.brute),
             "origins:".into(),
         ];

@@ -50,6 +50,18 @@ impl Program {
         }
     }
 
+    /// The refusals that it can give this way: 16 needs a room of choice.
+    fn refusals(&self, way: Way) -> Vec<usize> {
+        let mut numbers: Vec<usize> = match way {
+            Way::Steps => vec![3, 6, 7, 8, 9, 10],
+            Way::List | Way::Rewrite => (2..=11).collect(),
+        };
+        if let Program::Scribe(_) = self {
+            numbers.push(16);
+        }
+        numbers
+    }
+
     /// What each of the items gets: an answer, or why there is none.
     fn answers(&self, items: &[Item]) -> Vec<Result<Vec<u8>, String>> {
         match self {
@@ -120,14 +132,6 @@ impl Way {
             Way::Steps => write_input(bytes, room),
             Way::List => steps_of(bytes, room),
             Way::Rewrite => rewrite(bytes, room),
-        }
-    }
-
-    /// The refusals that there are this way.
-    fn refusals(self) -> Vec<usize> {
-        match self {
-            Way::Steps => vec![3, 6, 7, 8, 9, 10, 16],
-            Way::List | Way::Rewrite => (2..=11).chain([16]).collect(),
         }
     }
 }
@@ -642,15 +646,18 @@ impl Outcomes {
         lines.push(line("written", &|way| self.written[way]));
         lines.push(line("  just fitting", &|way| self.fitting[way]));
         for number in 2..Refusal::NUMBERS {
-            if ways.iter().any(|(_, way)| way.refusals().contains(&number)) {
+            if ways
+                .iter()
+                .any(|(_, way)| program.refusals(**way).contains(&number))
+            {
                 let name = format!("refused {number}");
                 lines.push(line(&name, &|way| self.refused[way][number]));
             }
         }
         lines.push(line("  one byte too short", &|way| self.byte_short[way]));
         for &(index, way) in &ways {
-            let missing: Vec<String> = way
-                .refusals()
+            let missing: Vec<String> = program
+                .refusals(*way)
                 .into_iter()
                 .filter(|&number| self.refused[index][number] == 0)
                 .map(|number| number.to_string())

@@ -56,7 +56,7 @@ pub fn any(random: &mut Random) -> (Origin, Vec<u8>) {
         14..=39 => (Origin::Small, small(random)),
         40..=51 => (Origin::Medium, medium(random)),
         52..=55 => (Origin::Large, large(random)),
-        56..=59 => (Origin::AtLimit, at_limit(random)),
+        56..=61 => (Origin::AtLimit, at_limit(random)),
         _ => (Origin::Faulty, faulty(random)),
     };
     let steps = match random.below(3) {
@@ -222,28 +222,29 @@ fn large(random: &mut Random) -> Vec<Step> {
     sequence(random, transactions, operations)
 }
 
-/// A sequence at a limit with a step more at its end, inside or outside, which
-/// may have further faults: the order of the checks decides.
+/// A sequence at a limit with a step more at its end, inside, outside or in a
+/// transaction more; it may have further faults, so that the order of the
+/// checks decides.
 fn at_limit(random: &mut Random) -> Vec<Step> {
-    let mut steps = large(random);
-    let last = steps.pop().filter(|_| random.percent(70));
-    let more = match random.below(3) {
-        0 => Step::open(1),
-        1 => Palette::drawn(random).read(random),
-        _ => match steps.iter().rfind(|step| step.kind == WRITE) {
-            Some(write) if random.percent(50) => *write,
-            _ => Step::write(7, *random.pick(&[0, 7])),
+    let (transactions, operations) = match random.below(4) {
+        0 => (MAX_TRANSACTIONS, random.below(50)),
+        1 => (MAX_TRANSACTIONS, MAX_OPERATIONS),
+        _ => (random.from_to(1, 20), MAX_OPERATIONS),
+    };
+    let mut steps = sequence(random, transactions, operations);
+    let more = match random.below(6) {
+        0 | 1 => Step::open(1),
+        2 => Palette::drawn(random).read(random),
+        3 => Step::write(7, *random.pick(&[0, u64::MAX])),
+        _ => match pick_of(random, &steps, |step| step.kind == WRITE) {
+            Some(write) => steps[write],
+            None => Step::write(7, 7),
         },
     };
-    match random.percent(50) {
-        true => {
-            steps.push(more);
-            steps.extend(last);
-        }
-        false => {
-            steps.extend(last);
-            steps.extend([more, Step::close(1)]);
-        }
+    match random.below(3) {
+        0 => steps.insert(steps.len() - 1, more),
+        1 => steps.extend([more, Step::close(1)]),
+        _ => steps.extend([Step::open(1), more, Step::close(1)]),
     }
     steps
 }

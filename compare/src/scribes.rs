@@ -20,9 +20,6 @@ use crate::writing::{
 /// Room for everything that can be written.
 const AMPLE: u16 = u16::MAX;
 
-/// How many numbers a run of the program `scribe` has; each gives some items.
-const RUN: usize = 200;
-
 /// The program that is compared.
 pub enum Program {
     /// `scribe`: many items a run.
@@ -39,6 +36,14 @@ impl Program {
             Program::Scribe(command) | Program::Writer(command) | Program::Rewrite(command) => {
                 command
             }
+        }
+    }
+
+    /// How many numbers are asked together; each gives some items.
+    fn together(&self) -> usize {
+        match self {
+            Program::Scribe(_) => 200,
+            Program::Writer(_) | Program::Rewrite(_) => 1,
         }
     }
 
@@ -209,11 +214,12 @@ pub fn compare(program: &Program, extent: &Extent) -> (String, Option<Box<Differ
         seed: extent.seed,
     };
     let total = source.known() + extent.traces;
+    let together = program.together();
     let check = |run: usize, _: &mut (), tally: &mut Outcomes| {
-        let numbers = run * RUN..total.min((run + 1) * RUN);
+        let numbers = run * together..total.min((run + 1) * together);
         check_run(program, &source, numbers, tally)
     };
-    let runs = total.div_ceil(RUN);
+    let runs = total.div_ceil(together);
     let (tally, difference) = workers::share(runs, extent.threads, || (), check);
     (tally.describe(program, extent), difference)
 }
@@ -337,29 +343,41 @@ fn check_run(
     for (item, ours) in items.iter().zip(&ours) {
         tally.count(item, ours);
         let expected = print(ours);
-        let said = match answers.next() {
+        let theirs = match answers.next() {
             Some(Ok(answer)) if answer == expected => continue,
-            Some(Ok(answer)) => show(&answer, &expected),
-            Some(Err(message)) => format!("did not answer: {message}\n"),
-            None => "ended before its answer did\n".into(),
+            Some(theirs) => theirs,
+            None => Err("ended before its answer did".into()),
         };
-        return Err(differs(program, item, said, &expected));
+        return Err(differs(program, item, &theirs, &expected));
     }
     match (answers.next(), items.last()) {
         (Some(more), Some(item)) => {
-            let said = format!("something more behind the last answer: {more:?}\n");
-            Err(differs(program, item, said, &[]))
+            let more = format!("something more behind the last answer: {more:?}");
+            Err(differs(program, item, &Err(more), &[]))
         }
         _ => Ok(()),
     }
 }
 
-/// The program's answer is not the expected one. What is kept is the input
-/// with which the program alone gives that answer again.
-fn differs(program: &Program, item: &Item, said: String, expected: &[u8]) -> Box<Difference> {
+/// The program's answer is not the expected one. What is kept is the input for
+/// another run, with this item alone.
+fn differs(
+    program: &Program,
+    item: &Item,
+    theirs: &Result<Vec<u8>, String>,
+    expected: &[u8],
+) -> Box<Difference> {
     let (bytes, file) = match program {
         Program::Scribe(_) => (item.to_bytes(), "item"),
         Program::Writer(_) | Program::Rewrite(_) => (item.bytes.clone(), "input"),
+    };
+    let (said, alike) = match theirs {
+        Ok(answer) => {
+            let pairs = answer.iter().zip(expected);
+            let alike = pairs.take_while(|(one, other)| one == other).count();
+            (show(answer, alike), alike)
+        }
+        Err(message) => (format!("no answer: {message}\n"), 0),
     };
     let letter = char::from(item.way.letter());
     Box::new(Difference {
@@ -368,29 +386,24 @@ fn differs(program: &Program, item: &Item, said: String, expected: &[u8]) -> Box
         file: file.into(),
         answers: [
             ("the program", said),
-            ("the Rust writer", show(expected, expected)),
+            ("the Rust writer", show(expected, alike)),
         ],
     })
 }
 
-/// An answer in print: a refusal as it is, other bytes in hexadecimal, a long
-/// answer from the line on in which it differs from the other.
-fn show(answer: &[u8], other: &[u8]) -> String {
+/// An answer in print: a refusal as it is, other bytes in hexadecimal; of a long
+/// answer a part, which begins in the line with the first byte not alike.
+fn show(answer: &[u8], alike: usize) -> String {
     const LINE: usize = 16;
     const LINES: usize = 64;
     if answer.starts_with(b"refused ") {
         return String::from_utf8_lossy(answer).into_owned();
     }
-    let same = answer.iter().zip(other).take_while(|(a, b)| a == b).count();
     let first = match answer.len() {
         short if short <= LINE * LINES => 0,
-        _ => (same / LINE).min(answer.len() / LINE),
+        _ => alike / LINE,
     };
-    let mut out = format!("{} bytes", answer.len());
-    if answer != other {
-        out += &format!(", the first {same} as they should be");
-    }
-    out.push('\n');
+    let mut out = format!("{} bytes, the first {alike} alike\n", answer.len());
     for (index, line) in answer.chunks(LINE).enumerate().skip(first).take(LINES) {
         let hex: String = line.iter().map(|byte| format!(" {byte:02x}")).collect();
         out += &format!("{:>6}:{hex}\n", index * LINE);
@@ -420,7 +433,7 @@ impl Subject {
                 file: "input".into(),
                 answers: [
                     ("the check in Rust", message + "\n"),
-                    ("the Rust writer", show(&print(full), &[])),
+                    ("the Rust writer", show(&print(full), 0)),
                 ],
             })
         })
@@ -560,8 +573,8 @@ struct Outcomes {
     refused: [[usize; Refusal::NUMBERS]; Way::ALL.len()],
     /// Refused for one byte.
     byte_short: [usize; Way::ALL.len()],
-    /// Sequences that end inside a transaction.
-    ends_inside: usize,
+    /// Refused since they end inside a transaction, which only steps do.
+    ends_inside: [usize; Way::ALL.len()],
     /// What the Rust side checked by itself.
     read_back: usize,
     refused_by_reader: usize,
@@ -583,7 +596,7 @@ impl Tally for Outcomes {
         for (to, from) in self.refused.iter_mut().zip(&other.refused) {
             add_each(to, from);
         }
-        self.ends_inside += other.ends_inside;
+        add_each(&mut self.ends_inside, &other.ends_inside);
         self.read_back += other.read_back;
         self.refused_by_reader += other.refused_by_reader;
         self.rewritten_alike += other.rewritten_alike;
@@ -609,7 +622,7 @@ impl Outcomes {
                 self.byte_short[way] += usize::from(byte_short);
                 let steps = item.bytes.len().saturating_sub(4) / STEP_SIZE;
                 let behind_all = item.way == Way::Steps && *place == steps + 1;
-                self.ends_inside += usize::from(*number == 7 && behind_all);
+                self.ends_inside[way] += usize::from(*number == 7 && behind_all);
             }
         }
     }
@@ -653,6 +666,9 @@ impl Outcomes {
                 let name = format!("refused {number}");
                 lines.push(line(&name, &|way| self.refused[way][number]));
             }
+            if number == 7 {
+                lines.push(line("  behind the last step", &|way| self.ends_inside[way]));
+            }
         }
         lines.push(line("  one byte too short", &|way| self.byte_short[way]));
         for &(index, way) in &ways {
@@ -675,7 +691,6 @@ impl Outcomes {
             ("  1,024 operations", self.full_operations),
             ("  both", self.full_both),
             ("steps refused by reader too", self.refused_by_reader),
-            ("items that end inside", self.ends_inside),
             ("rewritten as they are", self.rewritten_alike),
             ("rewritten without notes", self.notes_left_out),
         ] {

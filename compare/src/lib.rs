@@ -1,15 +1,19 @@
-//! An independent judge of transaction traces.
+//! An independent judge and writer of transaction traces.
 //!
-//! It is written from the specification `01-scope.md` alone, to be compared
-//! with the proved judge: the two share no code, so a mistake would have to be
-//! made twice, in the same way, to stay unseen.
+//! It is written from the specification alone, `01-scope.md` and the request
+//! for a writer, to be compared with the proved judge and writer: the two sides
+//! share no code, so a mistake would have to be made twice, in the same way, to
+//! stay unseen.
 //!
 //! * [`trace`] reads the bytes of a trace, or says why they are refused;
 //! * [`graph`] decides by forced pairs, for any trace, and is meant to be fast;
 //! * [`brute`] decides small traces by trying every order against the
 //!   published axioms, and is meant to be obviously right;
 //! * [`report`] holds the answers and prints them as the program `judge` does;
-//! * [`encode`], [`text`], [`generate`] and [`cases`] make traces.
+//! * [`writing`] writes traces from steps and turns traces into steps;
+//! * [`encode`], [`text`], [`generate`] and [`cases`] make traces, [`sequences`]
+//!   and [`sequence_cases`] sequences of steps;
+//! * [`process`], [`workers`] and [`scribes`] compare.
 
 pub mod brute;
 pub mod cases;
@@ -17,10 +21,16 @@ pub mod encode;
 pub mod generate;
 pub mod graph;
 pub mod hash;
+pub mod process;
 pub mod random;
 pub mod report;
+pub mod scribes;
+pub mod sequence_cases;
+pub mod sequences;
 pub mod text;
 pub mod trace;
+pub mod workers;
+pub mod writing;
 
 use graph::History;
 use report::{Level, Verdict};

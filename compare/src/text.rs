@@ -10,6 +10,7 @@
 
 use crate::encode::Writer;
 use crate::trace::{self, Refusal, Trace};
+use crate::writing::{self, Step};
 use std::collections::HashSet;
 use std::fmt;
 use std::str::FromStr;
@@ -29,7 +30,8 @@ pub const GRAMMAR: &str = r#"Items, parted by ';' or by line ends:
                     default: the number of transactions
 In a note's text, \" is a quote, \\ a backslash, \xNN the byte with the
 hexadecimal number NN. A value 0 written, a status above 1, a wrong end number
-or a note of more than 64 bytes is encoded as it stands, to be refused.
+or a note of more than 64 bytes is encoded as it stands, to be refused. Steps
+have no notes and no end record: a text with 'note' or 'end' has no steps.
 
 Example, case 16:  T1 w1=11 w2=21; T2 w1=12 w2=22; T3 r1=12 r2=21
 "#;
@@ -78,8 +80,31 @@ enum Token {
 
 /// Turns a text into the bytes of a trace.
 pub fn encode(text: &[u8]) -> Result<Vec<u8>, TextError> {
+    encode_as(text, Form::Trace)
+}
+
+/// Turns a text into the input of the program `writer`: the first serial, then
+/// the steps. What is not lawful goes into the steps as it stands.
+pub fn steps(text: &[u8]) -> Result<Vec<u8>, TextError> {
+    let trace = encode_as(text, Form::Steps)?;
+    let steps: Vec<Step> = trace::records(&trace)
+        .filter_map(|record| Step::of_record(&record))
+        .collect();
+    Ok(writing::input_of(writing::first_serial(&trace), &steps))
+}
+
+/// What a text is turned into.
+#[derive(Clone, Copy, PartialEq, Eq)]
+enum Form {
+    Trace,
+    /// Records that steps can say, and the end record that follows from them.
+    Steps,
+}
+
+fn encode_as(text: &[u8], form: Form) -> Result<Vec<u8>, TextError> {
     let mut encoder = Encoder {
         tokens: Tokens::cut(text)?,
+        form,
         writer: Writer::new(0),
         transactions: 0,
         sessions: HashSet::new(),
@@ -313,6 +338,7 @@ fn hex(digit: u8) -> Option<u8> {
 
 struct Encoder {
     tokens: Tokens,
+    form: Form,
     writer: Writer,
     transactions: u16,
     /// The sessions that transactions have: those written out, then the others.
@@ -344,11 +370,11 @@ impl Encoder {
                     let serial = self.tokens.number("first serial", u32::MAX)?;
                     self.writer = Writer::new(serial);
                 }
-                "note" => {
-                    let text = self.tokens.quoted()?;
-                    self.writer.note(&text);
-                }
+                "note" => self.note(at)?,
                 "end" => {
+                    if self.form == Form::Steps {
+                        return Err(at.error("steps have no end record; writing adds it"));
+                    }
                     let number = self.tokens.number("end number", u16::MAX)?;
                     self.tokens.end_of_item()?;
                     self.tokens.skip_separators();
@@ -400,14 +426,21 @@ impl Encoder {
                     status = self.tokens.number("status", u8::MAX)?;
                     break;
                 }
-                "note" => {
-                    let text = self.tokens.quoted()?;
-                    self.writer.note(&text);
-                }
+                "note" => self.note(at)?,
                 _ => self.operation(&word, at)?,
             }
         }
         self.writer.close(status);
+        Ok(())
+    }
+
+    /// A note, whose first word has been taken.
+    fn note(&mut self, at: Position) -> Result<(), TextError> {
+        if self.form == Form::Steps {
+            return Err(at.error("steps have no notes"));
+        }
+        let text = self.tokens.quoted()?;
+        self.writer.note(&text);
         Ok(())
     }
 
@@ -573,6 +606,45 @@ mod tests {
         assert_eq!(number("T1; end 2"), 8);
         assert_eq!(number("T1 w1=0"), 8);
         assert_eq!(number("T1 w1=1 w1=1"), 10);
+    }
+
+    #[test]
+    fn steps_say_the_same_as_the_trace() {
+        for text in [
+            "",
+            "T1 w1=5; T2 s7 r1=5 aborted",
+            "serial 4294967295; T1 s1; T2 s1 w4294967295=18446744073709551615; T3",
+        ] {
+            let input = steps(text.as_bytes()).unwrap();
+            let written = writing::write_input(&input, usize::MAX);
+            assert_eq!(written, Ok(encode(text.as_bytes()).unwrap()), "{text}");
+        }
+        assert_eq!(steps(b"").unwrap(), [0; 4]);
+        // Faults that steps can have go into them.
+        let number = |text: &str| {
+            let input = steps(text.as_bytes()).unwrap();
+            writing::write_input(&input, usize::MAX).unwrap_err().number
+        };
+        assert_eq!(number("T1 status 2"), 8);
+        assert_eq!(number("T1 w1=0"), 8);
+        assert_eq!(number("T1 w1=1 aborted; T2 w1=1"), 10);
+    }
+
+    #[test]
+    fn what_steps_cannot_say_is_an_error() {
+        let error = |text: &str| steps(text.as_bytes()).unwrap_err().to_string();
+        assert_eq!(
+            error("T1;\n note \"a\""),
+            "line 2, column 2: steps have no notes"
+        );
+        assert_eq!(
+            error("T1 w1=5 note \"\""),
+            "line 1, column 9: steps have no notes"
+        );
+        assert_eq!(
+            error("T1; end 1"),
+            "line 1, column 5: steps have no end record; writing adds it"
+        );
     }
 
     #[test]

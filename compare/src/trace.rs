@@ -1,8 +1,8 @@
 //! Reading a trace: rows 2 to 11 of the table of refusals.
 //!
 //! Row 1 (the level) has no place here since [`crate::report::Level`] cannot
-//! be wrong, and rows 12 to 15 concern buffers and notes asked for, which this
-//! package does not have.
+//! be wrong, rows 12 to 15 concern buffers and notes asked for, which this
+//! package does not have, and number 16 is given in [`crate::writing`].
 
 use crate::hash::FastMap;
 
@@ -33,6 +33,10 @@ pub struct Refusal {
 }
 
 impl Refusal {
+    /// The length of a table that has a place for each number, the greatest
+    /// of which is 16.
+    pub const NUMBERS: usize = 17;
+
     /// The row's own words, shortened.
     pub fn meaning(&self) -> &'static str {
         match self.number {
@@ -46,7 +50,8 @@ impl Refusal {
             9 => "128th open or 1,025th operation",
             10 => "a write repeats an earlier write's key and value",
             11 => "bytes follow the end record",
-            _ => "not given when reading a trace",
+            16 => "output buffer too short",
+            _ => "not given when reading or writing a trace",
         }
     }
 }

@@ -1,30 +1,41 @@
-//! Compares a program `judge` with the independent judge on many traces, and
-//! the independent judge's two deciders with each other.
+//! Compares a program `judge` with the independent judge on many traces, the
+//! independent judge's two deciders with each other, and the programs that
+//! write traces with the independent writer.
 
 use ferozhak_compare::cases::{self, Case};
 use ferozhak_compare::generate::{self, Origin};
+use ferozhak_compare::process::{run_once, spawn};
 use ferozhak_compare::random::Random;
 use ferozhak_compare::report::{self, Level, Verdict};
-use ferozhak_compare::trace::{Trace, MAX_BYTES};
-use ferozhak_compare::{brute, Answer};
+use ferozhak_compare::trace::{Refusal, Trace, MAX_BYTES};
+use ferozhak_compare::workers::{self, add_each, Difference, Extent, Tally};
+use ferozhak_compare::{brute, scribes, Answer};
 use std::io::{self, BufRead, BufReader, Write};
-use std::process::{Child, ChildStdin, ChildStdout, Command, ExitCode, Stdio};
-use std::sync::atomic::{AtomicBool, AtomicUsize, Ordering};
-use std::thread;
+use std::process::{Child, ChildStdin, ChildStdout, ExitCode};
 
 const USAGE: &str = "Usage:
   compare --judge COMMAND [options]    compares the program with the Rust judge: a run for each trace
   compare --stream COMMAND [options]   the same with the program `stream`: many traces a run
   compare --self [options]             compares the Rust judge's two deciders only
+  compare --scribe COMMAND [options]   compares the program `scribe` with the Rust writer: many items a run
+  compare --writer COMMAND [options]   the same with the program `writer`: a run for each sequence of steps
+  compare --rewrite COMMAND [options]  the same with the program `rewrite`: a run for each trace
 A COMMAND is a program and its arguments, parted by spaces.
 Options:
-  --traces N    at least this many traces (default 100000)
+  --traces N    at least this many traces (default 100000); with --scribe, --writer and --rewrite
+                this many random sequences and as many random traces, besides the known cases
+                (default 300 for --writer and --rewrite)
   --seed S      the seed of the random traces (default 1)
   --threads K   how many threads, each running one program at a time (default 1)
 ";
 
+/// What is compared.
+enum Compared {
+    Judges(Program),
+    Writers(scribes::Program),
+}
+
 /// What the Rust judge is compared with.
-#[derive(Clone)]
 enum Program {
     /// Only its own second decider.
     None,
@@ -35,10 +46,8 @@ enum Program {
 }
 
 struct Options {
-    program: Program,
-    traces: usize,
-    seed: u64,
-    threads: usize,
+    compared: Compared,
+    extent: Extent,
 }
 
 fn main() -> ExitCode {
@@ -49,8 +58,14 @@ fn main() -> ExitCode {
             return ExitCode::from(2);
         }
     };
-    let (summary, difference) = run(&options);
-    let mut out = summary.describe(&options);
+    let Options { compared, extent } = &options;
+    let (mut out, difference) = match compared {
+        Compared::Judges(program) => {
+            let (summary, difference) = run(program, extent);
+            (summary.describe(program, extent), difference)
+        }
+        Compared::Writers(program) => scribes::compare(program, extent),
+    };
     if let Some(difference) = &difference {
         out.push_str(&difference.describe());
     }
@@ -63,12 +78,8 @@ fn main() -> ExitCode {
 }
 
 fn parse_options(mut words: impl Iterator<Item = String>) -> Result<Options, String> {
-    let mut options = Options {
-        program: Program::None,
-        traces: 100_000,
-        seed: 1,
-        threads: 1,
-    };
+    let mut compared = None;
+    let (mut traces, mut seed, mut threads) = (None, 1, 1);
     let mut only_self = false;
     while let Some(word) = words.next() {
         if word == "--self" {
@@ -77,59 +88,57 @@ fn parse_options(mut words: impl Iterator<Item = String>) -> Result<Options, Str
         }
         let value = words.next().ok_or(format!("{word} needs a value"))?;
         let wrong = |_| format!("{word} {value} is not a number");
+        let judges = |program| Some(Compared::Judges(program));
+        let writers = |program| Some(Compared::Writers(program));
         match word.as_str() {
-            "--judge" => options.program = Program::Each(value),
-            "--stream" => options.program = Program::Stream(value),
-            "--traces" => options.traces = value.parse().map_err(wrong)?,
-            "--seed" => options.seed = value.parse().map_err(wrong)?,
-            "--threads" => options.threads = value.parse::<usize>().map_err(wrong)?.max(1),
+            "--judge" => compared = judges(Program::Each(value)),
+            "--stream" => compared = judges(Program::Stream(value)),
+            "--scribe" => compared = writers(scribes::Program::Scribe(value)),
+            "--writer" => compared = writers(scribes::Program::Writer(value)),
+            "--rewrite" => compared = writers(scribes::Program::Rewrite(value)),
+            "--traces" => traces = Some(value.parse().map_err(wrong)?),
+            "--seed" => seed = value.parse().map_err(wrong)?,
+            "--threads" => threads = value.parse::<usize>().map_err(wrong)?.max(1),
             _ => return Err(format!("unknown option {word}")),
         }
     }
-    if only_self != matches!(options.program, Program::None) {
-        return Err("give one of --judge COMMAND, --stream COMMAND and --self".into());
-    }
-    Ok(options)
+    let compared = match compared {
+        None if only_self => Compared::Judges(Program::None),
+        Some(compared) if !only_self => compared,
+        _ => {
+            return Err("give one of --judge COMMAND, --stream COMMAND, --self, \
+                        --scribe COMMAND, --writer COMMAND and --rewrite COMMAND"
+                .into())
+        }
+    };
+    // A run for each item takes its time.
+    let usual = match compared {
+        Compared::Writers(scribes::Program::Writer(_) | scribes::Program::Rewrite(_)) => 300,
+        _ => 100_000,
+    };
+    let extent = Extent {
+        traces: traces.unwrap_or(usual),
+        seed,
+        threads,
+    };
+    Ok(Options { compared, extent })
 }
 
 /// Judges all traces, up to the first difference.
-fn run(options: &Options) -> (Summary, Option<Box<Difference>>) {
+fn run(program: &Program, extent: &Extent) -> (Summary, Option<Box<Difference>>) {
     let cases = cases::all();
-    let total = options.traces.max(cases.len());
-    let next = AtomicUsize::new(0);
-    let stop = AtomicBool::new(false);
-    let work = || {
-        let mut summary = Summary::default();
-        let mut judge = Judge::of(&options.program);
-        while !stop.load(Ordering::Relaxed) {
-            let index = next.fetch_add(1, Ordering::Relaxed);
-            if index >= total {
-                break;
-            }
-            // Each trace has its own random stream, so that a run is the same
-            // whatever the number of threads.
-            let subject = match cases.get(index) {
-                Some(case) => Subject::known(index, case),
-                None => Subject::random(index, options.seed),
-            };
-            if let Err(difference) = subject.check(&mut judge, &mut summary) {
-                stop.store(true, Ordering::Relaxed);
-                return (summary, Some(difference));
-            }
-        }
-        (summary, None)
+    let start = || Judge::of(program);
+    let check = |index: usize, judge: &mut Judge, summary: &mut Summary| {
+        // Each trace has its own random stream, so that a run is the same
+        // whatever the number of threads.
+        let subject = match cases.get(index) {
+            Some(case) => Subject::known(index, case),
+            None => Subject::random(index, extent.seed),
+        };
+        subject.check(judge, summary)
     };
-    thread::scope(|scope| {
-        let workers: Vec<_> = (0..options.threads).map(|_| scope.spawn(work)).collect();
-        let mut summary = Summary::default();
-        let mut found = None;
-        for worker in workers {
-            let (part, difference) = worker.join().expect("a worker does not panic");
-            summary.add(&part);
-            found = found.or(difference);
-        }
-        (summary, found)
-    })
+    let total = extent.traces.max(cases.len());
+    workers::share(total, extent.threads, start, check)
 }
 
 /// A trace to be judged.
@@ -220,7 +229,9 @@ impl Subject {
         ours: String,
     ) -> Box<Difference> {
         Box::new(Difference {
-            subject: self,
+            name: self.name,
+            bytes: self.bytes,
+            file: format!("{}.trace", self.index),
             answers: [(one, said), (other, ours)],
         })
     }
@@ -246,23 +257,11 @@ impl Judge {
     fn judge(&mut self, trace: &[u8]) -> Result<Option<Vec<u8>>, String> {
         match self {
             Judge::None => Ok(None),
-            Judge::Each(command) => run_judge(command, trace).map(Some),
+            Judge::Each(command) => run_once(command, trace).map(Some),
             Judge::Stream(Ok(stream)) => stream.judge(trace).map(Some),
             Judge::Stream(Err(message)) => Err(message.clone()),
         }
     }
-}
-
-/// The command with its input and output piped; its standard error is passed
-/// through.
-fn spawn(command: &str) -> Result<Child, String> {
-    let mut words = command.split_whitespace();
-    Command::new(words.next().unwrap_or_default())
-        .args(words)
-        .stdin(Stdio::piped())
-        .stdout(Stdio::piped())
-        .spawn()
-        .map_err(|error| format!("{command}: {error}"))
 }
 
 /// A run of the program `stream`: each trace goes in behind its length, 2 bytes
@@ -318,74 +317,33 @@ impl Drop for Stream {
     }
 }
 
-/// Runs the program with these bytes as its standard input, and answers its
-/// standard output.
-fn run_judge(command: &str, input: &[u8]) -> Result<Vec<u8>, String> {
-    let mut child = spawn(command)?;
-    let mut stdin = child.stdin.take().expect("standard input is piped");
-    thread::scope(|scope| {
-        // Written beside the reading, so that neither side can block the
-        // other, however much each has to say.
-        let writing = scope.spawn(move || stdin.write_all(input));
-        let output = child
-            .wait_with_output()
-            .map_err(|error| error.to_string())?;
-        match writing.join().expect("the writer does not panic") {
-            // A program may stop reading when it has seen enough.
-            Err(error) if error.kind() != io::ErrorKind::BrokenPipe => {
-                return Err(format!("writing its input: {error}"));
-            }
-            _ => {}
-        }
-        // The specification gives no exit numbers, so any will do; but a
-        // program that a signal ended has not answered.
-        match output.status.code() {
-            Some(_) => Ok(output.stdout),
-            None => Err(format!("ended by {}", output.status)),
-        }
-    })
-}
-
-/// Two answers that should have been one.
-struct Difference {
-    subject: Subject,
-    answers: [(&'static str, String); 2],
-}
-
-impl Difference {
-    /// Writes the trace to a file in the temporary folder, and says the rest.
-    fn describe(&self) -> String {
-        let name = format!(
-            "compare-{}-{}.trace",
-            std::process::id(),
-            self.subject.index
-        );
-        let path = std::env::temp_dir().join(name);
-        let kept = match std::fs::write(&path, &self.subject.bytes) {
-            Ok(()) => format!("its bytes are in {}", path.display()),
-            Err(error) => format!("its bytes could not be kept in {}: {error}", path.display()),
-        };
-        let [(one, said), (other, ours)] = &self.answers;
-        format!(
-            "\nDIFFERENCE in {}\n{kept}\n--- {one} says:\n{said}--- {other} says:\n{ours}",
-            self.subject.name
-        )
-    }
-}
-
 /// How often each thing occurred.
 #[derive(Default)]
 struct Summary {
     origins: [usize; Origin::ALL.len()],
     accepted: [usize; 3],
     rejected: [usize; 3],
-    refusals: [usize; 16],
+    refusals: [usize; Refusal::NUMBERS],
     /// Findings by kind, in all traces.
     kinds: [usize; 7],
     /// Listed pairs by level and sum of reasons.
     reasons: [[usize; 16]; 3],
     /// Verdicts checked by trying every order.
     brute: usize,
+}
+
+impl Tally for Summary {
+    fn add(&mut self, other: &Summary) {
+        add_each(&mut self.origins, &other.origins);
+        add_each(&mut self.accepted, &other.accepted);
+        add_each(&mut self.rejected, &other.rejected);
+        add_each(&mut self.refusals, &other.refusals);
+        add_each(&mut self.kinds, &other.kinds);
+        for (to, from) in self.reasons.iter_mut().zip(&other.reasons) {
+            add_each(to, from);
+        }
+        self.brute += other.brute;
+    }
 }
 
 impl Summary {
@@ -415,33 +373,16 @@ impl Summary {
         }
     }
 
-    fn add(&mut self, other: &Summary) {
-        let sum = |to: &mut [usize], from: &[usize]| {
-            for (to, from) in to.iter_mut().zip(from) {
-                *to += from;
-            }
-        };
-        sum(&mut self.origins, &other.origins);
-        sum(&mut self.accepted, &other.accepted);
-        sum(&mut self.rejected, &other.rejected);
-        sum(&mut self.refusals, &other.refusals);
-        sum(&mut self.kinds, &other.kinds);
-        for (to, from) in self.reasons.iter_mut().zip(&other.reasons) {
-            sum(to, from);
-        }
-        self.brute += other.brute;
-    }
-
-    fn describe(&self, options: &Options) -> String {
+    fn describe(&self, program: &Program, extent: &Extent) -> String {
         let traces: usize = self.origins.iter().sum();
-        let judges = match &options.program {
+        let judges = match program {
             Program::Each(command) | Program::Stream(command) => {
                 format!("by '{command}' and in Rust")
             }
             Program::None => "in Rust only".into(),
         };
         let mut lines = vec![
-            format!("{traces} traces of seed {}, judged {judges}", options.seed),
+            format!("{traces} traces of seed {}, judged {judges}", extent.seed),
             format!("{} verdicts also by trying every order", self.brute),
             "origins:".into(),
         ];

@@ -1,4 +1,5 @@
-//! Turns the specification's notation into the bytes of a trace and back.
+//! Turns the specification's notation into the bytes of a trace and back, and
+//! into steps to be written.
 
 use ferozhak_compare::text;
 use std::io::{self, Read, Write};
@@ -7,6 +8,7 @@ use std::process::ExitCode;
 const USAGE: &str = "Usage:
   tracetext encode < text > trace    the bytes of a trace from its text
   tracetext decode < trace > text    the text of a trace that is not refused
+  tracetext steps < text > steps     the first serial and the steps, as `writer` reads them
   tracetext --help                   this, and how the text is written
 ";
 
@@ -14,7 +16,8 @@ fn main() -> ExitCode {
     let arguments: Vec<String> = std::env::args().skip(1).collect();
     let words: Vec<&str> = arguments.iter().map(String::as_str).collect();
     let done = match words[..] {
-        ["encode"] => encode(),
+        ["encode"] => turn(text::encode),
+        ["steps"] => turn(text::steps),
         ["decode"] => decode(),
         ["--help" | "-h"] => io::stdout()
             .write_all(format!("{USAGE}\n{}", text::GRAMMAR).as_bytes())
@@ -33,12 +36,13 @@ fn main() -> ExitCode {
     }
 }
 
-fn encode() -> Result<(), String> {
+/// Turns the text on standard input into bytes on standard output.
+fn turn(into: fn(&[u8]) -> Result<Vec<u8>, text::TextError>) -> Result<(), String> {
     let mut input = Vec::new();
     io::stdin()
         .read_to_end(&mut input)
         .map_err(|error| error.to_string())?;
-    let bytes = text::encode(&input).map_err(|error| error.to_string())?;
+    let bytes = into(&input).map_err(|error| error.to_string())?;
     io::stdout()
         .write_all(&bytes)
         .map_err(|error| error.to_string())

@@ -1,0 +1,66 @@
+//! The programs `scribe`, `writer` and `rewrite`, by the independent writer.
+//!
+//! Without arguments standard input has items: what is asked ('s', 'l' or 'r'),
+//! the room and the length (2 bytes little-endian each), and that many bytes.
+//! Each answer stands behind its length (2 bytes little-endian). With `--writer`
+//! standard input is a starting serial and steps, with `--rewrite` a trace, and
+//! standard output is the one answer. If the last item is cut, what there is of
+//! its bytes is taken; without all of its head it is none.
+
+use ferozhak_compare::scribes::Way;
+use ferozhak_compare::writing;
+use std::io::{self, BufReader, Read, Write};
+use std::process::ExitCode;
+
+fn main() -> ExitCode {
+    let words: Vec<String> = std::env::args().skip(1).collect();
+    let words: Vec<&str> = words.iter().map(String::as_str).collect();
+    let done = match words[..] {
+        [] => scribe(),
+        ["--writer"] => once(Way::Steps),
+        ["--rewrite"] => once(Way::Rewrite),
+        _ => {
+            eprintln!("usage: rustscribe [--writer | --rewrite]");
+            return ExitCode::from(2);
+        }
+    };
+    match done {
+        Ok(()) => ExitCode::SUCCESS,
+        Err(error) => {
+            eprintln!("rustscribe: {error}");
+            ExitCode::from(2)
+        }
+    }
+}
+
+fn once(way: Way) -> io::Result<()> {
+    let mut input = Vec::new();
+    io::stdin().read_to_end(&mut input)?;
+    let answer = way.answer(&input, usize::MAX);
+    io::stdout().write_all(&writing::print(&answer))
+}
+
+fn scribe() -> io::Result<()> {
+    let mut input = BufReader::new(io::stdin().lock());
+    let mut output = io::stdout().lock();
+    let mut bytes = Vec::new();
+    loop {
+        let mut head = [0; 5];
+        match input.read_exact(&mut head) {
+            Err(error) if error.kind() == io::ErrorKind::UnexpectedEof => return Ok(()),
+            other => other?,
+        }
+        let [asked, room @ .., _, _] = head;
+        let length = u16::from_le_bytes([head[3], head[4]]);
+        let way = Way::of_letter(asked)
+            .ok_or_else(|| io::Error::other(format!("nothing is asked by byte {asked}")))?;
+        bytes.clear();
+        input.by_ref().take(length.into()).read_to_end(&mut bytes)?;
+        let answer = way.answer(&bytes, u16::from_le_bytes(room).into());
+        let answer = writing::print(&answer);
+        let length = u16::try_from(answer.len()).expect("no answer is longer than its room");
+        // One write an answer, seen at once by whoever waits for it.
+        output.write_all(&[&length.to_le_bytes(), answer.as_slice()].concat())?;
+        output.flush()?;
+    }
+}

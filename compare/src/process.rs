@@ -1,0 +1,62 @@
+//! Running the programs under comparison.
+
+use std::io::{self, Write};
+use std::process::{Child, Command, Stdio};
+use std::thread;
+
+/// The command with its input and output piped; its standard error is passed
+/// through.
+pub fn spawn(command: &str) -> Result<Child, String> {
+    let mut words = command.split_whitespace();
+    Command::new(words.next().unwrap_or_default())
+        .args(words)
+        .stdin(Stdio::piped())
+        .stdout(Stdio::piped())
+        .spawn()
+        .map_err(|error| format!("{command}: {error}"))
+}
+
+/// What a program that has ended left behind.
+pub struct Ended {
+    pub output: Vec<u8>,
+    /// Why its output cannot be taken for an answer, if it cannot.
+    pub failure: Option<String>,
+}
+
+/// Runs the program with these bytes as its standard input, and answers its
+/// standard output.
+pub fn run_once(command: &str, input: &[u8]) -> Result<Vec<u8>, String> {
+    let ended = run_to_end(command, input)?;
+    match ended.failure {
+        None => Ok(ended.output),
+        Some(message) => Err(message),
+    }
+}
+
+/// The same, with what it printed even where it then failed.
+pub fn run_to_end(command: &str, input: &[u8]) -> Result<Ended, String> {
+    let mut child = spawn(command)?;
+    let mut stdin = child.stdin.take().expect("standard input is piped");
+    thread::scope(|scope| {
+        // Written beside the reading, so that neither side can block the
+        // other, however much each has to say.
+        let writing = scope.spawn(move || stdin.write_all(input));
+        let output = child
+            .wait_with_output()
+            .map_err(|error| error.to_string())?;
+        let failure = match writing.join().expect("the writer does not panic") {
+            // A program may stop reading when it has seen enough.
+            Err(error) if error.kind() != io::ErrorKind::BrokenPipe => {
+                Some(format!("writing its input: {error}"))
+            }
+            // The specification gives no exit numbers, so any will do; but a
+            // program that a signal ended has not answered.
+            _ if output.status.code().is_none() => Some(format!("ended by {}", output.status)),
+            _ => None,
+        };
+        Ok(Ended {
+            output: output.stdout,
+            failure,
+        })
+    })
+}

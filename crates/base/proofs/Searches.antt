@@ -227,6 +227,16 @@ listed-same f g e =
     (λ j k h. listed-end f j e k ∙ sym (listed-end g j e k))
     (λ j l ih h. listed-step f j e l ∙ rw (h j (omega arith) l, ih (λ i a b. h i (omega arith) b)) (sym (listed-step g j e l)))
 
+-- one number more
+pub listed-more : {A : Type 0} (f : ℕ → List A) (e j : ℕ) → j ≤ e → listed j (e + 1) f ≡ listed j e f ++ f e
+listed-more f e =
+    downward (λ j. j ≤ e → listed j (e + 1) f ≡ listed j e f ++ f e) e
+    (λ j g h.
+    let i : j ≡ e = omega arith in
+    rw i (listed-step f e (e + 1) (omega arith) ∙ rw (listed-end f (e + 1) (e + 1) (omega arith), listed-end f e e (omega arith)) (append-nil (f e))))
+    (λ j l ih h.
+    listed-step f j (e + 1) (omega arith) ∙ rw (ih (omega arith), listed-step f j e l) (sym (append-assoc (f j) (listed (j + 1) e f) (f e))))
+
 -- where each number gives one entry, they are as many, and stand in order
 singles-of : {A : Type 0} (f : ℕ → A) (n a : ℕ) → length (listOf (λ i. f i ∷ []) a n) ≡ n
 unfolding listOf

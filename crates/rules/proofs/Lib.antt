@@ -1,4 +1,5 @@
 pub mod Numbers
+pub mod Traces
 pub mod History
 pub mod Kind
 pub mod Lists

@@ -1,0 +1,6 @@
+pub mod Rows
+pub mod Grown
+pub mod Followed
+pub mod Lengths
+pub mod Told
+pub mod Listed

@@ -1,0 +1,106 @@
+-- A history that a trace is read into has grown by the steps that tell it.
+use Prim.Native.Nat.{ℕ, _+_, _*_, _<_, _≤_}
+use mathlib.Core.Path.{_≡_, refl, ap, sym, _∙_}
+use mathlib.Core.Bool.{true, false}
+use mathlib.Core.List.{List, [], _∷_, _++_}
+use native.Mathlib.Omega.{arith}
+use lib.ListN.{length, length-append}
+use Rattle.base.specs.Base.{joined}
+use Rattle.base.proofs.Searches.{joined-append, joined-one, joined-none}
+use Rattle.rules.specs.Numbers.{bytes}
+use Rattle.rules.specs.History.{History, txCount, opCount, current, writeOf}
+use Rattle.rules.specs.Reading.{State, Stretch, entered, reading, read}
+use Rattle.rules.specs.declared.Event.{Event}
+use Rattle.rules.specs.declared.Event.the-variants.{Open, Read, Write, Close}
+use Rattle.demand1.specs.Rows.{session, key, value, status, noteText, Passes, inPlace, valueLawful, withinLimit, newWrite, open-inside, read-outside, write-outside, close-outside, end-inside, written-0, status-above-1, open-128th, read-1025th, write-1025th, Next, after-open, after-read, after-write, after-close, after-note, Reaches, start, on, ReadInto, to-the-end}
+use Rattle.demand1.proofs.Histories.{inside-current, outside-current}
+use Rattle.demand1.proofs.Events.{at-least, below}
+use Rattle.demand1.proofs.Steps.{inside}
+use Rattle.demand1.proofs.Checks.{write-found}
+use Rattle.demand1.proofs.Readings.{reads-iff}
+use Rattle.writing.specs.Steps.{fieldBytes, stepBytes}
+use Rattle.writing.specs.Listing.{historySteps}
+use Rattle.writing.proofs.Rows.{Taken, open-taken, read-taken, write-taken, close-taken}
+use Rattle.writing.proofs.Grown.{Grown, grown-none, grown-step, counts, open-none, latest}
+use Rattle.writing.proofs.Told.{told}
+
+-- told by itself
+abbrev pub GrownSo : History → Type 0
+GrownSo h = Grown (historySteps h) h
+
+so : {es : List Event} {h : History} → Grown es h → GrownSo h
+so g = rw (told g) g
+
+-- a number that is not above 0
+none : (n : ℕ) → (0 < n → ⊥) → n ≡ 0
+none n d = omega arith
+
+-- ── the records that pass ──
+
+module _ (s : List ℕ) (st : State) (p : Passes s st) where
+  abbrev h : History
+  h = st .history
+
+  -- each is a step that is taken, or a note
+  pub data Stepped (x : State) : Type 0 where
+    by-step : (e : Event) → Taken h e → x .history ≡ entered h (current h) e → x .notes ≡ st .notes → Stepped x
+    by-note : x .history ≡ h → (x .notes ≡ [] → ⊥) → Stepped x
+
+  pub stepped : {x : State} → Next s st x → Stepped x
+  unfolding entered
+  stepped (after-open k) =
+      by-step (Open (session s (st .at))) (open-taken (outside-current h (λ i. p inPlace (open-inside k i))) (below (txCount h) 127 (λ l. p withinLimit (open-128th k l)))) refl refl
+  stepped (after-read k) =
+      let i = inside s st p (read-outside k) in
+      let c = inside-current h i in
+      by-step (Read (key s (st .at)) (value s (st .at))) (read-taken (omega (arith, c, i .0)) (below (opCount h) 1024 (λ l. p withinLimit (read-1025th k l)))) (rw c) refl
+  stepped (after-write k) =
+      let i = inside s st p (write-outside k) in
+      let c = inside-current h i in
+      let x = key s (st .at) in
+      let v = value s (st .at) in
+      by-step (Write x v)
+      (write-taken (omega (arith, c, i .0)) (below 0 v (λ l. p valueLawful (written-0 k (omega arith)))) (below (opCount h) 1024 (λ l. p withinLimit (write-1025th k l)))
+      (none (writeOf h x v) (λ l. p newWrite (record { writes = k; by = writeOf h x v; earlier = write-found h x v l }))))
+      (rw c) refl
+  stepped (after-close k) =
+      let i = inside s st p (close-outside k) in
+      let c = inside-current h i in
+      by-step (Close (status s (st .at))) (close-taken (omega (arith, c, i .0)) (at-least (status s (st .at)) 1 (λ l. p valueLawful (status-above-1 k l)))) (rw c) refl
+  stepped (after-note k) = by-note refl (λ e. omega (arith, ap length e, length-append (st .notes) (noteText s (st .at) ∷ [])))
+
+-- the history of a state that reading comes to
+pub reached : {s : List ℕ} {st : State} → Reaches s st → GrownSo (st .history)
+reached start = so grown-none
+reached {s} (on {st} {next} r p n) = by (reached r) (stepped s st p n)
+  where
+    by : GrownSo (st .history) → Stepped s st p next → GrownSo (next .history)
+    by g (by-step e t i _) = rw i (so (grown-step e g t))
+    by g (by-note i _) = rw i g
+
+-- .. and of a trace that is read, which ends outside a transaction
+pub read-grown : {s : List ℕ} {h : History} {notes : List Stretch} → ReadInto s h notes → GrownSo h × (current h ≡ 0)
+read-grown (to-the-end {st} l r p k e) = (reached r, outside-current (st .history) (λ i. p inPlace (end-inside k i)))
+
+-- ── how long the steps are ──
+
+-- a step that is taken has sixteen bytes
+step-length : {h : History} (e : Event) → Taken h e → length (stepBytes e) ≡ 16
+unfolding stepBytes fieldBytes bytes
+step-length (Open s) t = refl
+step-length (Read x v) t = refl
+step-length (Write x v) t = refl
+step-length (Close c) t = refl
+
+pub grown-bytes : {es : List Event} {h : History} → Grown es h → length (joined stepBytes es) ≡ 16 * length es
+grown-bytes grown-none = ap length (joined-none stepBytes)
+grown-bytes (grown-step {es} e g t) =
+    ap length (joined-append stepBytes es (e ∷ [])) ∙ length-append (joined stepBytes es) (joined stepBytes (e ∷ []))
+    ∙ rw (joined-one stepBytes e) (omega (arith, step-length e t, grown-bytes g, length-append es (e ∷ [])))
+
+-- two for a transaction and one for an operation
+pub listing-length : (s : List ℕ) (h : History) (notes : List Stretch) → reading s ≡ read h notes
+    → length (joined stepBytes (historySteps h)) ≡ 16 * (2 * txCount h + opCount h)
+listing-length s h notes e =
+    let r = read-grown (reads-iff s h notes .0 e) in
+    omega (arith, grown-bytes (r .0), counts (r .0) .steps, open-none h (r .1))

@@ -1,18 +1,14 @@
 -- Laws of bytes that are put one behind the other.
-use Prim.Native.Nat.{ℕ, zero, suc, _+_, _-_, _/_, _%_, _≤_, _<_}
-use mathlib.Core.Path.{_≡_, refl, ap, sym, _∙_}
+use Prim.Native.Nat.{ℕ, suc, _+_, _-_, _/_, _%_, _≤_, _<_}
+use mathlib.Core.Path.{_≡_, ap, sym, _∙_}
 use mathlib.Core.List.{List, [], _∷_, _++_, append-assoc, append-nil}
 use native.Mathlib.Omega.{arith}
 use lib.ListN.{length, set, length-append}
 use Rattle.base.proofs.Fill.{Appended, appended-none, appended-length, appended-then, one}
 use Rattle.rules.specs.Numbers.{bytes}
 use Rattle.rules.specs.Traces.{Item, raw, recordOf}
+use Rattle.rules.proofs.Traces.{bytes-length}
 use Rattle.writing.specs.Steps.{fieldBytes}
-
-pub bytes-length : (w n : ℕ) → length (bytes w n) ≡ w
-unfolding bytes
-bytes-length zero n = refl
-bytes-length (suc w) n = ap suc (bytes-length w (n / 256))
 
 bytes-none : {w : ℕ} → w ≡ 0 → (n : ℕ) → bytes w n ≡ []
 unfolding bytes

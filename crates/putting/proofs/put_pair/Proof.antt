@@ -7,20 +7,20 @@ use Rattle.putting.proofs.put_pair.Tie as tie
 
 put-number-requires : tie.Need-put-number-requires
 put-number-requires c κs =
-    let p = c .before .before in
-    room-number _ _ (room-first _ _ (room (p .args .out .now) (p .args .at) refl (p .pre)))
+    let start = c .before .before in
+    room-number _ _ (room-first _ _ (room (start .args .out .now) (start .args .at) refl (start .pre)))
 
 put-number-requires-2 : tie.Need-put-number-requires-2
 put-number-requires-2 c κs =
-    let p = c .before .before .before in
-    let p1 = p .before .before .before in
-    room-number _ _ (room-then (p .put-number .ensures) (room (p1 .args .out .now) (p1 .args .at) refl (p1 .pre)))
+    let first = c .before .before .before in
+    let start = first .before .before .before in
+    room-number _ _ (room-then (first .put-number .ensures) (room (start .args .out .now) (start .args .at) refl (start .pre)))
 
 returns : tie.Need-returns
 returns c =
-    let p = c .before .before in
-    let p1 = p .before .before .before .before in
-    appended-then (p1 .put-number .ensures) (p .put-number2 .ensures)
+    let second = c .before .before in
+    let first = second .before .before .before .before in
+    appended-then (first .put-number .ensures) (second .put-number2 .ensures)
 
 pub put-pair-spec : {M : Type 1} → statement M
 put-pair-spec = tie.close (tie.spec put-number-requires put-number-requires-2 (λ c. search needs) returns)

@@ -9,36 +9,36 @@ use Rattle.putting.proofs.put_payload.Tie as tie
 put-number-requires : tie.Need-put-number-requires
 unfolding itemOf statusOf
 put-number-requires c κs =
-    let e = c .before .before in
-    let a = e .before .before .before in
-    room-number _ _ (room (a .args .out .now) (a .args .at) refl (rw (e .event .given .1) at (a .pre .1)))
+    let told = c .before .before in
+    let start = told .before .before .before in
+    room-number _ _ (room (start .args .out .now) (start .args .at) refl (rw (told .event .given .1) at (start .pre .1)))
 
 put-number-requires-3 : tie.Need-put-number-requires-3
 unfolding itemOf statusOf
 put-number-requires-3 c κs =
-    let e = c .before .before in
-    let a = e .before .before .before in
-    room-number _ _ (room (a .args .out .now) (a .args .at) refl (rw (e .event5 .given .1) at (a .pre .1)))
+    let told = c .before .before in
+    let start = told .before .before .before in
+    room-number _ _ (room (start .args .out .now) (start .args .at) refl (rw (told .event5 .given .1) at (start .pre .1)))
 
 returns-4 : tie.Need-returns-4
 unfolding itemOf statusOf
 returns-4 c =
-    let p = c .before .before in
-    let e = p .before .before .before in
-    let p1 = e .before .before .before in
-    rw (e .event4 .given .1, ← one-byte _ (rw (e .event4 .given .1) at (p1 .pre .0))) (p .put-number2 .ensures)
+    let second = c .before .before in
+    let told = second .before .before .before in
+    let start = told .before .before .before in
+    rw (told .event4 .given .1, ← one-byte _ (rw (told .event4 .given .1) at (start .pre .0))) (second .put-number2 .ensures)
 
 returns-6 : tie.Need-returns-6
 unfolding itemOf statusOf
 returns-6 c =
-    let p = c .before .before .before in
-    rw (c .enum-told .given .1) (put-none _ _ (rw (c .enum-told .given .1) at (p .pre .1)))
+    let start = c .before .before .before in
+    rw (c .enum-told .given .1) (put-none _ _ (rw (c .enum-told .given .1) at (start .pre .1)))
 
 returns-7 : tie.Need-returns-7
 unfolding itemOf statusOf
 returns-7 c =
-    let p = c .before .before .before in
-    rw (c .enum-told2 .given .1) (put-none _ _ (rw (c .enum-told2 .given .1) at (p .pre .1)))
+    let start = c .before .before .before in
+    rw (c .enum-told2 .given .1) (put-none _ _ (rw (c .enum-told2 .given .1) at (start .pre .1)))
 
 pub put-payload-spec : {M : Type 1} → statement M
 unfolding itemOf statusOf

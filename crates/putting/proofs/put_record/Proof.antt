@@ -8,45 +8,45 @@ use Rattle.putting.proofs.put_record.Tie as tie
 
 put-number-requires : tie.Need-put-number-requires
 put-number-requires c κs =
-    let p = c .before .before .before in
-    room-number _ _ (room-first _ _ (room (p .args .out .now) (p .args .at) (record-says _ _ (c .payload-length .ensures .0) refl) (p .pre .1)))
+    let start = c .before .before .before in
+    room-number _ _ (room-first _ _ (room (start .args .out .now) (start .args .at) (record-says _ _ (c .payload-length .ensures .0) refl) (start .pre .1)))
 
 put-number-requires-2 : tie.Need-put-number-requires-2
 put-number-requires-2 c κs =
-    let p = c .before .before .before .before in
-    let p1 = p .before in
-    let a = p1 .before .before .before in
-    room-number _ _ (room-first _ _ (room-then (p .put-number .ensures) (room (a .args .out .now) (a .args .at) (record-says _ _ (p1 .payload-length .ensures .0) (c .kind-of .ensures)) (a .pre .1))))
+    let first = c .before .before .before .before in
+    let len = first .before in
+    let start = len .before .before .before in
+    room-number _ _ (room-first _ _ (room-then (first .put-number .ensures) (room (start .args .out .now) (start .args .at) (record-says _ _ (len .payload-length .ensures .0) (c .kind-of .ensures)) (start .pre .1))))
 
 put-number-requires-3 : tie.Need-put-number-requires-3
 put-number-requires-3 c κs =
-    let p = c .before .before .before in
-    let k = p .before in
-    let p1 = k .before .before .before .before in
-    let p2 = p1 .before in
-    let a = p2 .before .before .before in
-    room-number _ _ (room-first _ _ (room-then (p .put-number2 .ensures) (room-then (p1 .put-number .ensures) (room (a .args .out .now) (a .args .at) (record-says _ _ (p2 .payload-length .ensures .0) (k .kind-of .ensures)) (a .pre .1)))))
+    let second = c .before .before .before in
+    let kind = second .before in
+    let first = kind .before .before .before .before in
+    let len = first .before in
+    let start = len .before .before .before in
+    room-number _ _ (room-first _ _ (room-then (second .put-number2 .ensures) (room-then (first .put-number .ensures) (room (start .args .out .now) (start .args .at) (record-says _ _ (len .payload-length .ensures .0) (kind .kind-of .ensures)) (start .pre .1)))))
 
 put-payload-requires : tie.Need-put-payload-requires
 put-payload-requires c κs =
-    let p = c .before .before .before in
-    let p1 = p .before .before .before .before in
-    let k = p1 .before in
-    let p2 = k .before .before .before .before in
-    let p3 = p2 .before in
-    let a = p3 .before .before .before in
-    (a .pre .0, room-then (p .put-number3 .ensures) (room-then (p1 .put-number2 .ensures) (room-then (p2 .put-number .ensures) (room (a .args .out .now) (a .args .at) (record-says _ _ (p3 .payload-length .ensures .0) (k .kind-of .ensures)) (a .pre .1)))) .fits)
+    let third = c .before .before .before in
+    let second = third .before .before .before .before in
+    let kind = second .before in
+    let first = kind .before .before .before .before in
+    let len = first .before in
+    let start = len .before .before .before in
+    (start .pre .0, room-then (third .put-number3 .ensures) (room-then (second .put-number2 .ensures) (room-then (first .put-number .ensures) (room (start .args .out .now) (start .args .at) (record-says _ _ (len .payload-length .ensures .0) (kind .kind-of .ensures)) (start .pre .1)))) .fits)
 
 returns : tie.Need-returns
 returns c =
-    let p = c .before .before in
-    let p1 = p .before .before .before .before in
-    let p2 = p1 .before .before .before .before in
-    let k = p2 .before in
-    let p3 = k .before .before .before .before in
-    let p4 = p3 .before in
-    let a = p4 .before .before .before in
-    rw (record-says (a .args .serial) (itemOf (a .args .event)) (p4 .payload-length .ensures .0) (k .kind-of .ensures)) (appended-then (p3 .put-number .ensures) (appended-then (p2 .put-number2 .ensures) (appended-then (p1 .put-number3 .ensures) (p .put-payload .ensures))))
+    let payload = c .before .before in
+    let third = payload .before .before .before .before in
+    let second = third .before .before .before .before in
+    let kind = second .before in
+    let first = kind .before .before .before .before in
+    let len = first .before in
+    let start = len .before .before .before in
+    rw (record-says (start .args .serial) (itemOf (start .args .event)) (len .payload-length .ensures .0) (kind .kind-of .ensures)) (appended-then (first .put-number .ensures) (appended-then (second .put-number2 .ensures) (appended-then (third .put-number3 .ensures) (payload .put-payload .ensures))))
 
 pub put-record-spec : {M : Type 1} → statement M
 put-record-spec =

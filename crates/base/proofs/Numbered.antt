@@ -11,7 +11,7 @@ use lib.Dec.{eqb, eqb·zero-suc, eqb·suc-zero, eqb·suc-suc}
 use Rattle.base.specs.Base.{pick, numbered, nth}
 
 -- an entry of a list with one more at its end
-getD-more : {A : Type 0} (l : List A) (x d : A) (i : ℕ) → getD (l ++ (x ∷ [])) i d ≡ pick (eqb (length l) i) x (getD l i d)
+pub getD-more : {A : Type 0} (l : List A) (x d : A) (i : ℕ) → getD (l ++ (x ∷ [])) i d ≡ pick (eqb (length l) i) x (getD l i d)
 unfolding pick
 getD-more [] x d zero = refl
 getD-more [] x d (suc i) = rw (eqb·zero-suc i)

@@ -7,11 +7,6 @@ use lib.ListN.{length, length-append}
 use Rattle.rules.specs.Numbers.{bytes}
 use Rattle.rules.specs.Traces.{Item, raw, recordOf, trace}
 
-pub bytes-length : (w n : ℕ) → length (bytes w n) ≡ w
-unfolding bytes
-bytes-length zero n = refl
-bytes-length (suc w) n = ap suc (bytes-length w _)
-
 -- a header of 8 bytes, and the payload
 pub record-length : (n : ℕ) (i : Item) → length (recordOf n i) ≡ 8 + length (i .payload)
 unfolding recordOf raw bytes
@@ -27,6 +22,12 @@ pub serial-is : (n k : ℕ) → n < 2 ^ 32 → serialFrom n k ≡ (n + k) % 2 ^ 
 unfolding serialFrom
 serial-is n zero l = omega arith
 serial-is n (suc k) l = serial-is ((n + 1) % 2 ^ 32) k (omega arith) ∙ omega arith
+
+pub serial-below : (n k : ℕ) → n < 2 ^ 32 → serialFrom n k < 2 ^ 32
+serial-below n k l = rw (serial-is n k l) (omega arith)
+
+pub serial-next : (n k : ℕ) → n < 2 ^ 32 → serialFrom n (k + 1) ≡ (serialFrom n k + 1) % 2 ^ 32
+serial-next n k l = rw (serial-is n (k + 1) l, serial-is n k l) (omega arith)
 
 pub trace-one : (n : ℕ) (i : Item) → trace n (i ∷ []) ≡ recordOf n i
 unfolding trace

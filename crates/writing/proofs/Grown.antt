@@ -79,17 +79,21 @@ ops-more h o l r i m =
     ⊎-elim (λ g. let n : i ≡ opCount h + 1 = omega (arith, with-op-count h o) in rw (n, with-op-new h o) l)
     (λ g. rw (with-op-old h o i g) (r i g)) (split (opCount h) i)
 
--- how many steps there were, by the numbers of transactions and operations
+-- how many steps there were, by the numbers of transactions and operations, and how many of those
 pub record Counts (es : List Event) (h : History) : Type 0 where
   pub steps : length es + openCount h ≡ 2 * txCount h + opCount h
+  pub few-txs : txCount h ≤ 127
+  pub few-ops : opCount h ≤ 1024
   pub ops-in : OpsIn h
 
 module _ {es : List Event} (h : History) (n : Counts es h) where
   -- an operation of the open transaction
-  counts-op : (e : Event) (o : Op) → 0 < current h → o .tx ≡ current h → Counts (es ++ (e ∷ [])) (withOp h o)
-  counts-op e o l t =
+  counts-op : (e : Event) (o : Op) → 0 < current h → opCount h < 1024 → o .tx ≡ current h → Counts (es ++ (e ∷ [])) (withOp h o)
+  counts-op e o l m t =
       record {
         steps = rw (op-current h o) (omega (arith, n .steps, length-append es (e ∷ []), with-op-count h o, ap length (with-op-txs h o)));
+        few-txs = rw (with-op-txs h o) (n .few-txs);
+        few-ops = omega (arith, with-op-count h o);
         ops-in = ops-more h o (omega (arith, latest h l)) (n .ops-in);
       }
 
@@ -98,16 +102,20 @@ module _ {es : List Event} (h : History) (n : Counts es h) where
   counts-step (Open s) (open-taken c l) =
       record {
         steps = omega (arith, n .steps, length-append es (Open s ∷ []), open-none h c, open-one (opened h s) (omega (arith, open-current h s)), open-count h s, ap length (open-ops h s));
+        few-txs = omega (arith, open-count h s);
+        few-ops = rw (open-ops h s) (n .few-ops);
         ops-in = ops-kept h (opened h s) (open-ops h s) (omega (arith, open-count h s)) (n .ops-in);
       }
-  counts-step (Read x v) (read-taken c l) = counts-op (Read x v) (record { tx = current h; isWrite = false; key = x; value = v }) c refl
-  counts-step (Write x v) (write-taken c p l w) = counts-op (Write x v) (record { tx = current h; isWrite = true; key = x; value = v }) c refl
+  counts-step (Read x v) (read-taken c l) = counts-op (Read x v) (record { tx = current h; isWrite = false; key = x; value = v }) c l refl
+  counts-step (Write x v) (write-taken c p l w) = counts-op (Write x v) (record { tx = current h; isWrite = true; key = x; value = v }) c l refl
   counts-step (Close c) (close-taken p l) =
       record {
         steps = omega (arith, n .steps, length-append es (Close c ∷ []), open-one h p, open-none (closed h (current h) c) (close-current h c p l), close-count h (current h) c, ap length (close-ops h (current h) c));
+        few-txs = rw (close-count h (current h) c) (n .few-txs);
+        few-ops = rw (close-ops h (current h) c) (n .few-ops);
         ops-in = ops-kept h (closed h (current h) c) (close-ops h (current h) c) (omega (arith, close-count h (current h) c)) (n .ops-in);
       }
 
 pub counts : {es : List Event} {h : History} → Grown es h → Counts es h
-counts grown-none = record { steps = omega (arith, open-none empty empty-current); ops-in = ops-begin }
+counts grown-none = record { steps = omega (arith, open-none empty empty-current); few-txs = omega arith; few-ops = omega arith; ops-in = ops-begin }
 counts (grown-step {es} {h} e g t) = counts-step h (counts g) e t

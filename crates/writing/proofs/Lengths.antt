@@ -1,5 +1,5 @@
 -- How long a trace is that is written.
-use Prim.Native.Nat.{ℕ, _+_, _*_}
+use Prim.Native.Nat.{ℕ, _+_, _*_, _%_, _^_}
 use mathlib.Core.Path.{_≡_, refl, ap, sym, _∙_}
 use mathlib.Core.Bool.{true, false}
 use mathlib.Core.List.{List, [], _∷_, _++_, map}
@@ -22,15 +22,23 @@ map-append : {A B : Type 0} (f : A → B) (xs ys : List A) → map f (xs ++ ys) 
 map-append f [] ys = refl
 map-append f (x ∷ xs) ys = ap (λ l. f x ∷ l) (map-append f xs ys)
 
--- one record more, with the serial that comes
+-- more records, with the serials that come
+pub records-append : (n : ℕ) (es fs : List Event) → recordsOf n (es ++ fs) ≡ recordsOf n es ++ recordsOf (serialFrom n (length es)) fs
+unfolding recordsOf
+records-append n es fs = ap (trace n) (map-append itemOf es fs) ∙ trace-append n (map itemOf es) (map itemOf fs) ∙ rw (length-map es itemOf)
+
+-- the first of them
+pub records-first : (n : ℕ) (e : Event) (es : List Event) → recordsOf n (e ∷ es) ≡ recordOf n (itemOf e) ++ recordsOf ((n + 1) % 2 ^ 32) es
+unfolding recordsOf trace
+records-first n e es = refl
+
+-- one more
 pub records-more : (n : ℕ) (es : List Event) (e : Event) → recordsOf n (es ++ (e ∷ [])) ≡ recordsOf n es ++ recordOf (serialFrom n (length es)) (itemOf e)
 unfolding recordsOf
-records-more n es e =
-    ap (trace n) (map-append itemOf es (e ∷ [])) ∙ trace-append n (map itemOf es) (itemOf e ∷ [])
-    ∙ rw (length-map es itemOf, trace-one (serialFrom n (length es)) (itemOf e))
+records-more n es e = records-append n es (e ∷ []) ∙ rw (trace-one (serialFrom n (length es)) (itemOf e))
 
 -- .. by so many bytes
-records-length : (n : ℕ) (es : List Event) (e : Event) → length (recordsOf n (es ++ (e ∷ []))) ≡ length (recordsOf n es) + (8 + length (itemOf e .payload))
+pub records-length : (n : ℕ) (es : List Event) (e : Event) → length (recordsOf n (es ++ (e ∷ []))) ≡ length (recordsOf n es) + (8 + length (itemOf e .payload))
 records-length n es e =
     ap length (records-more n es e) ∙ length-append (recordsOf n es) (recordOf (serialFrom n (length es)) (itemOf e))
     ∙ rw (record-length (serialFrom n (length es)) (itemOf e))

@@ -1,0 +1,5 @@
+pub mod Records
+pub mod Slim
+pub mod Framed
+pub mod Readback
+pub mod Serials

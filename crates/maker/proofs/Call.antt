@@ -37,13 +37,16 @@ module _ (s : List ℕ) (n : ℕ) (out : List ℕ) where
 
   -- no row refuses: g is the history
   module _ {g : History} (e : follow empty 1 (stepsIn s) ≡ good g) where
-    written-good : written s n out ≡ pick (ltb (length out) (length (traceOf n (stepsIn s) g))) (fill (refusing 16 (length (traceOf n (stepsIn s) g))) out) (fill (answering (length (traceOf n (stepsIn s) g))) (over (traceOf n (stepsIn s) g) out))
+    written-good :
+        written s n out
+        ≡ pick (ltb (length out) (length (traceOf n (stepsIn s) g))) (fill (refusing 16 (length (traceOf n (stepsIn s) g))) out)
+        (fill (answering (length (traceOf n (stepsIn s) g))) (over (traceOf n (stepsIn s) g) out))
     unfolding written wrote into
     written-good = rw e
 
     -- how long the trace is
     module _ {needed : ℕ} (q : needed ≡ 19 * txCount g + 20 * opCount g + 10) where
-      pub needed-is : needed ≡ length (traceOf n (stepsIn s) g)
+      needed-is : needed ≡ length (traceOf n (stepsIn s) g)
       needed-is = q ∙ sym (trace-length n (stepsIn s) 1 g e)
 
       pub written-short : length out < needed → fill (refusing 16 needed) out ≡ written s n out

@@ -7,7 +7,7 @@ use lib.ListN.{length, set, length-append}
 use Rattle.base.proofs.Fill.{Appended, appended-none, appended-length, appended-then, one}
 use Rattle.rules.specs.Numbers.{bytes}
 use Rattle.rules.specs.Traces.{Item, raw, recordOf}
-use Rattle.rules.proofs.Traces.{bytes-length}
+use Rattle.rules.proofs.Numbers.{bytes-length}
 use Rattle.writing.specs.Steps.{fieldBytes}
 
 bytes-none : {w : ℕ} → w ≡ 0 → (n : ℕ) → bytes w n ≡ []

@@ -1,4 +1,5 @@
-// Numbers, records and steps as bytes, put into a lent buffer. Each function puts its bytes at `at` and answers where they end. Every other byte stays as it was.
+// Numbers, records and steps as bytes, put into a lent buffer. Each function puts its bytes at `at` and answers where they end. Every other byte
+// stays as it was.
 ghost use mathlib.Core.Path.{_≡_};
 ghost use mathlib.Core.List.{_++_};
 ghost use Prim.Native.Nat.{_+_, _≤_, _<_};
@@ -67,6 +68,7 @@ fn payload_length(event: Event) -> u64
     }
 }
 
+// A close's status takes one byte.
 fn put_payload(out: &mut [u8], at: usize, event: Event) -> usize
     requires { ⌜ (statusOf event < 256) × (at + length (itemOf event .payload) ≤ length (now out)) ⌝ }
     ensures { λ r. ⌜ Appended (now (out .entry)) at (now (out .exit)) r (itemOf event .payload) ⌝ }

@@ -1,0 +1,4 @@
+pub mod Steps
+pub mod Following
+pub mod Records
+pub mod Call

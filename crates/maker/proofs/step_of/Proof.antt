@@ -1,0 +1,38 @@
+use borrow.Author.Tests.{ne-eqb}
+use Rattle.base.specs.Base.{pick}
+use Rattle.writing.specs.Steps.{stepOf}
+use borrow.Author.Needs.{needs}
+use Rattle.maker.proofs.step_of.Statement.{statement}
+use Rattle.maker.proofs.step_of.Tie as tie
+
+returns-2 : tie.Need-returns-2
+unfolding stepOf pick
+returns-2 c =
+    let u = c .before in
+    let m = u .before in
+    let u2 = m .before in
+    rw (← u2 .u16-at .ensures, m .match .keys2, u .u32-at .ensures, c .u64-at .ensures)
+
+returns-3 : tie.Need-returns-3
+unfolding stepOf pick
+returns-3 c =
+    let u = c .before in
+    let m = u .before in
+    let u2 = m .before in
+    rw (← u2 .u16-at .ensures, m .match .keys3, u .u32-at2 .ensures, c .u64-at2 .ensures)
+
+returns-5 : tie.Need-returns-5
+unfolding stepOf pick
+returns-5 c =
+    let u = c .before in
+    let r = c .match .rest in
+    simp (← u .u16-at .ensures, ne-eqb _ _ (r .1), ne-eqb _ _ (r .0 .1), ne-eqb _ _ (r .0 .0 .1), ne-eqb _ _ (r .0 .0 .0 .1))
+
+pub step-of-spec : {M : Type 1} → statement M
+unfolding stepOf pick
+step-of-spec =
+    tie.close
+    (tie.spec (λ c κs. search needs) (λ c. search needs) (λ c κs. search needs) (λ c. search needs) (λ c κs. search needs) (λ c. search needs)
+    (λ c κs. search needs) (λ c. search needs) (λ c κs. search needs) (λ c. search needs) (λ c κs. search needs) (λ c. search needs)
+    (λ c κs. search needs) (λ c. rw (← c .before .before .u16-at .ensures, c .before .match .keys1, c .u16-at2 .ensures)) returns-2 returns-3
+    (λ c. rw (← c .before .before .u16-at .ensures, c .before .match .keys4, c .u16-at3 .ensures)) returns-5)

@@ -1,5 +1,5 @@
 -- Filling a buffer from an end backwards.
-use Prim.Native.Nat.{ℕ, _≤_}
+use Prim.Native.Nat.{ℕ, _+_, _≤_}
 use mathlib.Core.Path.{_≡_, ap, sym, _∙_}
 use mathlib.Core.List.{List, [], _++_, append-assoc, append-nil}
 use native.Mathlib.Omega.{arith}
@@ -30,17 +30,14 @@ module _ {o b c : List ℕ} {at r q : ℕ} {xs ys : List ℕ} (x : Appended o at
 
 -- ── room ──
 
-module _ {o : List ℕ} {at : ℕ} (xs : List ℕ) {ys : List ℕ} (h : RoomBefore o at (xs ++ ys)) where
-  -- for both is room for the second, and then for the first
-  pub room-last : RoomBefore o at ys
-  room-last = record { fits = omega (arith, h .fits, length-append xs ys); within = h .within }
+module _ {o : List ℕ} {at n : ℕ} (h : RoomBefore o at n) where
+  -- for less
+  pub room-less : {m : ℕ} → m ≤ n → RoomBefore o at m
+  room-less l = record { fits = omega (arith, h .fits); within = h .within }
 
-  pub room-rest : {b : List ℕ} {r : ℕ} → Appended o r b at ys → RoomBefore b r xs
-  room-rest y =
-      record {
-        fits = omega (arith, h .fits, length-append xs ys, y .end);
-        within = omega (arith, h .within, y .end, appended-length y);
-      }
+  -- for what is left when xs was put
+  pub room-left : {b : List ℕ} {r : ℕ} {xs : List ℕ} {m : ℕ} → Appended o r b at xs → m + length xs ≤ n → RoomBefore b r m
+  room-left y l = record { fits = omega (arith, h .fits, y .end); within = omega (arith, h .within, y .end, appended-length y) }
 
 -- ── a loop ──
 
@@ -50,19 +47,14 @@ pub record Backing (o : List ℕ) (e : ℕ) (whole b : List ℕ) (at : ℕ) (lef
   pub is : Appended o at b e done
   pub rest : left ++ done ≡ whole
 
-module _ {o : List ℕ} {e : ℕ} {whole : List ℕ} (h : RoomBefore o e whole) where
-  pub back-start : Backing o e whole o e whole
-  back-start = record { done = []; is = appended-none o e (h .within); rest = append-nil whole }
-
-  module _ {b : List ℕ} {at : ℕ} {left : List ℕ} (x : Backing o e whole b at left) where
-    pub back-room : RoomBefore b at left
-    back-room =
-        record {
-          fits = omega (arith, h .fits, ap length (x .rest), length-append left (x .done), x .is .end);
-          within = omega (arith, h .within, x .is .end, appended-length (x .is));
-        }
+pub back-start : {o : List ℕ} {e : ℕ} (whole : List ℕ) → RoomBefore o e (length whole) → Backing o e whole o e whole
+back-start {o} {e} whole h = record { done = []; is = appended-none o e (h .within); rest = append-nil whole }
 
 module _ {o : List ℕ} {e : ℕ} {whole b : List ℕ} {at : ℕ} {left : List ℕ} (x : Backing o e whole b at left) where
+  -- there is room for what is left
+  pub back-room : RoomBefore o e (length whole) → RoomBefore b at (length left)
+  back-room h = room-left h (x .is) (omega (arith, ap length (x .rest), length-append left (x .done)))
+
   pub back-step : (xs : List ℕ) {ys c : List ℕ} {r : ℕ} → left ≡ xs ++ ys → Appended b r c at ys → Backing o e whole c r xs
   back-step xs {ys} q y =
       record {

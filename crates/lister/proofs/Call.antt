@@ -49,7 +49,7 @@ unfolding isOpen
 listable s {h} {notes} e =
     let w = lawful-history (reads-iff s h notes .0 e) in
     record {
-      over = λ t a b.
+      none-open = λ t a b.
           let l : tx h t .status ≤ 1 = ⊎-elim (λ z. omega arith) (λ z. omega arith) (w .is-over t (record { from = a; to = b })) in
           ne-eqb (tx h t .status) 3 (λ i. omega arith);
       long = listing-length s h notes e;

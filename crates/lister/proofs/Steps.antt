@@ -4,13 +4,14 @@ use mathlib.Core.Path.{_≡_, refl, ap, _∙_}
 use mathlib.Core.Bool.{true, false, true≢false}
 use mathlib.Core.List.{List, [], _∷_, _++_, append-nil}
 use native.Mathlib.Omega.{arith}
-use lib.ListN.{length}
+use lib.ListN.{length, length-append}
 use lib.Dec.{eqb}
 use borrow.Author.Tests.{eqb-true, eq-eqb}
 use Rattle.base.specs.Base.{listed, joined}
 use Rattle.base.proofs.Tests.{ifso, pick-on, pick-off}
 use Rattle.base.proofs.Searches.{listed-more, listed-end, joined-append, joined-one, joined-none}
 use Rattle.base.proofs.Chains.{last-passes, last-less, last-none}
+use Rattle.base.proofs.Fill.{Appended}
 use Rattle.rules.specs.History.{History, Op, tx, op, opCount, size, isOpen}
 use Rattle.rules.specs.Numbers.{bytes}
 use Rattle.rules.specs.declared.Event.{Event}
@@ -20,8 +21,7 @@ use Rattle.writing.specs.Steps.{fieldBytes, stepBytes}
 use Rattle.writing.specs.Writing.{isNoStep}
 use Rattle.writing.specs.Listing.{opStep, opStepOf, closeStep, txSteps, historySteps}
 use Rattle.lister.specs.Lister.{RoomBefore, opsBytes, txBytes, txsBytes, allBytes}
-use Rattle.base.proofs.Fill.{Appended}
-use Rattle.lister.proofs.Backwards.{appended-before, room-last, room-rest, Backing, back-start, back-room, back-step, back-end}
+use Rattle.lister.proofs.Backwards.{appended-before, room-less, room-left, Backing, back-start, back-room, back-step, back-end}
 
 -- ── a step has sixteen bytes ──
 
@@ -111,13 +111,15 @@ module _ {h : History} {t : ℕ} {o : List ℕ} {e : ℕ} where
         back = rw (← ops-below h t a q) x;
       }
 
-  pub ops-start : {r : ℕ} → RoomBefore o e (opsBytes h t (opCount h + 1)) → Below r (lastOf h t) (opCount h + 1) → OpsLeft h t o e o e r
+  pub ops-start : {r : ℕ} → RoomBefore o e (length (opsBytes h t (opCount h + 1))) → Below r (lastOf h t) (opCount h + 1) → OpsLeft h t o e o e r
   unfolding lastOf
-  ops-start x b = left-below (omega arith) (omega arith) (b .is) (back-start x)
+  ops-start x b = left-below (omega arith) (omega arith) (b .is) (back-start _ x)
 
   module _ {b : List ℕ} {at i : ℕ} (x : OpsLeft h t o e b at i) where
-    pub op-room : 0 < i → RoomBefore o e (opsBytes h t (opCount h + 1)) → RoomBefore b at (stepBytes (opStep (op h i)))
-    op-room l w = room-last (opsBytes h t i) (rw (op-top h t l (x .of l)) at (back-room w (x .back)))
+    pub op-room : 0 < i → RoomBefore o e (length (opsBytes h t (opCount h + 1))) → RoomBefore b at 16
+    op-room l w =
+        room-less (back-room (x .back) w)
+        (omega (arith, ap length (op-top h t l (x .of l)), length-append (opsBytes h t i) (stepBytes (opStep (op h i))), step-length (opStep (op h i)) (op-is-step (op h i))))
 
     pub ops-next : {c : List ℕ} {q r : ℕ} → 0 < i → Appended b q c at (stepBytes (opStep (op h i))) → Below r (prevOf h i) i → OpsLeft h t o e c q r
     unfolding prevOf
@@ -147,24 +149,34 @@ module _ (h : History) (t : ℕ) (n : isOpen h t ≡ false) where
       (joined-append stepBytes (listed 1 (opCount h + 1) (opStepOf h t)) (closeStep h t)
       ∙ rw (pick-off (isOpen h t) [] (Close (tx h t .status) ∷ []) n, joined-one stepBytes (Close (tx h t .status))))
 
+  tx-length : length (txBytes h t) ≡ 16 + (length inside + 16)
+  unfolding isNoStep
+  tx-length =
+      omega (
+        arith,
+        ap length tx-bytes,
+        length-append opening (inside ++ closing),
+        length-append inside closing,
+        step-length (Open (tx h t .session)) refl,
+        step-length (Close (tx h t .status)) refl,
+      )
+
   -- the three, from the last to the first
-  module _ {o : List ℕ} {at : ℕ} (w : RoomBefore o at (txBytes h t)) where
-    whole : RoomBefore o at (opening ++ (inside ++ closing))
-    whole = rw tx-bytes at w
+  module _ {o : List ℕ} {at : ℕ} (w : RoomBefore o at (length (txBytes h t))) where
+    pub close-room : RoomBefore o at 16
+    close-room = room-less w (omega (arith, tx-length))
 
-    pub close-room : RoomBefore o at closing
-    close-room = room-last inside (room-last opening whole)
+    module _ {b : List ℕ} {r : ℕ} {xs : List ℕ} (x : Appended o r b at xs) (l : length xs ≡ 16) where
+      pub ops-room : RoomBefore b r (length inside)
+      ops-room = room-left w x (omega (arith, tx-length))
 
-    module _ {b : List ℕ} {r : ℕ} (x : Appended o r b at closing) where
-      pub ops-room : RoomBefore b r inside
-      ops-room = room-rest inside (room-last opening whole) x
+      pub open-room : {c : List ℕ} {q : ℕ} → Appended b q c r inside → RoomBefore c q 16
+      open-room y = room-left w (appended-before x y) (omega (arith, tx-length, length-append inside xs))
 
-      module _ {c : List ℕ} {q : ℕ} (y : Appended b q c r inside) where
-        pub open-room : RoomBefore c q opening
-        open-room = room-rest opening whole (appended-before x y)
-
-        pub tx-put : {d : List ℕ} {p : ℕ} → Appended c p d q opening → Appended o p d at (txBytes h t)
-        tx-put z = rw tx-bytes (appended-before (appended-before x y) z)
+  -- .. where its session and its status are known from elsewhere
+  pub tx-put : {s x : ℕ} → s ≡ tx h t .session → x ≡ tx h t .status → {o b c d : List ℕ} {at r q p : ℕ} → Appended o r b at (stepBytes (Close x))
+      → Appended b q c r inside → Appended c p d q (stepBytes (Open s)) → Appended o p d at (txBytes h t)
+  tx-put e i x y z = rw tx-bytes (appended-before (appended-before (rw i at x) y) (rw e at z))
 
 -- ── all transactions ──
 
@@ -180,8 +192,8 @@ module _ (h : History) where
       let e : t - 1 + 1 ≡ t = omega arith in
       rw e (ap (joined stepBytes) (listed-more (txSteps h) t 1 l) ∙ joined-append stepBytes (listed 1 t (txSteps h)) (txSteps h t))
 
-  pub txs-room : {b : List ℕ} {at t : ℕ} → 0 < t → RoomBefore b at (txsBytes h (t + 1)) → RoomBefore b at (txBytes h t)
-  txs-room {t = t} l w = room-last (txsBytes h (t - 1 + 1)) (rw (txs-top t l) at w)
+  pub txs-room : {b : List ℕ} {at t : ℕ} → 0 < t → RoomBefore b at (length (txsBytes h (t + 1))) → RoomBefore b at (length (txBytes h t))
+  txs-room {t = t} l w = room-less w (omega (arith, ap length (txs-top t l), length-append (txsBytes h (t - 1 + 1)) (txBytes h t)))
 
   pub txs-none : (t : ℕ) → t ≤ 0 → txsBytes h (t + 1) ≡ []
   unfolding txsBytes

@@ -9,9 +9,9 @@ use Rattle.rules.specs.History.{History, txCount, opCount, isOpen}
 use Rattle.writing.specs.Steps.{stepBytes}
 use Rattle.writing.specs.Listing.{opStepOf, txSteps, historySteps}
 
--- there is room in the buffer o for xs before `at`
-pub record RoomBefore (o : List ℕ) (at : ℕ) (xs : List ℕ) : Type 0 where
-  pub fits : length xs ≤ at
+-- there is room in the buffer o for n bytes before `at`
+pub record RoomBefore (o : List ℕ) (at n : ℕ) : Type 0 where
+  pub fits : n ≤ at
   pub within : at ≤ length o
 
 -- the bytes of transaction t's operations below n; of transaction t; of the transactions below n; of all
@@ -33,5 +33,5 @@ needed h = 16 * (2 * txCount h + opCount h)
 
 -- a history that a trace was read into: none of its transactions is open, and so many bytes are needed for its steps
 pub record Listable (h : History) : Type 0 where
-  pub over : (t : ℕ) → 1 ≤ t → t ≤ txCount h → isOpen h t ≡ false
+  pub none-open : (t : ℕ) → 1 ≤ t → t ≤ txCount h → isOpen h t ≡ false
   pub long : length (allBytes h) ≡ needed h

@@ -1,8 +1,10 @@
 // A trace turned into steps: its history goes into a table, and from there into a lent buffer, sixteen bytes a step. The steps are put from the last one
-// backwards, since a transaction's operations are reached from its last one down.
+// backwards, since a transaction's operations are reached from its last one down: each function puts its bytes before `at` and answers where they start.
+// Every other byte stays as it was.
 ghost use Prim.Native.Nat.{_+_};
 ghost use mathlib.Core.Path.{_≡_};
 ghost use mathlib.Core.Bool.{false};
+ghost use lib.ListN.{length};
 ghost use Rattle.base.proofs.Fill.{Appended};
 ghost use Rattle.rules.specs.History.{op, opCount, isOpen};
 ghost use Rattle.table.specs.Table.{historyOf, Held, HasTx, HasOp};
@@ -19,10 +21,9 @@ use writing::Filled;
 const WORDS: usize = 2306;
 
 // ── one step ──
-// Each function puts its bytes before `at` and answers where they start. Every other byte stays as it was.
 
 fn put_before(out: &mut [u8], at: usize, event: Event) -> usize
-    requires { ⌜ (isNoStep event ≡ false) × RoomBefore (now out) at (stepBytes event) ⌝ }
+    requires { ⌜ (isNoStep event ≡ false) × RoomBefore (now out) at 16 ⌝ }
     ensures { λ r. ⌜ Appended (now (out .entry)) r (now (out .exit)) at (stepBytes event) ⌝ }
 {
     let from = at - 16;
@@ -47,7 +48,7 @@ fn op_step(h: &[u64], i: usize) -> Event
 
 // The operations of transaction t, from its last one down.
 fn put_ops(h: &[u64], t: usize, out: &mut [u8], at: usize) -> usize
-    requires { ⌜ HasTx (now h) t × RoomBefore (now out) at (opsBytes (historyOf (now h)) t (opCount (historyOf (now h)) + 1)) ⌝ }
+    requires { ⌜ HasTx (now h) t × RoomBefore (now out) at (length (opsBytes (historyOf (now h)) t (opCount (historyOf (now h)) + 1))) ⌝ }
     ensures { λ r. ⌜ Appended (now (out .entry)) r (now (out .exit)) at (opsBytes (historyOf (now (h .entry))) t (opCount (historyOf (now (h .entry))) + 1)) ⌝ }
 {
     let mut from = at;
@@ -61,7 +62,7 @@ fn put_ops(h: &[u64], t: usize, out: &mut [u8], at: usize) -> usize
 
 // Its close, its operations, its open.
 fn put_tx(h: &[u64], t: usize, out: &mut [u8], at: usize) -> usize
-    requires { ⌜ HasTx (now h) t × (isOpen (historyOf (now h)) t ≡ false) × RoomBefore (now out) at (txBytes (historyOf (now h)) t) ⌝ }
+    requires { ⌜ HasTx (now h) t × (isOpen (historyOf (now h)) t ≡ false) × RoomBefore (now out) at (length (txBytes (historyOf (now h)) t)) ⌝ }
     ensures { λ r. ⌜ Appended (now (out .entry)) r (now (out .exit)) at (txBytes (historyOf (now (h .entry))) t) ⌝ }
 {
     let close = Event::Close(table::status_of(h, t) as u16);
@@ -75,7 +76,7 @@ fn put_tx(h: &[u64], t: usize, out: &mut [u8], at: usize) -> usize
 
 // All transactions, from the last one down.
 fn put_txs(h: &[u64], out: &mut [u8], at: usize) -> usize
-    requires { ⌜ Held (now h) × Listable (historyOf (now h)) × RoomBefore (now out) at (allBytes (historyOf (now h))) ⌝ }
+    requires { ⌜ Held (now h) × Listable (historyOf (now h)) × RoomBefore (now out) at (length (allBytes (historyOf (now h)))) ⌝ }
     ensures { λ r. ⌜ Appended (now (out .entry)) r (now (out .exit)) at (allBytes (historyOf (now (h .entry)))) ⌝ }
 {
     let mut from = at;

@@ -7,7 +7,7 @@ use Rattle.lister.proofs.list_history.Tie as tie
 returns : tie.Need-returns
 returns c =
     let o = c .before in
-    too-short _ _ (omega (arith, o .ops .ensures, o .before .txs .ensures, o .before .before .before .before .pre .1 .long)) (c .if1 .taken)
+    too-short _ _ (omega (arith, o .ops .ensures, o .before .txs .ensures, o .before .before .before .before .pre .1 .long)) (omega (arith, c .if1 .taken))
 
 returns-2 : tie.Need-returns-2
 returns-2 c =

@@ -17,23 +17,23 @@ loop-holds c = ops-start (c .before .before .before .pre .1) (c .last-op .ensure
 op-step-requires : tie.Need-op-step-requires Inv-loop μ-loop
 op-step-requires c κs =
     let l = c .before .before in
-    record { held = l .before .before .before .before .pre .0 .held; from = c .before .loop-test .taken; to = l .loop .inv .to }
+    record { held = l .before .before .before .before .pre .0 .held; from = omega arith; to = l .loop .inv .to }
 
 put-before-requires : tie.Need-put-before-requires Inv-loop μ-loop
 put-before-requires c κs =
     let l = c .before .before .before in
-    rw (c .op-step .ensures) (op-is-step _, op-room (l .loop .inv) (c .before .before .loop-test .taken) (l .before .before .before .before .pre .1))
+    rw (c .op-step .ensures) (op-is-step _, op-room (l .loop .inv) (omega arith) (l .before .before .before .before .pre .1))
 
 prev-op-requires : tie.Need-prev-op-requires Inv-loop μ-loop
 prev-op-requires c κs =
     let l = c .before .before .before .before .before .before in
-    record { held = l .before .before .before .before .pre .0 .held; from = c .before .before .before .before .before .loop-test .taken; to = l .loop .inv .to }
+    record { held = l .before .before .before .before .pre .0 .held; from = omega arith; to = l .loop .inv .to }
 
 loop-again : tie.Need-loop-again Inv-loop μ-loop
 loop-again c =
     let p = c .before .before .before in
     let t = p .before .before .before in
-    ops-next (t .before .loop .inv) (t .loop-test .taken) (rw (p .before .op-step .ensures) at (p .put-before .ensures)) (c .prev-op .ensures)
+    ops-next (t .before .loop .inv) (omega arith) (rw (p .before .op-step .ensures) at (p .put-before .ensures)) (c .prev-op .ensures)
 
 pub put-ops-spec : {M : Type 1} → statement M
 put-ops-spec =

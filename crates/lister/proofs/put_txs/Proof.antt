@@ -18,7 +18,7 @@ abbrev μ-loop : tie.MeasureT-loop
 
 loop-holds : tie.Need-loop-holds Inv-loop μ-loop
 loop-holds c =
-    (omega (arith, c .txs .ensures), rw (c .txs .ensures, ← txs-all _) (back-start (c .before .before .before .pre .2)))
+    (omega (arith, c .txs .ensures), rw (c .txs .ensures, ← txs-all _) (back-start _ (c .before .before .before .pre .2)))
 
 put-tx-requires : tie.Need-put-tx-requires Inv-loop μ-loop
 put-tx-requires c κs =
@@ -26,8 +26,8 @@ put-tx-requires c κs =
     let l = c .before .before in
     let p = l .before .before .before .before .pre in (
       record { held = p .0; from = t; to = l .loop .inv .0 },
-      p .1 .over _ t (l .loop .inv .0),
-      txs-room _ t (back-room (p .2) (l .loop .inv .1)),
+      p .1 .none-open _ t (l .loop .inv .0),
+      txs-room _ t (back-room (l .loop .inv .1) (p .2)),
     )
 
 loop-again : tie.Need-loop-again Inv-loop μ-loop

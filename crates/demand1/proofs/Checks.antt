@@ -15,7 +15,7 @@ use Rattle.rules.specs.History.{History, op, txCount, opCount, current, writesV
 use Rattle.rules.specs.Records.{lows, highs, breaks, isUnknown, isMisfit, eventAt}
 use Rattle.rules.specs.Reading.{State, misplaced, unlawful, excess, repeats}
 use Rattle.demand1.specs.Lawful.{IsOp, IsWrite}
-use Rattle.demand1.specs.Rows.{len, kind, serial, key, value, Inside, Check, lengthField, lengthLow, bytesThere, serialFollows, kindKnown, lengthFits, inPlace, valueLawful, withinLimit, newWrite, rank, WrongLength, open-not-8, read-not-18, write-not-18, close-not-7, end-not-8, note-above-70, Misplaced, open-inside, read-outside, write-outside, close-outside, end-inside, Unlawful, written-0, status-above-1, end-wrong, Excess, open-128th, read-1025th, write-1025th, Repeated, Fails}
+use Rattle.demand1.specs.Rows.{len, kind, serial, key, value, status, endNumber, Inside, Check, lengthField, lengthLow, bytesThere, serialFollows, kindKnown, lengthFits, inPlace, valueLawful, withinLimit, newWrite, rank, WrongLength, open-not-8, read-not-18, write-not-18, close-not-7, end-not-8, note-above-70, Misplaced, open-inside, read-outside, write-outside, close-outside, end-inside, Unlawful, written-0, status-above-1, end-wrong, Excess, open-128th, read-1025th, write-1025th, Repeated, Fails}
 use Rattle.demand1.specs.Tests.{test}
 use Rattle.demand1.proofs.Histories.{inside-current, outside-current, current-inside, current-outside}
 use Rattle.demand1.proofs.Events.{Clear, Framed, is-sized, is-framed, Shape, open-record, read-record, write-record, close-record, end-record, note-record, shape, open-event, read-event, write-event, close-event, end-event, by-kind}
@@ -60,7 +60,7 @@ note-length n e l =
     rw e (λ t. ⊎-elim (λ x. absurd (omega arith)) (λ x. x) (misfit 6 n t), λ d. is-true _ (λ t. let r = fit 6 n t in omega (arith, r .1)))
 
 -- row 4, length for its kind
-length-test : (k n : ℕ) → 1 ≤ k → k ≤ 6 → 6 ≤ n → (isMisfit k n ≡ true) ↔ WrongLength k n
+pub length-test : (k n : ℕ) → 1 ≤ k → k ≤ 6 → 6 ≤ n → (isMisfit k n ≡ true) ↔ WrongLength k n
 length-test k n l h m = (to, from)
   where
     to : isMisfit k n ≡ true → WrongLength k n
@@ -135,7 +135,7 @@ module _ {s : List ℕ} {at : ℕ} (f : Framed s at) (h : History) where
   is-misplaced (end-inside k i) = rw (end-event f k) (inside-test h .1 i)
 
   -- row 8
-  to-unlawful : Shape s at → unlawful h (eventAt s at) ≡ true → Unlawful s at h
+  to-unlawful : Shape s at → unlawful h (eventAt s at) ≡ true → Unlawful (kind s at) (value s at) (status s at) (endNumber s at) h
   unfolding unlawful
   to-unlawful (open-record k e) t = absurd (false≢true (rw e at t))
   to-unlawful (read-record k e) t = absurd (false≢true (rw e at t))
@@ -144,7 +144,7 @@ module _ {s : List ℕ} {at : ℕ} (f : Framed s at) (h : History) where
   to-unlawful (end-record k e) t = end-wrong k (eqb-false _ (txCount h) (not-true _ (rw e at t)))
   to-unlawful (note-record k e) t = absurd (false≢true (rw e at t))
 
-  is-unlawful : Unlawful s at h → unlawful h (eventAt s at) ≡ true
+  is-unlawful : Unlawful (kind s at) (value s at) (status s at) (endNumber s at) h → unlawful h (eventAt s at) ≡ true
   unfolding unlawful
   is-unlawful (written-0 k z) = rw (write-event f k) (eq-eqb _ 0 z)
   is-unlawful (status-above-1 k l) = rw (close-event f k) (lt-ltb 1 _ l)
@@ -167,7 +167,7 @@ module _ {s : List ℕ} {at : ℕ} (f : Framed s at) (h : History) where
   is-excess (write-1025th k l) = rw (write-event f k) (le-leb 1024 (opCount h) l)
 
   -- row 10
-  to-repeated : Shape s at → repeats h (eventAt s at) ≡ true → Repeated s at h
+  to-repeated : Shape s at → repeats h (eventAt s at) ≡ true → Repeated (kind s at) (key s at) (value s at) h
   unfolding repeats
   to-repeated (open-record k e) t = absurd (false≢true (rw e at t))
   to-repeated (read-record k e) t = absurd (false≢true (rw e at t))
@@ -176,14 +176,14 @@ module _ {s : List ℕ} {at : ℕ} (f : Framed s at) (h : History) where
   to-repeated (end-record k e) t = absurd (false≢true (rw e at t))
   to-repeated (note-record k e) t = absurd (false≢true (rw e at t))
 
-  is-repeated : Repeated s at h → repeats h (eventAt s at) ≡ true
+  is-repeated : Repeated (kind s at) (key s at) (value s at) h → repeats h (eventAt s at) ≡ true
   unfolding repeats
   is-repeated r = rw (write-event f (r .writes)) (lt-ltb 0 _ (write-known (r .earlier)))
 
 -- ── the ten rows ──
 
 -- a check's test passes exactly if its condition holds, where none before it fails
-pub check-row : (s : List ℕ) (st : State) (c : Check) → Clear s st (rank c) → (test s st c ≡ true) ↔ Fails s st c
+pub check-row : (s : List ℕ) (st : State) (c : Check) → Clear (Fails s st) (rank c) → (test s st c ≡ true) ↔ Fails s st c
 check-row s st lengthField p = (ltb-true _ _, lt-ltb _ _)
 check-row s st lengthLow p = (ltb-true _ _, lt-ltb _ _)
 check-row s st bytesThere p = (ltb-true _ _, lt-ltb _ _)

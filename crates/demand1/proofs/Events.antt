@@ -22,9 +22,9 @@ le-part (suc w) a e s i h =
     let n : (a + i) + 1 ≡ a + (i + 1) = omega arith in
     rw (n, ← le-part w a e s (i + 1) (omega arith), getD-take (e - a) (drop a s) i 0 (omega arith), getD-drop a s i 0)
 
--- no check before the n-th in the document's order fails
-abbrev pub Clear : List ℕ → State → ℕ → Type 0
-Clear s st n = (d : Check) → rank d < n → Fails s st d → ⊥
+-- no check before the n-th in the document's order fails, where F says which do
+abbrev pub Clear : (Check → Type 0) → ℕ → Type 0
+Clear F n = (d : Check) → rank d < n → F d → ⊥
 
 -- what is not below, and what is not above
 pub at-least : (a b : ℕ) → (b < a → ⊥) → a ≤ b
@@ -45,7 +45,7 @@ pub record Framed (s : List ℕ) (at : ℕ) : Type 0 where
   pub fits : WrongLength (kind s at) (len s at) → ⊥
 
 -- the checks leave it
-pub is-sized : {s : List ℕ} {st : State} → Clear s st 5 → Sized s (st .at)
+pub is-sized : {s : List ℕ} {st : State} → Clear (Fails s st) 5 → Sized s (st .at)
 is-sized p =
     record {
       low = at-least 6 _ (p lengthLow (omega arith));
@@ -54,7 +54,7 @@ is-sized p =
       kind-high = at-least _ 6 (λ l. p kindKnown (omega arith) (inr l));
     }
 
-pub is-framed : {s : List ℕ} {st : State} → Clear s st 6 → Framed s (st .at)
+pub is-framed : {s : List ℕ} {st : State} → Clear (Fails s st) 6 → Framed s (st .at)
 is-framed p = record { sized = is-sized (λ d l. p d (omega arith)); fits = p lengthFits (omega arith) }
 
 pub passes-framed : {s : List ℕ} {st : State} → Passes s st → Framed s (st .at)

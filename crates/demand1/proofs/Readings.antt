@@ -15,7 +15,7 @@ use Rattle.rules.specs.Reading.{State, begin, after, eventIn, isEnd, refusalNo,
 use Rattle.demand1.specs.Rows.{kind, behind, lengthField, numberOf, Passes, Reaches, start, on, Refuses, too-long, at-record, bytes-behind, ReadInto, to-the-end, OneOutcome}
 use Rattle.demand1.proofs.Events.{same-or}
 use Rattle.demand1.proofs.Steps.{next-is, next-after, next-not-end, end-after, is-end, not-end, after-within}
-use Rattle.demand1.proofs.Refusals.{First, passing, failing, first, number-positive, refusal-none, refusal-row}
+use Rattle.demand1.proofs.Refusals.{FirstOf, passing, failing, first, number-positive, refusal-none, refusal-row}
 
 module _ (s : List ℕ) (st : State) where
   -- the next record starts behind this one
@@ -83,7 +83,7 @@ module _ (s : List ℕ) (short : length s ≤ 32768) where
       (split (behind s (st .at)) (length s))
 
   -- the record at a state, where the records behind it are known
-  ends-record : (g : ℕ) {st : State} → Reaches s st → (Passes s st → (kind s (st .at) ≡ 5 → ⊥) → Ends s (walk g s (after s st))) → {n : ℕ} → First s st n
+  ends-record : (g : ℕ) {st : State} → Reaches s st → (Passes s st → (kind s (st .at) ≡ 5 → ⊥) → Ends s (walk g s (after s st))) → {n : ℕ} → FirstOf s st n
       → refusalNo s st ≡ n → Ends s (walk (suc g) s st)
   ends-record g {st} r k (passing p) e =
       same-or (kind s (st .at)) 5 (λ n. rw (walk-end s st g p n) (ends-finished r p n)) (λ d. rw (walk-on s st g p d) (k p d))

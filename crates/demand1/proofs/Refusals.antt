@@ -1,18 +1,18 @@
--- The number that refuses a record is that of the first check that fails, 0 where none does.
+-- The number that refuses is that of the first check that fails, 0 where none does: of any rows, and of a record's.
 use Prim.Native.Nat.{ℕ, suc, _<_}
 use mathlib.Core.Path.{_≡_, refl, ap, sym, _∙_}
-use mathlib.Core.Bool.{false}
+use mathlib.Core.Bool.{Bool, true, false}
 use mathlib.Core.List.{List, [], _∷_, _++_}
 use mathlib.Core.Logic.{⊎-elim, _↔_}
 use native.Mathlib.Omega.{arith}
 use lib.ListN.{getD}
-use Rattle.base.specs.Base.{Row, firstFit}
+use Rattle.base.specs.Base.{Row, row, firstFit}
 use Rattle.base.proofs.Tests.{ifso, clash, split}
 use Rattle.rules.specs.History.{current}
 use Rattle.rules.specs.Records.{frameRows}
 use Rattle.rules.specs.Reading.{State, eventIn, refusalNo, stepRows}
-use Rattle.demand1.specs.Rows.{Check, lengthField, lengthLow, bytesThere, serialFollows, kindKnown, lengthFits, inPlace, valueLawful, withinLimit, newWrite, rank, numberOf, Passes, FirstFailing}
-use Rattle.demand1.specs.Tests.{test, rowOf}
+use Rattle.demand1.specs.Rows.{Check, lengthField, lengthLow, bytesThere, serialFollows, kindKnown, lengthFits, inPlace, valueLawful, withinLimit, newWrite, rank, numberOf, Fails, NoneFails, Passes, FirstFailing}
+use Rattle.demand1.specs.Tests.{test}
 use Rattle.demand1.proofs.Events.{Clear}
 use Rattle.demand1.proofs.Checks.{check-row}
 
@@ -52,11 +52,12 @@ number-positive c = placed c .numbered
 
 -- ── the first that fails ──
 
-module _ (s : List ℕ) (st : State) where
-  -- how a record fares, with the number that this gives
+-- F says which checks fail, and a test tells it of each, where none before it fails
+module _ (F : Check → Type 0) (passes : Check → Bool) (tells : (c : Check) → Clear F (rank c) → (passes c ≡ true) ↔ F c) where
+  -- how the checks fare, with the number that this gives
   pub data First : ℕ → Type 0 where
-    passing : Passes s st → First 0
-    failing : {c : Check} → FirstFailing s st c → First (numberOf c)
+    passing : NoneFails F → First 0
+    failing : {c : Check} → FirstFailing F c → First (numberOf c)
 
   -- there is one way
   first-once : {n m : ℕ} → First n → First m → n ≡ m
@@ -68,58 +69,72 @@ module _ (s : List ℕ) (st : State) where
       (λ h. ⊎-elim (λ l. absurd (f .none-before d l (g .fails))) (λ k. ap numberOf (same-rank c d (omega arith))) (split (rank d) (rank c)))
       (split (rank c) (rank d))
 
-  -- past a check whose test fails the next is clear
-  clear-next : (c : Check) → Clear s st (rank c) → test s st c ≡ false → Clear s st (suc (rank c))
-  clear-next c p t d l f =
-      ⊎-elim (λ h. p d h f) (λ h. clash (check-row s st c p .1 (rw (← same-rank d c (omega arith)) f)) t) (split (rank d) (rank c))
+  -- past a check that does not fail the next is clear
+  pub clear-past : (c : Check) → Clear F (rank c) → (F c → ⊥) → Clear F (suc (rank c))
+  clear-past c p n d l f = ⊎-elim (λ h. p d h f) (λ h. n (rw (← same-rank d c (omega arith)) f)) (split (rank d) (rank c))
 
-  -- a table's rows tell how it fares
-  record RowTold (rs : List Row) : Type 0 where
+  -- a table's rows tell how they fare
+  pub record RowTold (rs : List Row) : Type 0 where
     pub is : First (firstFit rs)
 
   -- by one row, or by the rest
-  told-row : (c : Check) {rs : List Row} → Clear s st (rank c) → (Clear s st (suc (rank c)) → RowTold rs) → RowTold (rowOf s st c ∷ rs)
+  pub told-row : (c : Check) {rs : List Row} → Clear F (rank c) → (Clear F (suc (rank c)) → RowTold rs) → RowTold (row (passes c) (numberOf c) ∷ rs)
   unfolding firstFit
   told-row c p k =
       record {
-        is = ifso (test s st c) (λ t. rw t (failing {c = c} (record { fails = check-row s st c p .0 t; none-before = p }))) (λ t. rw t (k (clear-next c p t) .is));
+        is = ifso (passes c) (λ t. rw t (failing {c = c} (record { fails = tells c p .0 t; none-before = p })))
+            (λ t. rw t (k (clear-past c p (λ f. clash (tells c p .1 f) t)) .is));
       }
 
   -- no row is left
-  told-end : Passes s st → RowTold []
+  pub told-end : Clear F 10 → RowTold []
   unfolding firstFit
-  told-end p = record { is = passing p }
+  told-end q = record { is = passing (λ c. q c (placed c .below)) }
 
+  -- no row refuses exactly if no check fails
+  pub none-fails : {n : ℕ} → First n → (n ≡ 0) ↔ NoneFails F
+  none-fails f = (λ e. none f e, λ p. first-once f (passing p))
+    where
+      none : {m : ℕ} → First m → m ≡ 0 → NoneFails F
+      none (passing p) e = p
+      none (failing {c} x) e = absurd (omega (arith, number-positive c))
+
+  -- the row that refuses is that of the first check that fails
+  pub first-fails : {m : ℕ} → First m → (n : ℕ) → 0 < n → (m ≡ n) ↔ ((c : Check) × (numberOf c ≡ n) × FirstFailing F c)
+  first-fails f n l = (λ e. some f e, λ g. first-once f (failing (g .2)) ∙ g .1)
+    where
+      some : {m : ℕ} → First m → m ≡ n → (c : Check) × (numberOf c ≡ n) × FirstFailing F c
+      some (passing p) e = absurd (omega arith)
+      some (failing {c} x) e = (c, e, x)
+
+-- ── a record ──
+
+module _ (s : List ℕ) (st : State) where
   -- `refusalNo` tells it
-  pub first : First (refusalNo s st)
+  abbrev pub FirstOf : ℕ → Type 0
+  FirstOf = First (Fails s st) (test s st) (check-row s st)
+
+  pub first : FirstOf (refusalNo s st)
   unfolding refusalNo frameRows stepRows
   first = rows .is
     where
-      rows : RowTold (frameRows s (st .at) (st .serial) ++ stepRows (st .history) (current (st .history)) (eventIn s st))
+      rows : RowTold (Fails s st) (test s st) (check-row s st) (frameRows s (st .at) (st .serial) ++ stepRows (st .history) (current (st .history)) (eventIn s st))
       rows =
-          told-row lengthField (λ d l _. omega arith)
-          (λ p1. told-row lengthLow p1
-          (λ p2. told-row bytesThere p2
-          (λ p3. told-row serialFollows p3
-          (λ p4. told-row kindKnown p4
-          (λ p5. told-row lengthFits p5
-          (λ p6. told-row inPlace p6
-          (λ p7. told-row valueLawful p7
-          (λ p8. told-row withinLimit p8
-          (λ p9. told-row newWrite p9 (λ q. told-end (λ c. q c (placed c .below))))))))))))
+          told-row (Fails s st) (test s st) (check-row s st) lengthField (λ d l _. omega arith)
+          (λ p1. told-row (Fails s st) (test s st) (check-row s st) lengthLow p1
+          (λ p2. told-row (Fails s st) (test s st) (check-row s st) bytesThere p2
+          (λ p3. told-row (Fails s st) (test s st) (check-row s st) serialFollows p3
+          (λ p4. told-row (Fails s st) (test s st) (check-row s st) kindKnown p4
+          (λ p5. told-row (Fails s st) (test s st) (check-row s st) lengthFits p5
+          (λ p6. told-row (Fails s st) (test s st) (check-row s st) inPlace p6
+          (λ p7. told-row (Fails s st) (test s st) (check-row s st) valueLawful p7
+          (λ p8. told-row (Fails s st) (test s st) (check-row s st) withinLimit p8
+          (λ p9. told-row (Fails s st) (test s st) (check-row s st) newWrite p9 (told-end (Fails s st) (test s st) (check-row s st)))))))))))
 
   -- no row refuses a record exactly if it passes every check
   pub refusal-none : (refusalNo s st ≡ 0) ↔ Passes s st
-  refusal-none = (λ e. none first e, λ p. first-once first (passing p))
-    where
-      none : {n : ℕ} → First n → n ≡ 0 → Passes s st
-      none (passing p) e = p
-      none (failing {c} f) e = absurd (omega (arith, number-positive c))
+  refusal-none = none-fails (Fails s st) (test s st) (check-row s st) first
 
   -- the row that refuses it is that of the first check that fails
-  pub refusal-row : (n : ℕ) → 0 < n → (refusalNo s st ≡ n) ↔ ((c : Check) × (numberOf c ≡ n) × FirstFailing s st c)
-  refusal-row n l = (λ e. some first e, λ f. first-once first (failing (f .2)) ∙ f .1)
-    where
-      some : {m : ℕ} → First m → m ≡ n → (c : Check) × (numberOf c ≡ n) × FirstFailing s st c
-      some (passing p) e = absurd (omega arith)
-      some (failing {c} f) e = (c, e, f)
+  pub refusal-row : (n : ℕ) → 0 < n → (refusalNo s st ≡ n) ↔ ((c : Check) × (numberOf c ≡ n) × FirstFailing (Fails s st) c)
+  refusal-row = first-fails (Fails s st) (test s st) (check-row s st) first

@@ -76,6 +76,14 @@ rank valueLawful = 7
 rank withinLimit = 8
 rank newWrite = 9
 
+-- where F says which checks fail: none does; c is the first that does
+abbrev pub NoneFails : (Check → Type 0) → Type 0
+NoneFails F = (c : Check) → F c → ⊥
+
+pub record FirstFailing (F : Check → Type 0) (c : Check) : Type 0 where
+  pub fails : F c
+  pub none-before : (d : Check) → rank d < rank c → F d → ⊥
+
 -- the length that the table gives each kind
 pub data WrongLength (k n : ℕ) : Type 0 where
   open-not-8 : k ≡ 1 → (n ≡ 8 → ⊥) → WrongLength k n
@@ -93,11 +101,11 @@ pub data Misplaced (k : ℕ) (h : History) : Type 0 where
   close-outside : k ≡ 4 → (Inside h → ⊥) → Misplaced k h
   end-inside : k ≡ 5 → Inside h → Misplaced k h
 
--- "written value 0; status above 1; end number wrong"
-pub data Unlawful (s : List ℕ) (at : ℕ) (h : History) : Type 0 where
-  written-0 : kind s at ≡ 3 → value s at ≡ 0 → Unlawful s at h
-  status-above-1 : kind s at ≡ 4 → 1 < status s at → Unlawful s at h
-  end-wrong : kind s at ≡ 5 → (endNumber s at ≡ txCount h → ⊥) → Unlawful s at h
+-- "written value 0; status above 1; end number wrong", where v, c and n are the value, the status and the end number
+pub data Unlawful (k v c n : ℕ) (h : History) : Type 0 where
+  written-0 : k ≡ 3 → v ≡ 0 → Unlawful k v c n h
+  status-above-1 : k ≡ 4 → 1 < c → Unlawful k v c n h
+  end-wrong : k ≡ 5 → (n ≡ txCount h → ⊥) → Unlawful k v c n h
 
 -- "128th open, or 1,025th operation"
 pub data Excess (k : ℕ) (h : History) : Type 0 where
@@ -106,10 +114,10 @@ pub data Excess (k : ℕ) (h : History) : Type 0 where
   write-1025th : k ≡ 3 → 1024 ≤ opCount h → Excess k h
 
 -- "a write repeats a key and value that an earlier write has, in any transaction"
-pub record Repeated (s : List ℕ) (at : ℕ) (h : History) : Type 0 where
-  pub writes : kind s at ≡ 3
+pub record Repeated (k x v : ℕ) (h : History) : Type 0 where
+  pub writes : k ≡ 3
   pub by : ℕ
-  pub earlier : IsWrite h (key s at) (value s at) by
+  pub earlier : IsWrite h x v by
 
 -- the check fails at the record that a state has come to. Where the trace ends at a record's boundary, "no end record came": no length field is left
 abbrev pub Fails : List ℕ → State → Check → Type 0
@@ -120,17 +128,12 @@ Fails s st serialFollows = (0 < st .at) × (serial s (st .at) ≡ st .serial →
 Fails s st kindKnown = (kind s (st .at) < 1) ⊎ (6 < kind s (st .at))
 Fails s st lengthFits = WrongLength (kind s (st .at)) (len s (st .at))
 Fails s st inPlace = Misplaced (kind s (st .at)) (st .history)
-Fails s st valueLawful = Unlawful s (st .at) (st .history)
+Fails s st valueLawful = Unlawful (kind s (st .at)) (value s (st .at)) (status s (st .at)) (endNumber s (st .at)) (st .history)
 Fails s st withinLimit = Excess (kind s (st .at)) (st .history)
-Fails s st newWrite = Repeated s (st .at) (st .history)
+Fails s st newWrite = Repeated (kind s (st .at)) (key s (st .at)) (value s (st .at)) (st .history)
 
 abbrev pub Passes : List ℕ → State → Type 0
-Passes s st = (c : Check) → Fails s st c → ⊥
-
--- c is the first check that fails
-pub record FirstFailing (s : List ℕ) (st : State) (c : Check) : Type 0 where
-  pub fails : Fails s st c
-  pub none-before : (d : Check) → rank d < rank c → Fails s st d → ⊥
+Passes s st = NoneFails (Fails s st)
 
 -- ── what a record leaves ──
 
@@ -164,7 +167,7 @@ pub data Reaches (s : List ℕ) : State → Type 0 where
 -- row n refuses the trace at place p, and nothing earlier in the document's order does
 pub data Refuses (s : List ℕ) : ℕ → ℕ → Type 0 where
   too-long : 32768 < length s → Refuses s 2 32768
-  at-record : {st : State} {c : Check} → length s ≤ 32768 → Reaches s st → FirstFailing s st c → Refuses s (numberOf c) (st .at)
+  at-record : {st : State} {c : Check} → length s ≤ 32768 → Reaches s st → FirstFailing (Fails s st) c → Refuses s (numberOf c) (st .at)
   bytes-behind : {st : State} → length s ≤ 32768 → Reaches s st → Passes s st → kind s (st .at) ≡ 5 → behind s (st .at) < length s
       → Refuses s 11 (behind s (st .at))
 

@@ -4,11 +4,10 @@ use mathlib.Core.Bool.{Bool}
 use mathlib.Core.List.{List}
 use lib.ListN.{length}
 use lib.Dec.{ltb}
-use Rattle.base.specs.Base.{Row, row}
 use Rattle.rules.specs.History.{current}
 use Rattle.rules.specs.Records.{breaks, isUnknown, isMisfit}
 use Rattle.rules.specs.Reading.{State, eventIn, misplaced, unlawful, excess, repeats}
-use Rattle.demand1.specs.Rows.{len, kind, behind, Check, lengthField, lengthLow, bytesThere, serialFollows, kindKnown, lengthFits, inPlace, valueLawful, withinLimit, newWrite, numberOf}
+use Rattle.demand1.specs.Rows.{len, kind, behind, Check, lengthField, lengthLow, bytesThere, serialFollows, kindKnown, lengthFits, inPlace, valueLawful, withinLimit, newWrite}
 
 abbrev pub test : List ℕ → State → Check → Bool
 test s st lengthField = ltb (length s) (st .at + 2)
@@ -21,6 +20,3 @@ test s st inPlace = misplaced (current (st .history)) (eventIn s st)
 test s st valueLawful = unlawful (st .history) (eventIn s st)
 test s st withinLimit = excess (st .history) (eventIn s st)
 test s st newWrite = repeats (st .history) (eventIn s st)
-
-abbrev pub rowOf : List ℕ → State → Check → Row
-rowOf s st c = row (test s st c) (numberOf c)

@@ -1,11 +1,55 @@
--- Laws of bytes that are written over others.
-use Prim.Native.Nat.{ℕ}
-use mathlib.Core.Path.{_≡_, ap, _∙_}
-use mathlib.Core.List.{List, _++_}
+-- Laws of bytes as numbers, and of bytes that are written over others.
+use Prim.Native.Nat.{ℕ, zero, suc, _+_, _*_, _/_, _%_, _^_, _<_, _≤_}
+use mathlib.Core.Path.{_≡_, refl, ap, sym, _∙_}
+use mathlib.Core.List.{List, [], _∷_, _++_, append-nil}
 use native.Mathlib.Omega.{arith}
-use lib.ListN.{length, drop}
+use native.Mathlib.Numerals.{add-one, unary-clauses}
+use lib.ListN.{length, getD, take, drop}
+use lib.Seq.{getD-append-add, take-suc, append-snoc}
 use Rattle.base.proofs.Fill.{Appended}
-use Rattle.rules.specs.Numbers.{over}
+use Rattle.rules.specs.Numbers.{le, bytes, over}
+
+-- ── numbers ──
+
+-- how many bytes a number has
+pub bytes-length : (w n : ℕ) → length (bytes w n) ≡ w
+unfolding bytes
+bytes-length zero n = refl
+bytes-length (suc w) n = ap suc (bytes-length w (n / 256))
+
+-- what stands before does not count
+pub le-behind : (w : ℕ) (xs s : List ℕ) (i : ℕ) → le w (xs ++ s) (length xs + i) ≡ le w s i
+unfolding le
+le-behind zero xs s i = refl
+le-behind (suc w) xs s i =
+    let e : length xs + i + 1 ≡ length xs + (i + 1) = omega arith in rw (getD-append-add xs s i 0, e, le-behind w xs s (i + 1))
+
+-- the bytes of a number spell it
+pub le-bytes : (w n : ℕ) (s : List ℕ) → n < 256 ^ w → le w (bytes w n ++ s) 0 ≡ n
+unfolding le bytes
+le-bytes zero n s l = omega arith
+le-bytes (suc w) n s l =
+    let m : n / 256 < 256 ^ w = below in
+    rw (le-behind w (n % 256 ∷ []) (bytes w (n / 256) ++ s) 0, le-bytes w (n / 256) s m) (omega arith)
+  where
+    below : n / 256 < 256 ^ w
+    below = let e : n < 256 ^ w * 256 = simp unary-clauses at l in omega arith
+
+-- .. and back: the bytes of the number that stands at `at`
+pub spelt : (w : ℕ) (s : List ℕ) (at : ℕ) → ((i : ℕ) → getD s i 0 < 256) → at + w ≤ length s → take (at + w) s ≡ take at s ++ bytes w (le w s at)
+unfolding le bytes
+spelt zero s at b l = let e : at + 0 ≡ at = omega arith in rw e (sym (append-nil (take at s)))
+spelt (suc w) s at b l =
+    let x = getD s at 0 in
+    let m = le w s (at + 1) in
+    let k : x < 256 = b at in
+    let q : (x + 256 * m) / 256 ≡ m = omega arith in
+    let r : (x + 256 * m) % 256 ≡ x = omega arith in
+    let e : at + suc w ≡ at + 1 + w = omega arith in
+    let t : take (at + 1) s ≡ take at s ++ (x ∷ []) = rw (add-one at) (take-suc s at 0 (omega arith)) in
+    rw (q, r, e) (spelt w s (at + 1) b (omega arith) ∙ rw t (append-snoc (take at s) x (bytes w m)))
+
+-- ── buffers ──
 
 -- what was put at the front
 pub appended-over : {o b : List ℕ} {n : ℕ} {xs : List ℕ} → Appended o 0 b n xs → b ≡ over xs o

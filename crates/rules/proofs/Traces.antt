@@ -7,11 +7,6 @@ use lib.ListN.{length, length-append}
 use Rattle.rules.specs.Numbers.{bytes}
 use Rattle.rules.specs.Traces.{Item, raw, recordOf, trace}
 
-pub bytes-length : (w n : ℕ) → length (bytes w n) ≡ w
-unfolding bytes
-bytes-length zero n = refl
-bytes-length (suc w) n = ap suc (bytes-length w _)
-
 -- a header of 8 bytes, and the payload
 pub record-length : (n : ℕ) (i : Item) → length (recordOf n i) ≡ 8 + length (i .payload)
 unfolding recordOf raw bytes

@@ -1,0 +1,5 @@
+pub mod Steps
+pub mod Says
+pub mod Declined
+pub mod Writes
+pub mod Lists

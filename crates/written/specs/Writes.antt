@@ -1,0 +1,54 @@
+-- What is promised of writing, of any answer r and of what the buffer then holds: of the steps s, the starting serial n and what the buffer held before (o).
+-- `said` gives an answer's numbers.
+use Prim.Native.Nat.{ℕ, zero, suc, _+_, _*_, _%_, _^_, _<_, _≤_}
+use mathlib.Core.Path.{_≡_}
+use mathlib.Core.Bool.{true}
+use mathlib.Core.List.{List, []}
+use mathlib.Core.Logic.{_↔_}
+use lib.ListN.{length, getD}
+use Rattle.rules.specs.Numbers.{over}
+use Rattle.rules.specs.History.{History, txCount}
+use Rattle.rules.specs.Records.{eventAt}
+use Rattle.rules.specs.declared.Event.the-variants.{End}
+use Rattle.demand1.specs.Rows.{serial, behind, ReadInto}
+use Rattle.writing.specs.Filling.{refusing, answering, said}
+use Rattle.writing.specs.Steps.{stepAt, stepCount, stepsIn}
+use Rattle.writing.specs.declared.Filled.{Filled}
+use Rattle.written.specs.Says.{Says}
+use Rattle.written.specs.Declined.{WriteDeclines}
+
+-- each entry is a byte
+abbrev pub AllBytes : List ℕ → Type 0
+AllBytes s = (i : ℕ) → getD s i 0 < 256
+
+-- where the record starts that stands behind k others
+unfoldable pub recordAt : List ℕ → ℕ → ℕ
+recordAt b zero = 0
+recordAt b (suc k) = behind b (recordAt b k)
+
+-- b is the trace of the steps s, with serials from n on
+pub record TraceOf (s : List ℕ) (n : ℕ) (b : List ℕ) : Type 0 where
+  pub is-bytes : AllBytes b
+  -- "What it writes reads back as the same transactions, operations ..": it is read, and has no notes
+  pub history : History
+  pub reads : ReadInto b history []
+  pub says : Says (stepsIn s) history
+  -- ".. and serials": the starting one and its successors, with the wrap
+  pub serials : (k : ℕ) → k ≤ stepCount s → serial b (recordAt b k) ≡ (n + k) % 2 ^ 32
+  -- one record a step, and the end
+  pub step-records : (k : ℕ) → k < stepCount s → eventAt b (recordAt b k) ≡ stepAt s (16 * k)
+  pub end-record : eventAt b (recordAt b (stepCount s)) ≡ End (txCount history)
+  pub no-more : recordAt b (stepCount s + 1) ≡ length b
+
+-- the trace was put over o, which made b of it; m, which is answered, is its length
+pub record TracePut (s : List ℕ) (n : ℕ) (o b : List ℕ) (m : ℕ) : Type 0 where
+  pub trace : List ℕ
+  pub of-steps : TraceOf s n trace
+  pub long : m ≡ length trace
+  pub is : b ≡ over trace o
+
+-- the whole promise
+pub record Writes (s : List ℕ) (n : ℕ) (o : List ℕ) (r : Filled) (b : List ℕ) : Type 0 where
+  pub refused : (m p : ℕ) → (said r ≡ refusing m p) ↔ WriteDeclines s (length o) m p
+  pub unchanged : said r .isRefused ≡ true → b ≡ o
+  pub wrote : (m : ℕ) → said r ≡ answering m → TracePut s n o b m

@@ -1,0 +1,4 @@
+pub mod Backwards
+pub mod Words
+pub mod Steps
+pub mod Call

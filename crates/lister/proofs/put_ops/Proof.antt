@@ -1,0 +1,52 @@
+use native.Mathlib.Omega.{arith}
+use Rattle.base.proofs.Fill.{appended-length}
+use Rattle.table.specs.Table.{historyOf}
+use Rattle.lister.proofs.Steps.{op-is-step, OpsLeft, ops-start, op-room, ops-next, ops-end}
+use Rattle.lister.proofs.put_ops.Statement.{statement}
+use Rattle.lister.proofs.put_ops.Tie as tie
+
+abbrev Inv-loop : tie.InvT-loop
+Inv-loop h t out₀ at from₀ i₀ out from i = OpsLeft (historyOf h) t out₀ at out from i
+
+abbrev μ-loop : tie.MeasureT-loop
+μ-loop h t out₀ at from₀ i₀ out from i = i
+
+loop-holds : tie.Need-loop-holds Inv-loop μ-loop
+loop-holds c = ops-start (c .before .before .before .pre .1) (c .last-op .ensures)
+
+op-step-requires : tie.Need-op-step-requires Inv-loop μ-loop
+op-step-requires c κs =
+    let l = c .before .before in
+    record { held = l .before .before .before .before .pre .0 .held; from = omega arith; to = l .loop .inv .to }
+
+put-before-requires : tie.Need-put-before-requires Inv-loop μ-loop
+put-before-requires c κs =
+    let l = c .before .before .before in
+    rw (c .op-step .ensures) (op-is-step _, op-room (l .loop .inv) (omega arith) (l .before .before .before .before .pre .1))
+
+prev-op-requires : tie.Need-prev-op-requires Inv-loop μ-loop
+prev-op-requires c κs =
+    let l = c .before .before .before .before .before .before in
+    record { held = l .before .before .before .before .pre .0 .held; from = omega arith; to = l .loop .inv .to }
+
+loop-again : tie.Need-loop-again Inv-loop μ-loop
+loop-again c =
+    let p = c .before .before .before in
+    let t = p .before .before .before in
+    ops-next (t .before .loop .inv) (omega arith) (rw (p .before .op-step .ensures) at (p .put-before .ensures)) (c .prev-op .ensures)
+
+pub put-ops-spec : {M : Type 1} → statement M
+put-ops-spec =
+    tie.close
+    (tie.spec
+    Inv-loop
+    μ-loop
+    (λ c κs. c .before .before .pre .0)
+    loop-holds
+    op-step-requires
+    put-before-requires
+    prev-op-requires
+    (λ c. omega (arith, c .prev-op .ensures .below))
+    loop-again
+    (λ c. appended-length (c .before .loop .inv .back .is))
+    (λ c. ops-end (c .before .loop .inv) (omega arith)))

@@ -6,3 +6,5 @@ pub mod Serials
 pub mod Says
 pub mod Spelt
 pub mod Retold
+pub mod StepKinds
+pub mod StepBytes

@@ -12,13 +12,14 @@ use Rattle.base.specs.Base.{last}
 use Rattle.base.proofs.Tests.{clash, is-false, is-true, not-true, both, and-left, and-right, or-cases, or-left, or-right, split}
 use Rattle.base.proofs.Chains.{last-passes, last-none}
 use Rattle.rules.specs.History.{History, op, txCount, opCount, current, writesValue, writeOf}
-use Rattle.rules.specs.Records.{lows, highs, breaks, isUnknown, isMisfit, eventAt}
+use Rattle.rules.specs.Records.{lows, highs, breaks, isUnknown, isMisfit}
+use Rattle.rules.specs.declared.Event.{Event}
 use Rattle.rules.specs.Reading.{State, misplaced, unlawful, excess, repeats}
 use Rattle.demand1.specs.Lawful.{IsOp, IsWrite}
-use Rattle.demand1.specs.Rows.{len, kind, serial, key, value, status, endNumber, Inside, Check, lengthField, lengthLow, bytesThere, serialFollows, kindKnown, lengthFits, inPlace, valueLawful, withinLimit, newWrite, rank, WrongLength, open-not-8, read-not-18, write-not-18, close-not-7, end-not-8, note-above-70, Misplaced, open-inside, read-outside, write-outside, close-outside, end-inside, Unlawful, written-0, status-above-1, end-wrong, Excess, open-128th, read-1025th, write-1025th, Repeated, Fails}
+use Rattle.demand1.specs.Rows.{len, kind, serial, Inside, Check, lengthField, lengthLow, bytesThere, serialFollows, kindKnown, lengthFits, inPlace, valueLawful, withinLimit, newWrite, rank, WrongLength, open-not-8, read-not-18, write-not-18, close-not-7, end-not-8, note-above-70, Misplaced, open-inside, read-outside, write-outside, close-outside, end-inside, Unlawful, written-0, status-above-1, end-wrong, Excess, open-128th, read-1025th, write-1025th, Repeated, Fails}
 use Rattle.demand1.specs.Tests.{test}
 use Rattle.demand1.proofs.Histories.{inside-current, outside-current, current-inside, current-outside}
-use Rattle.demand1.proofs.Events.{Clear, Framed, is-sized, is-framed, Shape, open-record, read-record, write-record, close-record, end-record, note-record, shape, open-event, read-event, write-event, close-event, end-event, by-kind}
+use Rattle.demand1.proofs.Events.{Clear, is-sized, is-framed, ShapeOf, open-record, read-record, write-record, close-record, end-record, note-record, Kinded, shape-of, kinded, by-kind}
 
 -- ── the frame ──
 
@@ -115,70 +116,83 @@ write-known {h} {x} {v} {i} w =
     (λ g. absurd (clash (value-written w) (last-none (writesValue h x v) (opCount h + 1) i (omega (arith, w .is-op .from)) (omega (arith, w .is-op .to)))))
     (split 0 (last (writesValue h x v) (opCount h + 1)))
 
-module _ {s : List ℕ} {at : ℕ} (f : Framed s at) (h : History) where
+-- an event's rows, by its kind and its fields
+module _ {k s x v c n : ℕ} {e : Event} (w : Kinded k s x v c n e) (h : History) where
   -- row 7
-  to-misplaced : Shape s at → misplaced (current h) (eventAt s at) ≡ true → Misplaced (kind s at) h
+  to-misplaced : ShapeOf k s x v c n e → misplaced (current h) e ≡ true → Misplaced k h
   unfolding misplaced
-  to-misplaced (open-record k e) t = open-inside k (inside-test h .0 (rw e at t))
-  to-misplaced (read-record k e) t = read-outside k (outside-test h .0 (rw e at t))
-  to-misplaced (write-record k e) t = write-outside k (outside-test h .0 (rw e at t))
-  to-misplaced (close-record k e) t = close-outside k (outside-test h .0 (rw e at t))
-  to-misplaced (end-record k e) t = end-inside k (inside-test h .0 (rw e at t))
-  to-misplaced (note-record k e) t = absurd (false≢true (rw e at t))
+  to-misplaced (open-record q i) t = open-inside q (inside-test h .0 (rw i at t))
+  to-misplaced (read-record q i) t = read-outside q (outside-test h .0 (rw i at t))
+  to-misplaced (write-record q i) t = write-outside q (outside-test h .0 (rw i at t))
+  to-misplaced (close-record q i) t = close-outside q (outside-test h .0 (rw i at t))
+  to-misplaced (end-record q i) t = end-inside q (inside-test h .0 (rw i at t))
+  to-misplaced (note-record q i) t = absurd (false≢true (rw i at t))
 
-  is-misplaced : Misplaced (kind s at) h → misplaced (current h) (eventAt s at) ≡ true
+  is-misplaced : Misplaced k h → misplaced (current h) e ≡ true
   unfolding misplaced
-  is-misplaced (open-inside k i) = rw (open-event f k) (inside-test h .1 i)
-  is-misplaced (read-outside k o) = rw (read-event f k) (outside-test h .1 o)
-  is-misplaced (write-outside k o) = rw (write-event f k) (outside-test h .1 o)
-  is-misplaced (close-outside k o) = rw (close-event f k) (outside-test h .1 o)
-  is-misplaced (end-inside k i) = rw (end-event f k) (inside-test h .1 i)
+  is-misplaced (open-inside q i) = rw (w .as-open q) (inside-test h .1 i)
+  is-misplaced (read-outside q o) = rw (w .as-read q) (outside-test h .1 o)
+  is-misplaced (write-outside q o) = rw (w .as-write q) (outside-test h .1 o)
+  is-misplaced (close-outside q o) = rw (w .as-close q) (outside-test h .1 o)
+  is-misplaced (end-inside q i) = rw (w .as-end q) (inside-test h .1 i)
+
+  pub misplaced-row : (misplaced (current h) e ≡ true) ↔ Misplaced k h
+  misplaced-row = (to-misplaced (shape-of w), is-misplaced)
 
   -- row 8
-  to-unlawful : Shape s at → unlawful h (eventAt s at) ≡ true → Unlawful (kind s at) (value s at) (status s at) (endNumber s at) h
+  to-unlawful : ShapeOf k s x v c n e → unlawful h e ≡ true → Unlawful k v c n h
   unfolding unlawful
-  to-unlawful (open-record k e) t = absurd (false≢true (rw e at t))
-  to-unlawful (read-record k e) t = absurd (false≢true (rw e at t))
-  to-unlawful (write-record k e) t = written-0 k (eqb-true _ 0 (rw e at t))
-  to-unlawful (close-record k e) t = status-above-1 k (ltb-true 1 _ (rw e at t))
-  to-unlawful (end-record k e) t = end-wrong k (eqb-false _ (txCount h) (not-true _ (rw e at t)))
-  to-unlawful (note-record k e) t = absurd (false≢true (rw e at t))
+  to-unlawful (open-record q i) t = absurd (false≢true (rw i at t))
+  to-unlawful (read-record q i) t = absurd (false≢true (rw i at t))
+  to-unlawful (write-record q i) t = written-0 q (eqb-true _ 0 (rw i at t))
+  to-unlawful (close-record q i) t = status-above-1 q (ltb-true 1 _ (rw i at t))
+  to-unlawful (end-record q i) t = end-wrong q (eqb-false _ (txCount h) (not-true _ (rw i at t)))
+  to-unlawful (note-record q i) t = absurd (false≢true (rw i at t))
 
-  is-unlawful : Unlawful (kind s at) (value s at) (status s at) (endNumber s at) h → unlawful h (eventAt s at) ≡ true
+  is-unlawful : Unlawful k v c n h → unlawful h e ≡ true
   unfolding unlawful
-  is-unlawful (written-0 k z) = rw (write-event f k) (eq-eqb _ 0 z)
-  is-unlawful (status-above-1 k l) = rw (close-event f k) (lt-ltb 1 _ l)
-  is-unlawful (end-wrong k d) = rw (end-event f k) (ap not (ne-eqb _ (txCount h) d))
+  is-unlawful (written-0 q z) = rw (w .as-write q) (eq-eqb _ 0 z)
+  is-unlawful (status-above-1 q l) = rw (w .as-close q) (lt-ltb 1 _ l)
+  is-unlawful (end-wrong q d) = rw (w .as-end q) (ap not (ne-eqb _ (txCount h) d))
+
+  pub unlawful-row : (unlawful h e ≡ true) ↔ Unlawful k v c n h
+  unlawful-row = (to-unlawful (shape-of w), is-unlawful)
 
   -- row 9
-  to-excess : Shape s at → excess h (eventAt s at) ≡ true → Excess (kind s at) h
+  to-excess : ShapeOf k s x v c n e → excess h e ≡ true → Excess k h
   unfolding excess
-  to-excess (open-record k e) t = open-128th k (leb-true 127 (txCount h) (rw e at t))
-  to-excess (read-record k e) t = read-1025th k (leb-true 1024 (opCount h) (rw e at t))
-  to-excess (write-record k e) t = write-1025th k (leb-true 1024 (opCount h) (rw e at t))
-  to-excess (close-record k e) t = absurd (false≢true (rw e at t))
-  to-excess (end-record k e) t = absurd (false≢true (rw e at t))
-  to-excess (note-record k e) t = absurd (false≢true (rw e at t))
+  to-excess (open-record q i) t = open-128th q (leb-true 127 (txCount h) (rw i at t))
+  to-excess (read-record q i) t = read-1025th q (leb-true 1024 (opCount h) (rw i at t))
+  to-excess (write-record q i) t = write-1025th q (leb-true 1024 (opCount h) (rw i at t))
+  to-excess (close-record q i) t = absurd (false≢true (rw i at t))
+  to-excess (end-record q i) t = absurd (false≢true (rw i at t))
+  to-excess (note-record q i) t = absurd (false≢true (rw i at t))
 
-  is-excess : Excess (kind s at) h → excess h (eventAt s at) ≡ true
+  is-excess : Excess k h → excess h e ≡ true
   unfolding excess
-  is-excess (open-128th k l) = rw (open-event f k) (le-leb 127 (txCount h) l)
-  is-excess (read-1025th k l) = rw (read-event f k) (le-leb 1024 (opCount h) l)
-  is-excess (write-1025th k l) = rw (write-event f k) (le-leb 1024 (opCount h) l)
+  is-excess (open-128th q l) = rw (w .as-open q) (le-leb 127 (txCount h) l)
+  is-excess (read-1025th q l) = rw (w .as-read q) (le-leb 1024 (opCount h) l)
+  is-excess (write-1025th q l) = rw (w .as-write q) (le-leb 1024 (opCount h) l)
+
+  pub excess-row : (excess h e ≡ true) ↔ Excess k h
+  excess-row = (to-excess (shape-of w), is-excess)
 
   -- row 10
-  to-repeated : Shape s at → repeats h (eventAt s at) ≡ true → Repeated (kind s at) (key s at) (value s at) h
+  to-repeated : ShapeOf k s x v c n e → repeats h e ≡ true → Repeated k x v h
   unfolding repeats
-  to-repeated (open-record k e) t = absurd (false≢true (rw e at t))
-  to-repeated (read-record k e) t = absurd (false≢true (rw e at t))
-  to-repeated (write-record k e) t = record { writes = k; by = writeOf h (key s at) (value s at); earlier = write-found h _ _ (ltb-true 0 _ (rw e at t)) }
-  to-repeated (close-record k e) t = absurd (false≢true (rw e at t))
-  to-repeated (end-record k e) t = absurd (false≢true (rw e at t))
-  to-repeated (note-record k e) t = absurd (false≢true (rw e at t))
+  to-repeated (open-record q i) t = absurd (false≢true (rw i at t))
+  to-repeated (read-record q i) t = absurd (false≢true (rw i at t))
+  to-repeated (write-record q i) t = record { writes = q; by = writeOf h x v; earlier = write-found h _ _ (ltb-true 0 _ (rw i at t)) }
+  to-repeated (close-record q i) t = absurd (false≢true (rw i at t))
+  to-repeated (end-record q i) t = absurd (false≢true (rw i at t))
+  to-repeated (note-record q i) t = absurd (false≢true (rw i at t))
 
-  is-repeated : Repeated (kind s at) (key s at) (value s at) h → repeats h (eventAt s at) ≡ true
+  is-repeated : Repeated k x v h → repeats h e ≡ true
   unfolding repeats
-  is-repeated r = rw (write-event f (r .writes)) (lt-ltb 0 _ (write-known (r .earlier)))
+  is-repeated r = rw (w .as-write (r .writes)) (lt-ltb 0 _ (write-known (r .earlier)))
+
+  pub repeated-row : (repeats h e ≡ true) ↔ Repeated k x v h
+  repeated-row = (to-repeated (shape-of w), is-repeated)
 
 -- ── the ten rows ──
 
@@ -190,7 +204,7 @@ check-row s st bytesThere p = (ltb-true _ _, lt-ltb _ _)
 check-row s st serialFollows p = serial-test s (st .at) (st .serial)
 check-row s st kindKnown p = kind-test (kind s (st .at))
 check-row s st lengthFits p = let z = is-sized p in length-test (kind s (st .at)) (len s (st .at)) (z .kind-low) (z .kind-high) (z .low)
-check-row s st inPlace p = let f = is-framed p in (to-misplaced f (st .history) (shape f), is-misplaced f (st .history))
-check-row s st valueLawful p = let f = is-framed (λ d l. p d (omega arith)) in (to-unlawful f (st .history) (shape f), is-unlawful f (st .history))
-check-row s st withinLimit p = let f = is-framed (λ d l. p d (omega arith)) in (to-excess f (st .history) (shape f), is-excess f (st .history))
-check-row s st newWrite p = let f = is-framed (λ d l. p d (omega arith)) in (to-repeated f (st .history) (shape f), is-repeated f (st .history))
+check-row s st inPlace p = misplaced-row (kinded (is-framed p)) (st .history)
+check-row s st valueLawful p = unlawful-row (kinded (is-framed (λ d l. p d (omega arith)))) (st .history)
+check-row s st withinLimit p = excess-row (kinded (is-framed (λ d l. p d (omega arith)))) (st .history)
+check-row s st newWrite p = repeated-row (kinded (is-framed (λ d l. p d (omega arith)))) (st .history)

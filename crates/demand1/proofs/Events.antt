@@ -11,6 +11,7 @@ use Rattle.base.specs.Base.{pick}
 use Rattle.rules.specs.Numbers.{le, part}
 use Rattle.rules.specs.Records.{eventOf, eventAt, payloadAt}
 use Rattle.rules.specs.Reading.{State}
+use Rattle.rules.specs.declared.Event.{Event}
 use Rattle.rules.specs.declared.Event.the-variants.{Open, Read, Write, Close, End, Note}
 use Rattle.demand1.specs.Rows.{len, kind, session, key, value, status, endNumber, behind, WrongLength, open-not-8, read-not-18, write-not-18, close-not-7, end-not-8, Check, lengthLow, bytesThere, kindKnown, lengthFits, rank, Fails, Passes}
 
@@ -60,14 +61,29 @@ is-framed p = record { sized = is-sized (λ d l. p d (omega arith)); fits = p le
 pub passes-framed : {s : List ℕ} {st : State} → Passes s st → Framed s (st .at)
 passes-framed p = is-framed (λ c _. p c)
 
--- the record's kind and event
-pub data Shape (s : List ℕ) (at : ℕ) : Type 0 where
-  open-record : kind s at ≡ 1 → eventAt s at ≡ Open (session s at) → Shape s at
-  read-record : kind s at ≡ 2 → eventAt s at ≡ Read (key s at) (value s at) → Shape s at
-  write-record : kind s at ≡ 3 → eventAt s at ≡ Write (key s at) (value s at) → Shape s at
-  close-record : kind s at ≡ 4 → eventAt s at ≡ Close (status s at) → Shape s at
-  end-record : kind s at ≡ 5 → eventAt s at ≡ End (endNumber s at) → Shape s at
-  note-record : kind s at ≡ 6 → eventAt s at ≡ Note → Shape s at
+-- an event by its kind k, where its session, key, value, status and end number would be s, x, v, c and n
+pub data ShapeOf (k s x v c n : ℕ) (e : Event) : Type 0 where
+  open-record : k ≡ 1 → e ≡ Open s → ShapeOf k s x v c n e
+  read-record : k ≡ 2 → e ≡ Read x v → ShapeOf k s x v c n e
+  write-record : k ≡ 3 → e ≡ Write x v → ShapeOf k s x v c n e
+  close-record : k ≡ 4 → e ≡ Close c → ShapeOf k s x v c n e
+  end-record : k ≡ 5 → e ≡ End n → ShapeOf k s x v c n e
+  note-record : k ≡ 6 → e ≡ Note → ShapeOf k s x v c n e
+
+-- the kind is one of the six, and decides
+pub record Kinded (k s x v c n : ℕ) (e : Event) : Type 0 where
+  pub low : 1 ≤ k
+  pub high : k ≤ 6
+  pub as-open : k ≡ 1 → e ≡ Open s
+  pub as-read : k ≡ 2 → e ≡ Read x v
+  pub as-write : k ≡ 3 → e ≡ Write x v
+  pub as-close : k ≡ 4 → e ≡ Close c
+  pub as-end : k ≡ 5 → e ≡ End n
+  pub as-note : k ≡ 6 → e ≡ Note
+
+-- a record's
+abbrev pub Shape : List ℕ → ℕ → Type 0
+Shape s at = ShapeOf (kind s at) (session s at) (key s at) (value s at) (status s at) (endNumber s at) (eventAt s at)
 
 -- a length that fits leaves the table's length; d is how far a field of the payload reaches
 payload : {s : List ℕ} {at : ℕ} → Framed s at → (w i n : ℕ) → len s at ≡ n → 6 + (i + w) ≤ n → le w (payloadAt s at) i ≡ le w s (at + (8 + i))
@@ -87,6 +103,12 @@ same-or {P} a b f g = go (ℕ-discrete a b)
 pub by-kind : {P : Type 0} (k : ℕ) → 1 ≤ k → k ≤ 6 → (k ≡ 1 → P) → (k ≡ 2 → P) → (k ≡ 3 → P) → (k ≡ 4 → P) → (k ≡ 5 → P) → (k ≡ 6 → P) → P
 by-kind k l h p1 p2 p3 p4 p5 p6 =
     same-or k 1 p1 (λ d1. same-or k 2 p2 (λ d2. same-or k 3 p3 (λ d3. same-or k 4 p4 (λ d4. same-or k 5 p5 (λ d5. p6 (omega arith))))))
+
+-- an event has one of the six shapes
+pub shape-of : {k s x v c n : ℕ} {e : Event} → Kinded k s x v c n e → ShapeOf k s x v c n e
+shape-of {k} w =
+    by-kind k (w .low) (w .high) (λ q. open-record q (w .as-open q)) (λ q. read-record q (w .as-read q)) (λ q. write-record q (w .as-write q))
+    (λ q. close-record q (w .as-close q)) (λ q. end-record q (w .as-end q)) (λ q. note-record q (w .as-note q))
 
 -- a number that is not another than b
 pub exactly : (a b : ℕ) → ((a ≡ b → ⊥) → ⊥) → a ≡ b
@@ -122,8 +144,19 @@ module _ {s : List ℕ} {at : ℕ} (f : Framed s at) where
   unfolding eventAt eventOf pick
   note-event k = rw k
 
+  pub kinded : Kinded (kind s at) (session s at) (key s at) (value s at) (status s at) (endNumber s at) (eventAt s at)
+  kinded =
+      record {
+        low = f .sized .kind-low;
+        high = f .sized .kind-high;
+        as-open = open-event;
+        as-read = read-event;
+        as-write = write-event;
+        as-close = close-event;
+        as-end = end-event;
+        as-note = note-event;
+      }
+
   -- a well-framed record has one of the six shapes
   pub shape : Shape s at
-  shape =
-      by-kind (kind s at) (f .sized .kind-low) (f .sized .kind-high) (λ k. open-record k (open-event k)) (λ k. read-record k (read-event k)) (λ k. write-record k (write-event k))
-      (λ k. close-record k (close-event k)) (λ k. end-record k (end-event k)) (λ k. note-record k (note-event k))
+  shape = shape-of kinded

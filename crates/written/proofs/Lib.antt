@@ -8,3 +8,5 @@ pub mod Spelt
 pub mod Retold
 pub mod StepKinds
 pub mod StepBytes
+pub mod Checks
+pub mod Comes

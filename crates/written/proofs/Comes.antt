@@ -58,11 +58,11 @@ module _ (s : List ℕ) (k : ℕ) (h : History) where
     is-taken = taken h (stepAt s (16 * k)) (step-none s k h .1 p)
 
   -- the steps from here on
-  steps-here : HasStep s k → stepsFrom s k ≡ stepAt s (16 * k) ∷ stepsFrom s (k + 1)
+  pub steps-here : HasStep s k → stepsFrom s k ≡ stepAt s (16 * k) ∷ stepsFrom s (k + 1)
   unfolding stepsFrom
   steps-here l = listed-step (λ i. stepAt s (16 * i) ∷ []) k (stepCount s) (omega arith)
 
-  steps-over : NoStep s k → stepsFrom s k ≡ []
+  pub steps-over : NoStep s k → stepsFrom s k ≡ []
   unfolding stepsFrom
   steps-over l = listed-end (λ i. stepAt s (16 * i) ∷ []) k (stepCount s) (omega arith)
 

@@ -10,3 +10,4 @@ pub mod StepKinds
 pub mod StepBytes
 pub mod Checks
 pub mod Comes
+pub mod Declined

@@ -59,7 +59,7 @@ module _ (s : List ℕ) (n : ℕ) (o : List ℕ) where
   -- ── the document's ──
 
   -- each refusal is the definition's
-  declined-is : {m p : ℕ} → WriteDeclines s (length o) m p → written s n o ≡ fill (refusing m p) o
+  pub declined-is : {m p : ℕ} → WriteDeclines s (length o) m p → written s n o ≡ fill (refusing m p) o
   declined-is (bad-step {k} {h} {c} x l f) = written-bad (comes-follow s x ∙ ap (follow h (k + 1)) (steps-here s k h l) ∙ refused)
     where
       no : writeNo h (stepAt s (16 * k)) ≡ numberOf c

@@ -11,3 +11,5 @@ pub mod StepBytes
 pub mod Checks
 pub mod Comes
 pub mod Declined
+pub mod Bytes
+pub mod Writes

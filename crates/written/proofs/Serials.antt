@@ -59,12 +59,13 @@ module _ (n : ℕ) (low : n < 2 ^ 32) (es : List Event) (all : EachNarrow es) wh
   pub records-end : recordAt b (length es) ≡ length b
   records-end = record-place (length es) (omega arith) ∙ rw (take-length es)
 
+-- one more
+pub narrow-last : (es : List Event) (e : Event) → EachNarrow es → Narrow e → EachNarrow (es ++ (e ∷ []))
+narrow-last es e all w k l =
+    ⊎-elim (λ a. rw (List·getD-append es (e ∷ []) Other k a) (all k a))
+    (λ a. let q : k ≡ length es = omega (arith, length-append es (e ∷ [])) in rw (q, getD-append-seam es e [] Other) w) (split k (length es))
+
 -- the steps that have grown fit
 pub grown-narrow : {es : List Event} {h : History} → Grown es h → EachSlim es → EachNarrow es
 grown-narrow grown-none s k l = absurd (omega arith)
-grown-narrow (grown-step {es} e g t) s k l =
-    ⊎-elim (λ a. rw (List·getD-append es (e ∷ []) Other k a) (grown-narrow g (slim-front es e s) k a))
-    (λ a.
-    let q : k ≡ length es = omega (arith, length-append es (e ∷ [])) in
-    rw (q, getD-append-seam es e [] Other) (narrow t (slim-at es e [] s)))
-    (split k (length es))
+grown-narrow (grown-step {es} e g t) s k l = narrow-last es e (λ j m. grown-narrow g (slim-front es e s) j m) (narrow t (slim-at es e [] s)) k l

@@ -10,6 +10,8 @@ pub mod StepKinds
 pub mod StepBytes
 pub mod Checks
 pub mod Comes
+pub mod Fills
 pub mod Declined
 pub mod Bytes
 pub mod Writes
+pub mod Lists

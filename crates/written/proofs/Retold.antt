@@ -32,7 +32,6 @@ record Retold (s : List ℕ) (st : State) : Type 0 where
   pub front : take (st .at) s ≡ recordsOf (serial s 0) (historySteps (st .history))
   pub follows : 0 < st .at → st .serial ≡ serialFrom (serial s 0) (length (historySteps (st .history)))
   pub none : st .at ≡ 0 → historySteps (st .history) ≡ []
-  pub slim : EachSlim (historySteps (st .history))
 
 module _ (s : List ℕ) (b : AllBytes s) where
   abbrev n : ℕ
@@ -61,7 +60,6 @@ module _ (s : List ℕ) (b : AllBytes s) where
         front = rw (at-is, steps) (step-spelt b f t q ∙ rw (r .front, here) (sym (records-more n es e)));
         follows = λ _. rw steps (serial-is ∙ rw here (sym (ap (serialFrom n) (length-append es (e ∷ [])) ∙ serial-next n (length es) (le-below 4 s 4 b))));
         none = λ z. absurd (omega (arith, at-is, f .sized .low));
-        slim = rw steps (slim-more es e (r .slim) (rw q at (slim-event b f)));
       }
     where
       es : List Event
@@ -86,7 +84,7 @@ module _ (s : List ℕ) (b : AllBytes s) where
   unfolding recordsOf trace
   retold start z =
       let e = told grown-none in
-      record { front = rw e refl; follows = λ l. absurd (omega arith); none = λ _. e; slim = rw e slim-none }
+      record { front = rw e refl; follows = λ l. absurd (omega arith); none = λ _. e }
   retold (on {st} {next} rs p nx) z = by (stepped s st p nx) (λ m. retold rs m)
     where
       by : Stepped s st p next → (st .notes ≡ [] → Retold s st) → Retold s next
@@ -94,8 +92,8 @@ module _ (s : List ℕ) (b : AllBytes s) where
       by (by-note _ d) r = absurd (d z)
 
   -- "a trace without notes, read and written again, gives its own bytes"
-  own : {h : History} {notes : List Stretch} → ReadInto s h notes → notes ≡ [] → (traceOf n (historySteps h) h ≡ s) × EachSlim (historySteps h)
-  own (to-the-end {st} l rs p k e) z = (records-more n es (End (txCount (st .history))) ∙ sym (sym (take-length s) ∙ whole), r .slim)
+  own : {h : History} {notes : List Stretch} → ReadInto s h notes → notes ≡ [] → traceOf n (historySteps h) h ≡ s
+  own (to-the-end {st} l rs p k e) z = records-more n es (End (txCount (st .history))) ∙ sym (sym (take-length s) ∙ whole)
     where
       r : Retold s st
       r = retold rs z
@@ -110,7 +108,16 @@ module _ (s : List ℕ) (b : AllBytes s) where
       whole = rw (← e) (end-spelt b (passes-framed p) k ∙ rw (r .front, serial-here p r, number))
 
   pub own-bytes : {h : History} → ReadInto s h [] → traceOf n (historySteps h) h ≡ s
-  own-bytes r = own r refl .0
+  own-bytes r = own r refl
 
-  pub own-slim : {h : History} → ReadInto s h [] → EachSlim (historySteps h)
-  own-slim r = own r refl .1
+  -- the fields of the steps of a trace, also of one with notes, fit
+  slim-reached : {st : State} → Reaches s st → EachSlim (historySteps (st .history))
+  slim-reached start = rw (told grown-none) slim-none
+  slim-reached (on {st} {next} rs p nx) = by (slim-reached rs) (stepped s st p nx)
+    where
+      by : EachSlim (historySteps (st .history)) → Stepped s st p next → EachSlim (historySteps (next .history))
+      by a (by-step e t q i _) = rw (i, told (grown-step e (reached rs) t)) (slim-more (historySteps (st .history)) e a (rw q at (slim-event b (passes-framed p))))
+      by a (by-note i _) = rw i a
+
+  pub slim-read : {h : History} {notes : List Stretch} → ReadInto s h notes → EachSlim (historySteps h)
+  slim-read (to-the-end l rs p k e) = slim-reached rs

@@ -7,24 +7,22 @@ use mathlib.Core.Logic.{_⊎_, inl, inr, ⊎-elim, _↔_}
 use native.Mathlib.Omega.{arith}
 use lib.ListN.{length, getD, length-append, List·getD-append}
 use lib.Seq.{getD-append-seam}
+use Rattle.base.proofs.Tests.{split}
 use Rattle.base.proofs.Searches.{singles-length, singles-at}
-use Rattle.rules.specs.Numbers.{over}
 use Rattle.rules.specs.History.{History, txCount, empty}
 use Rattle.rules.specs.declared.Event.{Event}
 use Rattle.rules.specs.declared.Event.the-variants.{End, Other}
-use Rattle.demand1.specs.Rows.{serial, ReadInto}
+use Rattle.demand1.specs.Rows.{serial, numberOf}
 use Rattle.writing.specs.Filling.{Said, refusing, answering, said, Fill, fill}
 use Rattle.writing.specs.Steps.{stepAt, stepCount, stepsFrom, stepsIn}
-use Rattle.writing.specs.Writing.{good, follow, traceOf, written}
-use Rattle.writing.specs.Listing.{historySteps}
+use Rattle.writing.specs.Writing.{Followed, good, follow, traceOf, written}
 use Rattle.writing.specs.declared.Filled.{Filled}
-use Rattle.writing.specs.declared.Filled.the-variants.{Refused, Length}
 use Rattle.writing.proofs.Grown.{Grown, grown-none, counts}
 use Rattle.writing.proofs.Followed.{followed}
 use Rattle.writing.proofs.Lengths.{trace-length}
 use Rattle.written.specs.Says.{Says}
-use Rattle.written.specs.Declined.{traceLength, WriteDeclines}
-use Rattle.written.specs.Writes.{AllBytes, recordAt, TraceOf, TracePut, Writes}
+use Rattle.written.specs.Declined.{traceLength, WriteDeclines, bad-step, ends-inside, trace-short}
+use Rattle.written.specs.Writes.{AllBytes, recordAt, TraceOf, Writes}
 use Rattle.written.proofs.Records.{Narrow, narrow-end}
 use Rattle.written.proofs.Slim.{EachSlim, slim-steps}
 use Rattle.written.proofs.Readback.{read-back}
@@ -32,7 +30,9 @@ use Rattle.written.proofs.Serials.{EachNarrow, record-serials, record-e
 use Rattle.written.proofs.Says.{says, says-one}
 use Rattle.written.proofs.Bytes.{records-bytes}
 use Rattle.written.proofs.Retold.{own-bytes}
-use Rattle.written.proofs.Declined.{written-fits, declined-is, Comes-out, declining, writing, comes-out, write-declines-iff}
+use Rattle.written.proofs.Declined.{written-fits, declined-is}
+use Rattle.written.proofs.Comes.{Ends, at-step, inside, outside, ends}
+use Rattle.written.proofs.Fills.{Comes-out, declining, putting, declines-iff, fills, fills-one}
 
 -- ── what is written is read ──
 
@@ -71,76 +71,38 @@ module _ (s : List ℕ) (b : AllBytes s) (n : ℕ) (low : n < 2 ^ 32) (h : Histo
 
 -- ── the promise ──
 
-module _ (s : List ℕ) (n : ℕ) (o : List ℕ) where
-  -- any answer and content that the contract admits
-  pub writes : AllBytes s → n < 2 ^ 32 → (r : Filled) (c : List ℕ) → fill (said r) c ≡ written s n o → Writes s n o r c
-  writes b low r c e =
-      record {
-        refused = λ m p. (λ q. write-declines-iff s n o m p .0 (sym answer ∙ q), λ d. answer ∙ write-declines-iff s n o m p .1 d);
-        unchanged = by-refusal (comes-out s n o);
-        wrote = λ m. by-length m (comes-out s n o);
-      }
+module _ (s : List ℕ) (b : AllBytes s) (n : ℕ) (low : n < 2 ^ 32) (o : List ℕ) where
+  abbrev Out : Type 0
+  Out = Comes-out (WriteDeclines s (length o)) (TraceOf s n) o (written s n o) (declined-is s n o)
+
+  out : Out
+  out = by (ends s) refl
     where
-      answer : said r ≡ written s n o .answer
-      answer = ap (λ (x : Fill). x .answer) e
+      by : {f : Followed} → Ends s f → follow empty 1 (stepsIn s) ≡ f → Out
+      by (at-step {k} {c = c} x l f) e = declining (numberOf c) (k + 1) (bad-step x l f)
+      by (inside {k} x l i) e = declining 7 (k + 1) (ends-inside x l i)
+      by (outside {h = h} x l d) e =
+          ⊎-elim (λ m. declining 16 (traceLength h) (trace-short x l d m)) (λ g. putting (traceOf n (stepsIn s) h) (trace-of s b n low h e) (written-fits s n o e g))
+          (split (length o) (traceLength h))
 
-      buffer : c ≡ written s n o .buffer
-      buffer = ap (λ (x : Fill). x .buffer) e
+  -- refused exactly if a step's row or the end's row says so, or, after all of them, the buffer is too short
+  pub write-declines-iff : (m p : ℕ) → (written s n o .answer ≡ refusing m p) ↔ WriteDeclines s (length o) m p
+  write-declines-iff = declines-iff (WriteDeclines s (length o)) (TraceOf s n) o (written s n o) (declined-is s n o) out
 
-      by-refusal : Comes-out s n o → said r .isRefused ≡ true → c ≡ o
-      by-refusal (declining m p d) t = buffer ∙ ap (λ (x : Fill). x .buffer) (declined-is s n o d)
-      by-refusal (writing h f l) t = absurd (true≢false (sym t ∙ ap (λ (x : Said). x .isRefused) answer ∙ ap (λ (x : Fill). x .answer .isRefused) (written-fits s n o f l)))
-
-      by-length : (m : ℕ) → Comes-out s n o → said r ≡ answering m → TracePut s n o c m
-      by-length m (declining a p d) q =
-          absurd (true≢false (sym (ap (λ (x : Fill). x .answer .isRefused) (declined-is s n o d)) ∙ sym (ap (λ (x : Said). x .isRefused) answer) ∙ ap (λ (x : Said). x .isRefused) q))
-      by-length m (writing h f l) q =
-          record {
-            trace = traceOf n (stepsIn s) h;
-            of-steps = trace-of s b n low h f;
-            long = sym (ap (λ (x : Said). x .length) q) ∙ ap (λ (x : Said). x .length) answer ∙ ap (λ (x : Fill). x .answer .length) (written-fits s n o f l)
-                ∙ sym (trace-length n (stepsIn s) 1 h f);
-            is = buffer ∙ ap (λ (x : Fill). x .buffer) (written-fits s n o f l);
-          }
+  -- any answer and content that the contract admits
+  pub writes : (r : Filled) (c : List ℕ) → fill (said r) c ≡ written s n o → Writes s n o r c
+  writes = fills (WriteDeclines s (length o)) (TraceOf s n) o (written s n o) (declined-is s n o) out
 
 -- ── one outcome ──
 
--- an answer is a refusal or a length
-said-cases : (r : Filled) → ((m : ℕ) × (p : ℕ) × (said r ≡ refusing m p)) ⊎ ((m : ℕ) × (said r ≡ answering m))
-unfolding said
-said-cases (Refused m p) = inl (m, p, refl)
-said-cases (Length m) = inr (m, refl)
-
 -- the trace of steps is one
-trace-one : {s : List ℕ} {n : ℕ} {x y : List ℕ} → TraceOf s n x → TraceOf s n y → x ≡ y
+trace-one : {s : List ℕ} {n : ℕ} (x y : List ℕ) → TraceOf s n x → TraceOf s n y → x ≡ y
 unfolding recordAt
-trace-one {s} {n} {x} {y} a b =
+trace-one {s} {n} x y a b =
     let h : a .history ≡ b .history = says-one (a .says) (b .says) in
     let first : serial x 0 ≡ serial y 0 = a .serials 0 (omega arith) ∙ sym (b .serials 0 (omega arith)) in
     sym (own-bytes x (a .is-bytes) (a .reads)) ∙ rw (first, h) (own-bytes y (b .is-bytes) (b .reads))
 
 -- any two outcomes that the promise admits coincide
-module _ {s : List ℕ} {n : ℕ} {o : List ℕ} {r q : Filled} {c d : List ℕ} (x : Writes s n o r c) (y : Writes s n o q d) where
-  both-refused : (m p : ℕ) → said r ≡ refusing m p → (said r ≡ said q) × (c ≡ d)
-  both-refused m p e =
-      let f : said q ≡ refusing m p = y .refused m p .1 (x .refused m p .0 e) in
-      (e ∙ sym f, x .unchanged (ap (λ (a : Said). a .isRefused) e) ∙ sym (y .unchanged (ap (λ (a : Said). a .isRefused) f)))
-
-  both-wrote : (m k : ℕ) → said r ≡ answering m → said q ≡ answering k → (said r ≡ said q) × (c ≡ d)
-  both-wrote m k e f =
-      let u = x .wrote m e in
-      let v = y .wrote k f in
-      let t : u .trace ≡ v .trace = trace-one (u .of-steps) (v .of-steps) in
-      let l : m ≡ k = u .long ∙ ap length t ∙ sym (v .long) in
-      (e ∙ ap answering l ∙ sym f, u .is ∙ ap (λ (a : List ℕ). over a o) t ∙ sym (v .is))
-
-  pub writes-one : (said r ≡ said q) × (c ≡ d)
-  writes-one =
-      ⊎-elim (λ u. both-refused (u .0) (u .1) (u .2))
-      (λ u.
-      ⊎-elim
-      (λ v.
-      let e : said r ≡ refusing (v .0) (v .1) = x .refused (v .0) (v .1) .1 (y .refused (v .0) (v .1) .0 (v .2)) in
-      absurd (false≢true (ap (λ (a : Said). a .isRefused) (sym (u .1) ∙ e))))
-      (λ v. both-wrote (u .0) (v .0) (u .1) (v .1)) (said-cases q))
-      (said-cases r)
+pub writes-one : {s : List ℕ} {n : ℕ} {o : List ℕ} {r q : Filled} {c d : List ℕ} → Writes s n o r c → Writes s n o q d → (said r ≡ said q) × (c ≡ d)
+writes-one x y = fills-one trace-one x y

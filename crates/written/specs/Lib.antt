@@ -1,5 +1,6 @@
 pub mod Steps
 pub mod Says
 pub mod Declined
+pub mod Fills
 pub mod Writes
 pub mod Lists

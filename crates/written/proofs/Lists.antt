@@ -1,0 +1,119 @@
+-- A trace turned into steps, and written again.
+use Prim.Native.Nat.{ℕ, _+_, _*_, _<_, _≤_}
+use mathlib.Core.Path.{_≡_, refl, ap, sym, _∙_}
+use mathlib.Core.List.{List, [], append-nil}
+use mathlib.Core.Logic.{⊎-elim, _↔_}
+use native.Mathlib.Omega.{arith}
+use lib.ListN.{length}
+use Rattle.base.specs.Base.{joined}
+use Rattle.base.proofs.Tests.{split}
+use Rattle.rules.specs.Numbers.{over}
+use Rattle.rules.specs.History.{History, txCount, opCount, empty}
+use Rattle.rules.specs.Reading.{Stretch, Reading, refused, read, reading}
+use Rattle.demand1.specs.Rows.{serial, Refuses, ReadInto}
+use Rattle.demand1.proofs.Readings.{refuses-iff, reads-iff}
+use Rattle.writing.specs.Filling.{refusing, answering, said, content, fill, into}
+use Rattle.writing.specs.Steps.{stepsIn, stepBytes}
+use Rattle.writing.specs.Writing.{Followed, bad, good, follow, traceOf, written}
+use Rattle.writing.specs.Listing.{historySteps, stepsRead, stepped}
+use Rattle.writing.specs.declared.Filled.{Filled}
+use Rattle.writing.proofs.Followed.{grown-follow, follow-end}
+use Rattle.writing.proofs.Listed.{read-grown, listing-length}
+use Rattle.written.specs.Steps.{NoStep, Comes, at-start, one-more}
+use Rattle.written.specs.Declined.{stepsLength, ListDeclines, trace-refused, steps-short}
+use Rattle.written.specs.Writes.{AllBytes}
+use Rattle.written.specs.Lists.{StepsOf, Lists}
+use Rattle.written.proofs.StepBytes.{steps-back}
+use Rattle.written.proofs.Comes.{Ends, at-step, inside, outside, ends}
+use Rattle.written.proofs.Declined.{written-good}
+use Rattle.written.proofs.Fills.{into-short, into-fits, Comes-out, declining, putting, declines-iff, fills}
+use Rattle.written.proofs.Retold.{own-bytes, slim-read}
+
+-- the bytes of a history's steps
+abbrev pub listing : History → List ℕ
+listing h = joined stepBytes (historySteps h)
+
+-- ── what the steps of a trace come to ──
+
+module _ (s : List ℕ) (b : AllBytes s) {h : History} {notes : List Stretch} (r : ReadInto s h notes) where
+  -- they are read back
+  listing-back : stepsIn (listing h) ≡ historySteps h
+  listing-back = steps-back (read-grown r .0) (slim-read s b r)
+
+  -- and followed into the trace's history
+  listing-good : follow empty 1 (stepsIn (listing h)) ≡ good h
+  listing-good =
+      ap (follow empty 1) (listing-back ∙ sym (append-nil (historySteps h))) ∙ grown-follow (read-grown r .0) [] ∙ follow-end h (1 + length (historySteps h)) (read-grown r .1)
+
+  long : length (listing h) ≡ stepsLength h
+  long = listing-length s h notes (reads-iff s h notes .1 r)
+
+  -- no more steps than sixteen bytes each
+  comes-within : {x : List ℕ} {k : ℕ} {g : History} → Comes x k g → 16 * k < length x + 16
+  comes-within at-start = omega arith
+  comes-within (one-more c l p n) = omega arith
+
+  pub steps-of : StepsOf s (listing h)
+  steps-of = record { history = h; notes = notes; reads = r; comes = by (ends (listing h)) listing-good; long = long }
+    where
+      by : {f : Followed} → Ends (listing h) f → f ≡ good h → Comes (listing h) (2 * txCount h + opCount h) h
+      by (at-step c l f) e = let z : _≡_ {A = ℕ} 0 1 = cc in absurd (omega arith)
+      by (inside c l i) e = let z : _≡_ {A = ℕ} 0 1 = cc in absurd (omega arith)
+      by (outside {k} {h = g} c l d) e =
+          let q : g ≡ h = cc in
+          let n : k ≡ 2 * txCount h + opCount h = omega (arith, long, comes-within c) in
+          rw (← n) (rw q at c)
+
+-- ── the definition's cases ──
+
+module _ (s o : List ℕ) where
+  listed-refused : {n p : ℕ} → reading s ≡ refused n p → stepped s o ≡ fill (refusing n p) o
+  unfolding stepped stepsRead into
+  listed-refused e = rw e
+
+  listed-read : {h : History} {notes : List Stretch} → reading s ≡ read h notes → stepped s o ≡ into (content (listing h)) o
+  unfolding stepped stepsRead
+  listed-read e = rw e
+
+  listed-short : {h : History} {notes : List Stretch} → ReadInto s h notes → length o < stepsLength h → stepped s o ≡ fill (refusing 16 (stepsLength h)) o
+  listed-short {h} {notes} r l =
+      let e = reads-iff s h notes .1 r in
+      let n = listing-length s h notes e in
+      listed-read e ∙ into-short (listing h) o (omega arith) ∙ ap (λ (x : ℕ). fill (refusing 16 x) o) n
+
+  listed-fits : {h : History} {notes : List Stretch} → ReadInto s h notes → stepsLength h ≤ length o → stepped s o ≡ fill (answering (length (listing h))) (over (listing h) o)
+  listed-fits {h} {notes} r l =
+      let e = reads-iff s h notes .1 r in
+      let n = listing-length s h notes e in
+      listed-read e ∙ into-fits (listing h) o (omega arith)
+
+  declined-is : (m p : ℕ) → ListDeclines s (length o) m p → stepped s o ≡ fill (refusing m p) o
+  declined-is m p (trace-refused {n} {at} x) = listed-refused (refuses-iff s n at .1 x)
+  declined-is m p (steps-short r l) = listed-short r l
+
+  module _ (b : AllBytes s) where
+    abbrev Out : Type 0
+    Out = Comes-out (ListDeclines s (length o)) (StepsOf s) o (stepped s o) declined-is
+
+    out : Out
+    out = by (reading s) refl
+      where
+        by : (r : Reading) → reading s ≡ r → Out
+        by (refused n p) e = declining n p (trace-refused (refuses-iff s n p .0 e))
+        by (read h notes) e =
+            let r = reads-iff s h notes .0 e in
+            ⊎-elim (λ m. declining 16 (stepsLength h) (steps-short r m)) (λ g. putting (listing h) (steps-of s b r) (listed-fits r g)) (split (length o) (stepsLength h))
+
+    -- refused exactly then
+    pub list-declines-iff : (m p : ℕ) → (stepped s o .answer ≡ refusing m p) ↔ ListDeclines s (length o) m p
+    list-declines-iff = declines-iff (ListDeclines s (length o)) (StepsOf s) o (stepped s o) declined-is out
+
+    -- any answer and content that the contract admits
+    pub lists : (r : Filled) (c : List ℕ) → fill (said r) c ≡ stepped s o → Lists s o r c
+    lists = fills (ListDeclines s (length o)) (StepsOf s) o (stepped s o) declined-is out
+
+-- "a trace without notes, read and written again, gives its own bytes"
+pub rewritten : (s : List ℕ) → AllBytes s → {h : History} → ReadInto s h [] → (o : List ℕ) → written (listing h) (serial s 0) o ≡ into (content s) o
+rewritten s b {h} r o =
+    written-good (listing h) (serial s 0) o (listing-good s b r)
+    ∙ ap (λ (x : List ℕ). into (content x) o) (ap (λ es. traceOf (serial s 0) es h) (listing-back s b r) ∙ own-bytes s b r)

@@ -2,3 +2,4 @@ pub mod Filling
 pub mod Steps
 pub mod Writing
 pub mod Listing
+pub mod Rewriting

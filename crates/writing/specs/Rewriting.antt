@@ -1,0 +1,17 @@
+-- Document 02, request One: "a trace without notes, read and written again, gives its own bytes".
+use Prim.Native.Nat.{ℕ}
+use mathlib.Core.List.{List}
+use lib.ListN.{take}
+use Rattle.base.specs.Base.{pick}
+use Rattle.rules.specs.Records.{serialAt}
+use Rattle.writing.specs.Filling.{Fill, fill}
+use Rattle.writing.specs.Writing.{written}
+use Rattle.writing.specs.Listing.{stepped}
+
+-- what came of the steps of the trace s is written again with the trace's first serial, or its refusal handed on
+unfoldable pub again : List ℕ → Fill → List ℕ → Fill
+again s x out = pick (x .answer .isRefused) (fill (x .answer) out) (written (take (x .answer .length) (x .buffer)) (serialAt s 0) out)
+
+-- the trace s, a lent buffer for its steps that holds x, and one for the trace that holds `out`
+unfoldable pub rewritten : List ℕ → List ℕ → List ℕ → Fill
+rewritten s x out = again s (stepped s x) out

@@ -18,11 +18,6 @@ bytes-more : {w v : ℕ} → w ≡ suc v → (n : ℕ) → bytes w n ≡ (n % 25
 unfolding bytes
 bytes-more e n = rw e
 
--- a number below 256 is its own byte
-pub one-byte : (n : ℕ) → n < 256 → bytes 1 n ≡ n ∷ []
-unfolding bytes
-one-byte n h = let e : n % 256 ≡ n = omega arith in rw e
-
 -- four parts, in the order in which they are put
 pub four-parts : (p q r s : List ℕ) → ((p ++ q) ++ r) ++ s ≡ p ++ (q ++ (r ++ s))
 four-parts p q r s = append-assoc (p ++ q) r s ∙ append-assoc p q (r ++ s)

@@ -1,7 +1,7 @@
 use mathlib.Core.Path.{refl}
 use Rattle.writing.specs.Writing.{itemOf}
-use Rattle.base.proofs.Fill.{appended-then}
-use Rattle.putting.proofs.Putting.{record-says, room, room-first, room-then, room-number}
+use Rattle.base.proofs.Fill.{appended-then, room-in, room-first, room-then}
+use Rattle.putting.proofs.Putting.{record-says, room, room-number}
 use borrow.Author.Needs.{needs}
 use Rattle.putting.proofs.put_record.Statement.{statement}
 use Rattle.putting.proofs.put_record.Tie as tie
@@ -35,7 +35,7 @@ put-payload-requires c κs =
     let first = kind .before .before .before .before in
     let len = first .before in
     let start = len .before .before .before in
-    room-then (third .put-number3 .ensures) (room-then (second .put-number2 .ensures) (room-then (first .put-number .ensures) (room (start .args .out .now) (start .args .at) (record-says _ _ (len .payload-length .ensures .0) (kind .kind-of .ensures)) (start .pre)))) .fits
+    room-in (room-then (third .put-number3 .ensures) (room-then (second .put-number2 .ensures) (room-then (first .put-number .ensures) (room (start .args .out .now) (start .args .at) (record-says _ _ (len .payload-length .ensures .0) (kind .kind-of .ensures)) (start .pre)))))
 
 returns : tie.Need-returns
 returns c =

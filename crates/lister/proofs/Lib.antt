@@ -1,4 +1,3 @@
-pub mod Backwards
 pub mod Words
 pub mod Steps
 pub mod Call

@@ -18,17 +18,17 @@ use Rattle.writing.specs.Writing.{bad, good, follow, traceOf, wrote, written}
 use Rattle.writing.proofs.Lengths.{trace-length}
 use Rattle.maker.specs.declared.Course.{Course}
 use Rattle.maker.specs.declared.Course.the-variants.{Good, Bad}
-use Rattle.maker.specs.Maker.{cameTo, Came, Makes}
+use Rattle.maker.specs.Maker.{followedAs, FollowedInto, Makes}
 
 -- the answer to following the steps, by its cases
-module _ {r : Course} {g s : List ℕ} (x : Came r g s) where
-  pub came-bad : {n p : ℕ} → r ≡ Bad n p → follow empty 1 (stepsIn s) ≡ bad n p
-  unfolding cameTo
-  came-bad q = x .is ∙ rw q
+module _ {r : Course} {g s : List ℕ} (x : FollowedInto r g s) where
+  pub followed-bad : {n p : ℕ} → r ≡ Bad n p → follow empty 1 (stepsIn s) ≡ bad n p
+  unfolding followedAs
+  followed-bad q = x .is ∙ rw q
 
-  pub came-good : r ≡ Good → Makes g s
-  unfolding cameTo
-  came-good q = record { is = x .is ∙ rw q; held = x .held }
+  pub followed-good : r ≡ Good → Makes g s
+  unfolding followedAs
+  followed-good q = record { is = x .is ∙ rw q; held = x .held }
 
 module _ (s : List ℕ) (n : ℕ) (out : List ℕ) where
   pub written-bad : {m p : ℕ} → follow empty 1 (stepsIn s) ≡ bad m p → fill (refusing m p) out ≡ written s n out

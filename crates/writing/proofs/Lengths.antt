@@ -32,10 +32,13 @@ pub records-first : (n : ℕ) (e : Event) (es : List Event) → recordsOf n (e �
 unfolding recordsOf trace
 records-first n e es = refl
 
--- one more
-pub records-more : (n : ℕ) (es : List Event) (e : Event) → recordsOf n (es ++ (e ∷ [])) ≡ recordsOf n es ++ recordOf (serialFrom n (length es)) (itemOf e)
+-- one alone; one more
+pub records-one : (n : ℕ) (e : Event) → recordsOf n (e ∷ []) ≡ recordOf n (itemOf e)
 unfolding recordsOf
-records-more n es e = records-append n es (e ∷ []) ∙ rw (trace-one (serialFrom n (length es)) (itemOf e))
+records-one n e = trace-one n (itemOf e)
+
+pub records-more : (n : ℕ) (es : List Event) (e : Event) → recordsOf n (es ++ (e ∷ [])) ≡ recordsOf n es ++ recordOf (serialFrom n (length es)) (itemOf e)
+records-more n es e = records-append n es (e ∷ []) ∙ rw (records-one (serialFrom n (length es)) e)
 
 -- .. by so many bytes
 pub records-length : (n : ℕ) (es : List Event) (e : Event) → length (recordsOf n (es ++ (e ∷ []))) ≡ length (recordsOf n es) + (8 + length (itemOf e .payload))

@@ -1,6 +1,6 @@
 use Prim.Native.Nat.{_-_}
 use native.Mathlib.Omega.{arith}
-use Rattle.maker.specs.Maker.{cameTo}
+use Rattle.maker.specs.Maker.{followedAs}
 use Rattle.maker.proofs.Following.{Following, following-first, following-bad, following-more, following-open, following-good}
 use borrow.Author.Needs.{needs}
 use Rattle.maker.proofs.follow_steps.Statement.{statement}
@@ -19,7 +19,7 @@ same-length c =
     omega (arith, entry .enter .ensures .held .room, start .pre)
 
 returns : tie.Need-returns Inv-loop μ-loop
-unfolding cameTo
+unfolding followedAs
 returns c =
     let entry = c .before .before .before in
     let step = entry .before .before in
@@ -47,7 +47,7 @@ same-length-2 c =
     omega (arith, last .end-no .ensures .held .room, start .pre)
 
 returns-2 : tie.Need-returns-2 Inv-loop μ-loop
-unfolding cameTo
+unfolding followedAs
 returns-2 c =
     let last = c .before .before .before in
     let test = last .before .before in
@@ -62,7 +62,7 @@ same-length-3 c =
     omega (arith, last .end-no .ensures .held .room, start .pre)
 
 returns-3 : tie.Need-returns-3 Inv-loop μ-loop
-unfolding cameTo
+unfolding followedAs
 returns-3 c =
     let last = c .before .before .before in
     let test = last .before .before in

@@ -1,6 +1,6 @@
 use mathlib.Core.Path.{refl}
-use Rattle.base.proofs.Fill.{appended-then}
-use Rattle.putting.proofs.Putting.{room, room-first, room-then, room-number}
+use Rattle.base.proofs.Fill.{appended-then, room-first, room-then}
+use Rattle.putting.proofs.Putting.{room, room-number}
 use borrow.Author.Needs.{needs}
 use Rattle.putting.proofs.put_pair.Statement.{statement}
 use Rattle.putting.proofs.put_pair.Tie as tie

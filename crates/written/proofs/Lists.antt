@@ -4,8 +4,9 @@ use mathlib.Core.Path.{_≡_, refl, ap, sym, _∙_}
 use mathlib.Core.List.{List, [], append-nil}
 use mathlib.Core.Logic.{⊎-elim, _↔_}
 use native.Mathlib.Omega.{arith}
-use lib.ListN.{length}
-use Rattle.base.specs.Base.{joined}
+use lib.ListN.{length, take, drop}
+use lib.Seq.{take-append-seam}
+use Rattle.base.specs.Base.{pick, joined}
 use Rattle.base.proofs.Tests.{split}
 use Rattle.rules.specs.Numbers.{over}
 use Rattle.rules.specs.History.{History, txCount, opCount, empty}
@@ -16,6 +17,7 @@ use Rattle.writing.specs.Filling.{refusing, answering, said, content, fill, int
 use Rattle.writing.specs.Steps.{stepsIn, stepBytes}
 use Rattle.writing.specs.Writing.{Followed, bad, good, follow, traceOf, written}
 use Rattle.writing.specs.Listing.{historySteps, stepsRead, stepped}
+use Rattle.writing.specs.Rewriting.{again, rewritten}
 use Rattle.writing.specs.declared.Filled.{Filled}
 use Rattle.writing.proofs.Followed.{grown-follow, follow-end}
 use Rattle.writing.proofs.Listed.{read-grown, listing-length}
@@ -112,8 +114,22 @@ module _ (s o : List ℕ) where
     pub lists : (r : Filled) (c : List ℕ) → fill (said r) c ≡ stepped s o → Lists s o r c
     lists = fills (ListDeclines s (length o)) (StepsOf s) o (stepped s o) declined-is out
 
--- "a trace without notes, read and written again, gives its own bytes"
-pub rewritten : (s : List ℕ) → AllBytes s → {h : History} → ReadInto s h [] → (o : List ℕ) → written (listing h) (serial s 0) o ≡ into (content s) o
-rewritten s b {h} r o =
+-- ── written again ──
+
+-- the steps of a trace without notes are written as its own bytes
+written-again : (s : List ℕ) → AllBytes s → {h : History} → ReadInto s h [] → (o : List ℕ) → written (listing h) (serial s 0) o ≡ into (content s) o
+written-again s b {h} r o =
     written-good (listing h) (serial s 0) o (listing-good s b r)
     ∙ ap (λ (x : List ℕ). into (content x) o) (ap (λ es. traceOf (serial s 0) es h) (listing-back s b r) ∙ own-bytes s b r)
+
+-- what was put at the front
+front : (l x : List ℕ) → take (length l) (over l x) ≡ l
+unfolding over
+front l x = take-append-seam l (drop (length l) x)
+
+-- "a trace without notes, read and written again, gives its own bytes": where both buffers have room
+pub own-again : (s : List ℕ) → AllBytes s → {h : History} → ReadInto s h [] → (x o : List ℕ) → stepsLength h ≤ length x → length s ≤ length o
+    → rewritten s x o ≡ fill (answering (length s)) (over s o)
+unfolding rewritten again pick
+own-again s b {h} r x o l m =
+    rw (listed-fits s x r l, front (listing h) x) (written-again s b r o ∙ into-fits s o m)

@@ -1,7 +1,7 @@
 -- Laws of bytes as numbers, and of bytes that are written over others.
 use Prim.Native.Nat.{ℕ, zero, suc, _+_, _*_, _/_, _%_, _^_, _<_, _≤_}
 use mathlib.Core.Path.{_≡_, refl, ap, sym, _∙_}
-use mathlib.Core.List.{List, [], _∷_, _++_, append-nil}
+use mathlib.Core.List.{List, [], _∷_, _++_, append-assoc, append-nil}
 use native.Mathlib.Omega.{arith}
 use native.Mathlib.Numerals.{add-one, unary-clauses}
 use lib.ListN.{length, getD, take, drop}
@@ -48,6 +48,13 @@ spelt (suc w) s at b l =
     let e : at + suc w ≡ at + 1 + w = omega arith in
     let t : take (at + 1) s ≡ take at s ++ (x ∷ []) = rw (add-one at) (take-suc s at 0 (omega arith)) in
     rw (q, r, e) (spelt w s (at + 1) b (omega arith) ∙ rw t (append-snoc (take at s) x (bytes w m)))
+
+-- .. and of the next one
+pub spelt-on : (s : List ℕ) → ((i : ℕ) → getD s i 0 < 256) → (at w i : ℕ) (xs : List ℕ) → at + (i + w) ≤ length s → take (at + i) s ≡ take at s ++ xs
+    → take (at + (i + w)) s ≡ take at s ++ (xs ++ bytes w (le w s (at + i)))
+spelt-on s b at w i xs l e =
+    let n : at + (i + w) ≡ at + i + w = omega arith in
+    rw n (spelt w s (at + i) b (omega arith) ∙ rw e (append-assoc (take at s) xs (bytes w (le w s (at + i)))))
 
 -- ── buffers ──
 

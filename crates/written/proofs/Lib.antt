@@ -14,4 +14,5 @@ pub mod Fills
 pub mod Declined
 pub mod Bytes
 pub mod Writes
+pub mod Unused
 pub mod Lists

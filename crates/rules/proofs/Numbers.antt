@@ -5,7 +5,7 @@ use mathlib.Core.List.{List, [], _∷_, _++_, append-assoc, append-nil}
 use native.Mathlib.Omega.{arith}
 use native.Mathlib.Numerals.{add-one, unary-clauses}
 use lib.ListN.{length, getD, take, drop}
-use lib.Seq.{getD-append-add, take-suc, append-snoc}
+use lib.Seq.{getD-append-add, getD-take, take-suc, append-snoc}
 use Rattle.base.proofs.Fill.{Appended}
 use Rattle.rules.specs.Numbers.{le, bytes, over}
 
@@ -23,6 +23,12 @@ unfolding le
 le-behind zero xs s i = refl
 le-behind (suc w) xs s i =
     let e : length xs + i + 1 ≡ length xs + (i + 1) = omega arith in rw (getD-append-add xs s i 0, e, le-behind w xs s (i + 1))
+
+-- what stands behind does not count
+pub le-take : (w i m : ℕ) (s : List ℕ) → i + w ≤ m → le w (take m s) i ≡ le w s i
+unfolding le
+le-take zero i m s l = refl
+le-take (suc w) i m s l = rw (getD-take m s i 0 (omega arith), le-take w (i + 1) m s (omega arith))
 
 -- the bytes of a number spell it
 pub le-bytes : (w n : ℕ) (s : List ℕ) → n < 256 ^ w → le w (bytes w n ++ s) 0 ≡ n

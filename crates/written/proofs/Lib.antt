@@ -16,3 +16,4 @@ pub mod Bytes
 pub mod Writes
 pub mod Unused
 pub mod Lists
+pub mod Enough

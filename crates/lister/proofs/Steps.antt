@@ -1,11 +1,10 @@
 -- The bytes of a history's steps, from the last one down.
 use Prim.Native.Nat.{ℕ, _+_, _-_, _<_, _≤_}
 use mathlib.Core.Path.{_≡_, refl, ap, sym, _∙_}
-use mathlib.Core.Bool.{true, false, true≢false}
+use mathlib.Core.Bool.{true, false}
 use mathlib.Core.Logic.{⊎-elim}
 use mathlib.Core.List.{List, [], _∷_, _++_, append-assoc}
 use native.Mathlib.Omega.{arith}
-use lib.ListN.{length}
 use lib.Dec.{eqb}
 use borrow.Author.Tests.{eq-eqb}
 use Rattle.base.specs.Base.{last, listed, joined}
@@ -14,27 +13,16 @@ use Rattle.base.proofs.Searches.{listed-more, listed-none, listed-end, joined-a
 use Rattle.base.proofs.Chains.{last-le, last-less, last-none}
 use Rattle.base.proofs.Fill.{Appended, appended-before, Room, room-second, room-before, Back, back-start, back-room, back-step, back-end}
 use Rattle.rules.specs.History.{History, Op, tx, op, opCount, size, isOpen}
-use Rattle.rules.specs.Numbers.{bytes}
 use Rattle.rules.specs.declared.Event.{Event}
-use Rattle.rules.specs.declared.Event.the-variants.{Open, Read, Write, Close, End, Note, Other}
+use Rattle.rules.specs.declared.Event.the-variants.{Open, Read, Write, Close}
 use Rattle.table.specs.Table.{ofTx, lastOf, prevOf, Below}
 use Rattle.table.proofs.Chain.{OnChain, chain-last, chain-prev, sought-last, sought-prev}
-use Rattle.writing.specs.Steps.{fieldBytes, stepBytes}
+use Rattle.writing.specs.Steps.{stepBytes}
 use Rattle.writing.specs.Writing.{isNoStep}
 use Rattle.writing.specs.Listing.{opStep, opStepOf, closeStep, txSteps, historySteps}
 use Rattle.lister.specs.Lister.{opsBytes, txBytes, txsBytes, allBytes}
 
--- ── a step has sixteen bytes ──
-
-pub step-length : (e : Event) → isNoStep e ≡ false → length (stepBytes e) ≡ 16
-unfolding isNoStep stepBytes fieldBytes bytes
-step-length (Open s) n = refl
-step-length (Read x v) n = refl
-step-length (Write x v) n = refl
-step-length (Close c) n = refl
-step-length (End m) n = absurd (true≢false n)
-step-length Note n = absurd (true≢false n)
-step-length Other n = absurd (true≢false n)
+-- ── a step ──
 
 -- an operation's, which is a write or a read
 module _ (o : Op) where

@@ -22,7 +22,7 @@ use Rattle.writing.specs.Writing.{isNoStep, writeRows, writeNo, endNo, bad, goo
 use Rattle.writing.proofs.Rows.{taken}
 use Rattle.writing.proofs.Followed.{follow-bad, follow-on}
 use Rattle.maker.specs.Maker.{numberIn, Entered, Ended}
-use Rattle.maker.proofs.Steps.{steps-step, steps-end}
+use Rattle.writing.proofs.Steps.{steps-step, steps-end}
 
 -- ── one step ──
 

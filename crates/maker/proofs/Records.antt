@@ -12,7 +12,7 @@ use Rattle.rules.specs.declared.Event.the-variants.{End}
 use Rattle.writing.specs.Steps.{stepCount, stepAt, stepsFrom, stepsIn}
 use Rattle.writing.specs.Writing.{itemOf, recordsOf, traceOf}
 use Rattle.writing.proofs.Lengths.{records-first, records-one}
-use Rattle.maker.proofs.Steps.{steps-step, steps-end}
+use Rattle.writing.proofs.Steps.{steps-step, steps-end}
 
 -- a loop that puts the trace of the steps s, from serial n on, whose history is g: it has come to step k and to `at` in the buffer, and its next serial is m
 pub record Writing (o s : List ℕ) (n : ℕ) (g : History) (b : List ℕ) (m at k : ℕ) : Type 0 where

@@ -9,7 +9,7 @@ use lib.Dec.{eqb}
 use borrow.Author.Tests.{eq-eqb}
 use Rattle.base.specs.Base.{last, listed, joined}
 use Rattle.base.proofs.Tests.{ifso, split, pick-on, pick-off}
-use Rattle.base.proofs.Searches.{listed-more, listed-none, listed-end, joined-append, joined-one, joined-none}
+use Rattle.base.proofs.Searches.{listed-more, listed-below, listed-end, joined-append, joined-one, joined-none}
 use Rattle.base.proofs.Chains.{last-le, last-less, last-none}
 use Rattle.base.proofs.Fill.{Appended, appended-before, Room, room-second, room-before, Back, back-start, back-room, back-step, back-end}
 use Rattle.rules.specs.History.{History, Op, tx, op, opCount, size, isOpen}
@@ -64,7 +64,7 @@ module _ (h : History) (t : ℕ) where
       ap (joined stepBytes)
       (⊎-elim
       (λ l.
-      listed-none (opStepOf h t) n (last (ofTx h t) n + 1) 1 (omega arith) (omega (arith, last-less (ofTx h t) n l)) (λ i g b. op-other i (last-none (ofTx h t) n i (omega arith) b)))
+      listed-below (opStepOf h t) n (last (ofTx h t) n + 1) 1 (omega arith) (omega (arith, last-less (ofTx h t) n l)) (λ i g b. op-other i (last-none (ofTx h t) n i (omega arith) b)))
       (λ g. listed-end (opStepOf h t) 1 n (omega arith) ∙ sym (listed-end (opStepOf h t) 1 (last (ofTx h t) n + 1) (omega (arith, last-le (ofTx h t) n))))
       (split 0 n))
 

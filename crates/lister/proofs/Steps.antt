@@ -1,38 +1,28 @@
 -- The bytes of a history's steps, from the last one down.
-use Prim.Native.Nat.{ℕ, zero, suc, _+_, _-_, _<_, _≤_}
-use mathlib.Core.Path.{_≡_, refl, ap, _∙_}
-use mathlib.Core.Bool.{true, false, true≢false}
+use Prim.Native.Nat.{ℕ, _+_, _-_, _<_, _≤_}
+use mathlib.Core.Path.{_≡_, refl, ap, sym, _∙_}
+use mathlib.Core.Bool.{true, false}
+use mathlib.Core.Logic.{⊎-elim}
 use mathlib.Core.List.{List, [], _∷_, _++_, append-assoc}
 use native.Mathlib.Omega.{arith}
-use lib.ListN.{length, length-append}
 use lib.Dec.{eqb}
-use borrow.Author.Tests.{eqb-true, eq-eqb}
-use Rattle.base.specs.Base.{listed, joined}
-use Rattle.base.proofs.Tests.{ifso, pick-on, pick-off}
-use Rattle.base.proofs.Searches.{listed-more, listed-none, listed-end, joined-append, joined-one, joined-none}
-use Rattle.base.proofs.Chains.{last-passes, last-less, last-none}
+use borrow.Author.Tests.{eq-eqb}
+use Rattle.base.specs.Base.{last, listed, joined}
+use Rattle.base.proofs.Tests.{ifso, split, pick-on, pick-off}
+use Rattle.base.proofs.Searches.{listed-more, listed-below, listed-end, joined-append, joined-one, joined-none}
+use Rattle.base.proofs.Chains.{last-le, last-less, last-none}
 use Rattle.base.proofs.Fill.{Appended, appended-before, Room, room-second, room-before, Back, back-start, back-room, back-step, back-end}
 use Rattle.rules.specs.History.{History, Op, tx, op, opCount, size, isOpen}
-use Rattle.rules.specs.Numbers.{bytes}
 use Rattle.rules.specs.declared.Event.{Event}
-use Rattle.rules.specs.declared.Event.the-variants.{Open, Read, Write, Close, End, Note, Other}
-use Rattle.table.specs.Table.{ofTx, lastBelow, lastOf, prevOf, Below}
-use Rattle.writing.specs.Steps.{fieldBytes, stepBytes}
+use Rattle.rules.specs.declared.Event.the-variants.{Open, Read, Write, Close}
+use Rattle.table.specs.Table.{ofTx, lastOf, prevOf, Below}
+use Rattle.table.proofs.Chain.{OnChain, chain-last, chain-prev, sought-last, sought-prev}
+use Rattle.writing.specs.Steps.{stepBytes}
 use Rattle.writing.specs.Writing.{isNoStep}
 use Rattle.writing.specs.Listing.{opStep, opStepOf, closeStep, txSteps, historySteps}
 use Rattle.lister.specs.Lister.{opsBytes, txBytes, txsBytes, allBytes}
 
--- ── a step has sixteen bytes ──
-
-pub step-length : (e : Event) → isNoStep e ≡ false → length (stepBytes e) ≡ 16
-unfolding isNoStep stepBytes fieldBytes bytes
-step-length (Open s) n = refl
-step-length (Read x v) n = refl
-step-length (Write x v) n = refl
-step-length (Close c) n = refl
-step-length (End m) n = absurd (true≢false n)
-step-length Note n = absurd (true≢false n)
-step-length Other n = absurd (true≢false n)
+-- ── a step ──
 
 -- an operation's, which is a write or a read
 module _ (o : Op) where
@@ -68,47 +58,38 @@ module _ (h : History) (t : ℕ) where
       ∙ rw (joined-one stepBytes (opStep (op h i)))
 
   -- those below n are those up to the last of them
-  ops-below : {n r : ℕ} → 1 ≤ n → r ≡ lastBelow h t n → opsBytes h t n ≡ opsBytes h t (r + 1)
-  unfolding opsBytes lastBelow
-  ops-below {n} {r} a e =
-      let l : r < n = omega (arith, e, last-less (ofTx h t) n a) in
+  ops-chain : (n : ℕ) → opsBytes h t n ≡ opsBytes h t (last (ofTx h t) n + 1)
+  unfolding opsBytes
+  ops-chain n =
       ap (joined stepBytes)
-      (listed-none (opStepOf h t) n (r + 1) 1 (omega arith) (omega arith) (λ i g b. op-other i (last-none (ofTx h t) n i (omega (arith, e)) b)))
+      (⊎-elim
+      (λ l.
+      listed-below (opStepOf h t) n (last (ofTx h t) n + 1) 1 (omega arith) (omega (arith, last-less (ofTx h t) n l)) (λ i g b. op-other i (last-none (ofTx h t) n i (omega arith) b)))
+      (λ g. listed-end (opStepOf h t) 1 n (omega arith) ∙ sym (listed-end (opStepOf h t) 1 (last (ofTx h t) n + 1) (omega (arith, last-le (ofTx h t) n))))
+      (split 0 n))
 
   ops-none : {i : ℕ} → i ≤ 0 → opsBytes h t (i + 1) ≡ []
   unfolding opsBytes
   ops-none {i} l = ap (joined stepBytes) (listed-end (opStepOf h t) 1 (i + 1) (omega arith)) ∙ joined-none stepBytes
 
--- a loop that puts them into o before e has come to operation i, and to `at` in the buffer: those up to i are left. At 0 there are no more
+-- a loop that puts them into o before e has come to operation i, and to `at` in the buffer: those up to i are left
 pub record OpsLeft (h : History) (t : ℕ) (o : List ℕ) (e : ℕ) (b : List ℕ) (at i : ℕ) : Type 0 where
-  pub to : i ≤ opCount h
-  pub of : 0 < i → op h i .tx ≡ t
+  pub on : OnChain h t i
   pub back : Back o e (opsBytes h t (opCount h + 1)) b at (opsBytes h t (i + 1))
 
 module _ {h : History} {t : ℕ} {o : List ℕ} {e : ℕ} where
-  -- those below n are left
-  left-below : {n i : ℕ} {b : List ℕ} {at : ℕ} → 1 ≤ n → n ≤ opCount h + 1 → i ≡ lastBelow h t n
-      → Back o e (opsBytes h t (opCount h + 1)) b at (opsBytes h t n) → OpsLeft h t o e b at i
-  unfolding lastBelow ofTx
-  left-below {n} {i} a l q x =
-      record {
-        to = omega (arith, q, last-less (ofTx h t) n a);
-        of = λ z. eqb-true _ _ (rw (← q) at (last-passes (ofTx h t) n (omega (arith, q)) .0));
-        back = rw (← ops-below h t a q) x;
-      }
-
   pub ops-start : {r : ℕ} → Room o 0 e (opsBytes h t (opCount h + 1)) → Below r (lastOf h t) (opCount h + 1) → OpsLeft h t o e o e r
-  unfolding lastOf
-  ops-start x b = left-below (omega arith) (omega arith) (b .is) (back-start _ (x .within))
+  ops-start x b =
+      record { on = chain-last b; back = rw (← sought-last h t (opsBytes h t) (ops-chain h t) b) (back-start (opsBytes h t (opCount h + 1)) (x .within)) }
 
   module _ {b : List ℕ} {at i : ℕ} (x : OpsLeft h t o e b at i) where
     pub op-room : 0 < i → Room o 0 e (opsBytes h t (opCount h + 1)) → Room b 0 at (stepBytes (opStep (op h i)))
-    op-room l w = room-second (opsBytes h t i) _ (rw (op-top h t l (x .of l)) at (back-room (x .back) w))
+    op-room l w = room-second (opsBytes h t i) _ (rw (op-top h t l (x .on .of l)) at (back-room (x .back) w))
 
     pub ops-next : {c : List ℕ} {q r : ℕ} → 0 < i → Appended b q c at (stepBytes (opStep (op h i))) → Below r (prevOf h i) i → OpsLeft h t o e c q r
-    unfolding prevOf
     ops-next l y b =
-        left-below l (omega (arith, x .to)) (rw (x .of l) at (b .is)) (back-step (x .back) (opsBytes h t i) (op-top h t l (x .of l)) y)
+        let of = x .on .of l in
+        record { on = chain-prev (x .on) l b; back = back-step (x .back) _ (op-top h t l of ∙ ap (λ (k : List ℕ). k ++ stepBytes (opStep (op h i))) (sought-prev h t (opsBytes h t) (ops-chain h t) of b)) y }
 
     pub ops-end : i ≤ 0 → Appended o at b e (opsBytes h t (opCount h + 1))
     ops-end l = back-end (x .back) (ops-none h t l)

@@ -32,8 +32,8 @@ fields-say kind second key value = four-parts (bytes 2 kind) (bytes 2 second) (b
 -- ── room ──
 
 -- for parts that are known otherwise
-pub room : (o : List ℕ) (at : ℕ) {xs ys : List ℕ} → xs ≡ ys → at + length xs ≤ length o → Room o at (length o) ys
-room o at {xs = xs} e h = rw (← e) (room-from xs h)
+pub room-as : (o : List ℕ) (at : ℕ) {xs ys : List ℕ} → xs ≡ ys → at + length xs ≤ length o → Room o at (length o) ys
+room-as o at {xs = xs} e h = rw (← e) (room-from xs h)
 
 -- for a number
 pub room-number : {o : List ℕ} {at e : ℕ} (w n : ℕ) → Room o at e (bytes w n) → at + w ≤ length o

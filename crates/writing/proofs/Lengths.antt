@@ -1,6 +1,6 @@
 -- How long a trace is that is written.
 use Prim.Native.Nat.{ℕ, _+_, _*_, _%_, _^_}
-use mathlib.Core.Path.{_≡_, refl, ap, sym, _∙_}
+use mathlib.Core.Path.{_≡_, refl, ap, _∙_}
 use mathlib.Core.Bool.{true, false}
 use mathlib.Core.List.{List, [], _∷_, _++_, map}
 use native.Mathlib.Omega.{arith}
@@ -8,7 +8,7 @@ use lib.ListN.{length, length-append, length-map}
 use Rattle.rules.specs.Numbers.{bytes}
 use Rattle.rules.specs.History.{History, Op, txCount, opCount, current, empty, opened, closed, withOp}
 use Rattle.rules.specs.Reading.{entered}
-use Rattle.rules.specs.Traces.{Item, recordOf, trace}
+use Rattle.rules.specs.Traces.{recordOf, trace}
 use Rattle.rules.specs.declared.Event.{Event}
 use Rattle.rules.specs.declared.Event.the-variants.{Open, Read, Write, Close, End}
 use Rattle.rules.proofs.Traces.{record-length, serialFrom, trace-one, trace-append}

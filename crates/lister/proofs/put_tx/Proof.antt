@@ -2,7 +2,7 @@ use mathlib.Core.Path.{refl}
 use native.Mathlib.Omega.{arith}
 use borrow.Author.Needs.{needs}
 use Rattle.writing.specs.Writing.{isNoStep}
-use Rattle.lister.proofs.Words.{session-small, status-small}
+use Rattle.table.proofs.Words.{session-small, status-small}
 use Rattle.lister.proofs.Steps.{close-room, ops-room, open-room, tx-put}
 use Rattle.lister.proofs.put_tx.Statement.{statement}
 use Rattle.lister.proofs.put_tx.Tie as tie
@@ -48,9 +48,9 @@ put-tx-spec =
     tie.close
     (tie.spec
     (λ c κs. search needs)
-    (λ c. omega (arith, c .status-of .ensures, status-small (c .before .before .before .pre .0)))
+    (λ c. omega (arith, c .status-of .ensures, status-small _ _ (c .before .before .before .pre .0)))
     (λ c κs. search needs)
-    (λ c. omega (arith, c .session-of .ensures, session-small (c .before .before .before .before .pre .0)))
+    (λ c. omega (arith, c .session-of .ensures, session-small _ _ (c .before .before .before .before .pre .0)))
     put-before-requires
     put-ops-requires
     put-before-requires-2

@@ -1,4 +1,3 @@
-use Rattle.writing.specs.Filling.{said}
 use Rattle.maker.proofs.Call.{followed-bad, followed-good, written-bad}
 use borrow.Author.Needs.{needs}
 use Rattle.maker.proofs.write_trace.Statement.{statement}
@@ -11,7 +10,6 @@ put-whole-requires c κs =
     followed-good (followed .follow-steps .ensures) (e .enum-told .given .1)
 
 returns : tie.Need-returns
-unfolding said
 returns c =
     let told = c .before in
     let followed = told .before .before .before in

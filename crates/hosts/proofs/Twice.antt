@@ -1,6 +1,6 @@
 -- Two calls that the contract admits coincide.
 use Prim.Native.Nat.{ℕ}
-use mathlib.Core.Path.{_≡_, refl, ap, sym, _∙_}
+use mathlib.Core.Path.{_≡_, ap, sym, _∙_}
 use mathlib.Core.Bool.{true≢false, false≢true}
 use mathlib.Core.List.{List}
 use Rattle.writing.specs.Filling.{Said, Fill, fill, said}

@@ -1,7 +1,7 @@
 -- What is written is bytes.
-use Prim.Native.Nat.{ℕ, zero, suc, _+_, _-_, _/_, _%_, _^_, _<_, _≤_}
+use Prim.Native.Nat.{ℕ, zero, suc, _+_, _-_, _/_, _%_, _^_, _≤_}
 use mathlib.Core.Path.{_≡_, ap, _∙_}
-use mathlib.Core.List.{List, [], _∷_, _++_, map}
+use mathlib.Core.List.{List, [], _∷_, _++_}
 use mathlib.Core.Logic.{⊎-elim}
 use native.Mathlib.Omega.{arith}
 use lib.ListN.{length, getD, List·getD-append}
@@ -9,7 +9,7 @@ use lib.Seq.{getD-append-add}
 use Rattle.base.specs.Base.{joined}
 use Rattle.base.proofs.Tests.{split}
 use Rattle.rules.specs.Numbers.{bytes}
-use Rattle.rules.specs.Traces.{Item, raw, recordOf, trace}
+use Rattle.rules.specs.Traces.{raw, recordOf, trace}
 use Rattle.rules.specs.declared.Event.{Event}
 use Rattle.rules.specs.declared.Event.the-variants.{Open, Read, Write, Close, End, Note, Other}
 use Rattle.writing.specs.Steps.{fieldBytes, stepBytes}

@@ -1,5 +1,5 @@
 -- Following a sequence comes as far as its steps pass, and ends as the document says.
-use Prim.Native.Nat.{ℕ, zero, suc, _+_, _*_, _/_, _<_, _≤_}
+use Prim.Native.Nat.{ℕ, zero, suc, _+_, _*_, _≤_}
 use mathlib.Core.Path.{_≡_, refl, ap, sym, _∙_}
 use mathlib.Core.List.{List, [], _∷_}
 use mathlib.Core.Logic.{⊎-elim}
@@ -11,7 +11,7 @@ use Rattle.rules.specs.History.{History, txCount, current, empty}
 use Rattle.rules.specs.Reading.{entered}
 use Rattle.rules.specs.declared.Event.{Event}
 use Rattle.demand1.specs.Rows.{Check, kindKnown, inPlace, numberOf, Inside, FirstFailing, Misplaced, read-outside, write-outside, close-outside}
-use Rattle.demand1.proofs.Histories.{inside-current, outside-current, inside-or-not, current-outside}
+use Rattle.demand1.proofs.Histories.{inside-current, outside-current, inside-or-not}
 use Rattle.demand1.proofs.Events.{ShapeOf, open-record, read-record, write-record, close-record, end-record, note-record, shape-of, Kinded}
 use Rattle.writing.specs.Steps.{stepAt, stepCount, stepsFrom, stepsIn}
 use Rattle.writing.specs.Writing.{writeNo, Followed, bad, good, follow}

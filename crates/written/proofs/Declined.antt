@@ -1,15 +1,15 @@
 -- What writing comes to, by the definition's cases; each of the document's refusals is the definition's.
 use Prim.Native.Nat.{ℕ, _+_, _*_, _<_, _≤_}
-use mathlib.Core.Path.{_≡_, refl, ap, sym, _∙_}
+use mathlib.Core.Path.{_≡_, refl, ap, _∙_}
 use mathlib.Core.List.{List, _∷_}
 use native.Mathlib.Omega.{arith}
 use lib.ListN.{length}
 use Rattle.rules.specs.Numbers.{over}
-use Rattle.rules.specs.History.{History, current, empty}
+use Rattle.rules.specs.History.{History, empty}
 use Rattle.demand1.specs.Rows.{numberOf}
 use Rattle.demand1.proofs.Histories.{inside-current, outside-current}
 use Rattle.demand1.proofs.Refusals.{number-positive}
-use Rattle.writing.specs.Filling.{refusing, answering, content, Fill, fill, into}
+use Rattle.writing.specs.Filling.{refusing, answering, content, fill, into}
 use Rattle.writing.specs.Steps.{stepAt, stepsFrom, stepsIn}
 use Rattle.writing.specs.Writing.{writeNo, bad, good, follow, traceOf, wrote, written}
 use Rattle.writing.proofs.Followed.{follow-bad, follow-inside, follow-end}

@@ -11,11 +11,11 @@ use Rattle.base.proofs.Tests.{split}
 use Rattle.rules.specs.Numbers.{over}
 use Rattle.rules.specs.History.{History, txCount, opCount, current, empty}
 use Rattle.rules.specs.Reading.{Stretch, Reading, refused, read, reading}
-use Rattle.demand1.specs.Rows.{serial, Refuses, ReadInto}
+use Rattle.demand1.specs.Rows.{serial, ReadInto}
 use Rattle.demand1.proofs.Readings.{refuses-iff, reads-iff, one-outcome}
 use Rattle.writing.specs.Filling.{refusing, answering, said, content, fill, into}
 use Rattle.writing.specs.Steps.{stepsIn, stepBytes}
-use Rattle.writing.specs.Writing.{Followed, bad, good, follow, traceOf, written}
+use Rattle.writing.specs.Writing.{Followed, good, follow, traceOf, written}
 use Rattle.writing.specs.Listing.{historySteps, stepsRead, stepped}
 use Rattle.writing.specs.Rewriting.{again, rewritten}
 use Rattle.writing.specs.declared.Filled.{Filled}
@@ -23,7 +23,7 @@ use Rattle.writing.proofs.Grown.{Grown, grown-none}
 use Rattle.writing.proofs.Followed.{followed, grown-follow, follow-end}
 use Rattle.writing.proofs.Told.{told}
 use Rattle.writing.proofs.Listed.{read-grown, listing-length}
-use Rattle.written.specs.Steps.{NoStep, Comes, at-start, one-more}
+use Rattle.written.specs.Steps.{Comes, at-start, one-more}
 use Rattle.written.specs.Declined.{stepsLength, ListDeclines, trace-refused, steps-short}
 use Rattle.written.specs.Writes.{AllBytes}
 use Rattle.written.specs.Lists.{StepsOf, Lists}

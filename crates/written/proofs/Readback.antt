@@ -1,16 +1,15 @@
 -- What is written is read: record by record, into the history that the steps grew.
-use Prim.Native.Nat.{ℕ, zero, suc, _+_, _*_, _%_, _^_, _<_, _≤_}
+use Prim.Native.Nat.{ℕ, _+_, _%_, _^_, _<_}
 use mathlib.Core.Path.{_≡_, refl, ap, sym, _∙_}
-use mathlib.Core.Bool.{false}
-use mathlib.Core.List.{List, [], _∷_, _++_, append-assoc, append-nil}
+use mathlib.Core.List.{List, [], _∷_, _++_, append-assoc}
 use native.Mathlib.Omega.{arith}
-use lib.ListN.{length, getD, length-append}
-use Rattle.base.specs.Base.{firstFit, row}
+use lib.ListN.{length, length-append}
+use Rattle.base.specs.Base.{firstFit}
 use Rattle.base.proofs.Rows.{RowsCounted, fit-behind}
 use Rattle.rules.specs.Numbers.{bytes}
 use Rattle.rules.specs.History.{History, txCount, current, empty}
-use Rattle.rules.specs.Records.{frameRows, eventAt, nextAt}
-use Rattle.rules.specs.Reading.{State, Stretch, begin, stepRows, entered, textAt, after, refusalNo}
+use Rattle.rules.specs.Records.{frameRows, eventAt}
+use Rattle.rules.specs.Reading.{State, stepRows, entered, textAt, after, refusalNo}
 use Rattle.rules.specs.Traces.{recordOf, trace}
 use Rattle.rules.specs.declared.Event.{Event}
 use Rattle.rules.specs.declared.Event.the-variants.{Open, Read, Write, Close, End, Note, Other}
@@ -20,10 +19,10 @@ use Rattle.demand1.proofs.Events.{Framed}
 use Rattle.demand1.proofs.Steps.{next-after}
 use Rattle.demand1.proofs.Refusals.{refusal-none}
 use Rattle.writing.specs.Writing.{itemOf, recordsOf, traceOf, good, follow, endNo}
-use Rattle.writing.proofs.Rows.{Taken, open-taken, read-taken, write-taken, close-taken, taken-rows, end-clear}
+use Rattle.writing.proofs.Rows.{Taken, taken-rows, end-clear}
 use Rattle.writing.proofs.Grown.{Grown, grown-none, grown-step, counts}
 use Rattle.writing.proofs.Followed.{followed}
-use Rattle.writing.proofs.Lengths.{records-append, records-first, records-more, records-length, trace-length}
+use Rattle.writing.proofs.Lengths.{records-append, records-first, records-length, trace-length}
 use Rattle.written.proofs.Records.{Narrow, narrow-end, record-len, record-kind, record-serial, event-framed, event-back}
 use Rattle.written.proofs.Framed.{framed-none}
 use Rattle.written.proofs.Slim.{EachSlim, slim-more, slim-at, slim-end, narrow}

@@ -1,8 +1,8 @@
 -- A record that was written is read back.
-use Prim.Native.Nat.{ℕ, zero, suc, _+_, _*_, _%_, _/_, _^_, _<_, _≤_}
-use mathlib.Core.Path.{_≡_, refl, ap, sym, _∙_}
+use Prim.Native.Nat.{ℕ, _+_, _<_, _≤_}
+use mathlib.Core.Path.{_≡_, refl, ap, _∙_}
 use mathlib.Core.Bool.{false}
-use mathlib.Core.List.{List, [], _∷_, _++_, append-assoc}
+use mathlib.Core.List.{List, _++_, append-assoc}
 use native.Mathlib.Omega.{arith}
 use lib.ListN.{length, length-append}
 use Rattle.base.specs.Base.{_or_}
@@ -11,10 +11,10 @@ use Rattle.rules.specs.Numbers.{le, bytes}
 use Rattle.rules.specs.Records.{isMisfit, eventAt}
 use Rattle.rules.specs.Traces.{Item, raw, recordOf}
 use Rattle.rules.specs.declared.Event.{Event}
-use Rattle.rules.specs.declared.Event.the-variants.{Open, Read, Write, Close, End, Note, Other}
+use Rattle.rules.specs.declared.Event.the-variants.{Open, Read, Write, Close, End}
 use Rattle.rules.proofs.Numbers.{bytes-length, le-behind, le-bytes}
 use Rattle.rules.proofs.Traces.{record-length}
-use Rattle.demand1.specs.Rows.{len, kind, serial, session, key, value, status, endNumber, behind}
+use Rattle.demand1.specs.Rows.{len, kind, serial}
 use Rattle.demand1.proofs.Events.{Framed, open-event, read-event, write-event, close-event, end-event}
 use Rattle.demand1.proofs.Checks.{length-test}
 use Rattle.writing.specs.Writing.{itemOf}

@@ -1,25 +1,23 @@
 -- A trace that is read and has no notes is what its steps are written as, with its first serial.
-use Prim.Native.Nat.{ℕ, _+_, _*_, _%_, _^_, _<_, _≤_}
+use Prim.Native.Nat.{ℕ, _+_, _%_, _^_, _<_}
 use mathlib.Core.Path.{_≡_, refl, ap, sym, _∙_}
 use mathlib.Core.List.{List, [], _∷_, _++_}
 use native.Mathlib.Omega.{arith}
 use lib.ListN.{length, take, length-append}
 use lib.Seq.{take-length}
-use Rattle.rules.specs.Numbers.{le}
-use Rattle.rules.specs.History.{History, txCount, current, empty}
+use Rattle.rules.specs.History.{History, txCount, current}
 use Rattle.rules.specs.Records.{eventAt}
 use Rattle.rules.specs.Reading.{State, Stretch, entered}
 use Rattle.rules.specs.Traces.{recordOf, trace}
 use Rattle.rules.specs.declared.Event.{Event}
 use Rattle.rules.specs.declared.Event.the-variants.{End}
 use Rattle.rules.proofs.Traces.{serialFrom, serial-next}
-use Rattle.demand1.specs.Rows.{serial, endNumber, behind, moved, Passes, serialFollows, valueLawful, end-wrong, Next, after-open, after-read, after-write, after-close, after-note, Reaches, start, on, ReadInto, to-the-end}
+use Rattle.demand1.specs.Rows.{serial, endNumber, behind, Passes, serialFollows, valueLawful, end-wrong, Next, after-open, after-read, after-write, after-close, after-note, Reaches, start, on, ReadInto, to-the-end}
 use Rattle.demand1.proofs.Events.{Framed, passes-framed, exactly, same-or}
-use Rattle.demand1.proofs.Steps.{next-is}
 use Rattle.writing.specs.Writing.{itemOf, recordsOf, traceOf}
 use Rattle.writing.specs.Listing.{historySteps}
 use Rattle.writing.proofs.Rows.{Taken}
-use Rattle.writing.proofs.Grown.{Grown, grown-none, grown-step}
+use Rattle.writing.proofs.Grown.{grown-none, grown-step}
 use Rattle.writing.proofs.Told.{told}
 use Rattle.writing.proofs.Lengths.{records-more}
 use Rattle.writing.proofs.Listed.{Stepped, by-step, by-note, stepped, reached}

@@ -7,13 +7,13 @@ use native.Mathlib.Omega.{arith}
 use lib.ListN.{length, length-append, length-map}
 use Rattle.base.specs.Base.{joined}
 use Rattle.base.proofs.Empty.{not-empty}
-use Rattle.base.proofs.Searches.{joined-append, joined-one, joined-none}
-use Rattle.rules.specs.History.{History, Tx, Op, txCount, current, empty, opened, closed, withOp}
+use Rattle.base.proofs.Searches.{joined-append, joined-one}
+use Rattle.rules.specs.History.{History, Tx, Op, current, opened, closed, withOp}
 use Rattle.rules.specs.Reading.{entered}
 use Rattle.rules.specs.declared.Event.{Event}
 use Rattle.rules.specs.declared.Event.the-variants.{Open, Read, Write, Close}
 use Rattle.rules.proofs.History.{with-op-txs, with-op-ops, open-ops, open-txs, close-ops, close-latest}
-use Rattle.writing.proofs.Rows.{Taken, open-taken, read-taken, write-taken, close-taken}
+use Rattle.writing.proofs.Rows.{open-taken, read-taken, write-taken, close-taken}
 use Rattle.writing.proofs.Grown.{Grown, grown-none, grown-step, empty-current, open-current, op-current, close-current, latest}
 use Rattle.writing.proofs.Lengths.{map-append}
 use Rattle.written.specs.Says.{sessionSaid, statusSaid, opSaid, opsSaid, Says}

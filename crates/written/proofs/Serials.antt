@@ -1,19 +1,19 @@
 -- One record a step, and the end: where each stands, its serial and its event.
 use Prim.Native.Nat.{ℕ, zero, suc, _+_, _%_, _^_, _<_, _≤_}
-use mathlib.Core.Path.{_≡_, refl, ap, sym, _∙_}
+use mathlib.Core.Path.{_≡_, refl, ap, _∙_}
 use mathlib.Core.List.{List, [], _∷_, _++_}
 use mathlib.Core.Logic.{⊎-elim}
 use native.Mathlib.Omega.{arith}
 use lib.ListN.{length, getD, take, drop, length-append, List·getD-append}
 use lib.Seq.{length-take-le, take-suc, take-length, split-at, getD-append-seam}
 use Rattle.base.proofs.Tests.{split}
-use Rattle.rules.specs.History.{History, txCount}
+use Rattle.rules.specs.History.{History}
 use Rattle.rules.specs.Records.{eventAt}
 use Rattle.rules.specs.Traces.{recordOf, trace}
 use Rattle.rules.specs.declared.Event.{Event}
-use Rattle.rules.specs.declared.Event.the-variants.{End, Other}
+use Rattle.rules.specs.declared.Event.the-variants.{Other}
 use Rattle.rules.proofs.Traces.{serialFrom, serial-is}
-use Rattle.demand1.specs.Rows.{serial, behind}
+use Rattle.demand1.specs.Rows.{serial}
 use Rattle.writing.specs.Writing.{itemOf, recordsOf}
 use Rattle.writing.proofs.Grown.{Grown, grown-none, grown-step}
 use Rattle.written.specs.Writes.{recordAt}

@@ -1,11 +1,11 @@
 -- The bytes of a record that is read are those that its event is written as.
-use Prim.Native.Nat.{ℕ, _+_, _*_, _%_, _<_, _≤_}
-use mathlib.Core.Path.{_≡_, refl, ap, sym, _∙_}
+use Prim.Native.Nat.{ℕ, _+_}
+use mathlib.Core.Path.{_≡_, sym, _∙_}
 use mathlib.Core.Bool.{true≢false}
-use mathlib.Core.List.{List, [], _∷_, _++_, append-assoc}
+use mathlib.Core.List.{List, _++_, append-assoc}
 use native.Mathlib.Omega.{arith}
-use lib.ListN.{length, getD, take}
-use Rattle.rules.specs.Numbers.{le, bytes}
+use lib.ListN.{length, take}
+use Rattle.rules.specs.Numbers.{bytes}
 use Rattle.rules.specs.History.{History}
 use Rattle.rules.specs.Records.{eventAt}
 use Rattle.rules.specs.Traces.{Item, raw, recordOf}

@@ -1,20 +1,20 @@
 -- Steps that were put are read back.
-use Prim.Native.Nat.{ℕ, zero, suc, _+_, _*_, _/_, _<_, _≤_}
-use mathlib.Core.Path.{_≡_, refl, ap, sym, _∙_}
+use Prim.Native.Nat.{ℕ, _+_, _*_, _<_, _≤_}
+use mathlib.Core.Path.{_≡_, refl, ap, _∙_}
 use mathlib.Core.Bool.{false, true≢false}
-use mathlib.Core.List.{List, [], _∷_, _++_, append-assoc, append-nil}
+use mathlib.Core.List.{List, [], _∷_, _++_, append-assoc}
 use native.Mathlib.Omega.{arith}
 use lib.ListN.{length, length-append}
 use Rattle.base.specs.Base.{joined}
-use Rattle.base.proofs.Searches.{listed-step, listed-end, joined-none}
+use Rattle.base.proofs.Searches.{listed-step, listed-end}
 use Rattle.rules.specs.Numbers.{le, bytes}
 use Rattle.rules.specs.History.{History}
 use Rattle.rules.specs.declared.Event.{Event}
-use Rattle.rules.specs.declared.Event.the-variants.{Open, Read, Write, Close, End, Other}
+use Rattle.rules.specs.declared.Event.the-variants.{Open, Close}
 use Rattle.rules.proofs.Numbers.{le-behind, le-bytes}
 use Rattle.writing.specs.Steps.{stepAt, stepCount, stepsFrom, stepsIn, fieldBytes, stepBytes}
 use Rattle.writing.specs.Writing.{isNoStep}
-use Rattle.writing.proofs.Rows.{Taken, taken-step}
+use Rattle.writing.proofs.Rows.{taken-step}
 use Rattle.writing.proofs.Grown.{Grown, grown-none, grown-step}
 use Rattle.written.proofs.StepKinds.{open-kind, read-kind, write-kind, close-kind}
 use Rattle.written.proofs.Records.{Narrow, narrow-open, narrow-read, narrow-write, narrow-close, narrow-end}

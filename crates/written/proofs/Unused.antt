@@ -1,22 +1,21 @@
 -- The fields that a step does not use: 0 where steps are made, and so they are known by what they say.
-use Prim.Native.Nat.{ℕ, zero, suc, _+_, _*_, _<_, _≤_}
+use Prim.Native.Nat.{ℕ, zero, suc, _+_, _*_, _≤_}
 use mathlib.Core.Path.{_≡_, refl, ap, sym, _∙_}
 use mathlib.Core.Bool.{false, true≢false}
 use mathlib.Core.List.{List, [], _∷_, _++_, append-assoc}
 use native.Mathlib.Omega.{arith}
 use native.Mathlib.Numerals.{add-one}
-use lib.ListN.{length, take, drop, getD, length-append}
-use lib.Seq.{take-length, length-take-le, split-at}
+use lib.ListN.{length, take, length-append}
+use lib.Seq.{take-length}
 use Rattle.base.specs.Base.{listed, joined}
 use Rattle.base.proofs.Searches.{listed-more, listed-end, joined-append, joined-one, joined-none}
-use Rattle.rules.specs.Numbers.{le, bytes}
+use Rattle.rules.specs.Numbers.{bytes}
 use Rattle.rules.specs.History.{History}
 use Rattle.rules.specs.declared.Event.{Event}
-use Rattle.rules.specs.declared.Event.the-variants.{Open, Read, Write, Close, Other}
 use Rattle.rules.proofs.Numbers.{spelt, spelt-on}
 use Rattle.writing.specs.Steps.{stepAt, stepCount, stepsFrom, stepsIn, fieldBytes, stepBytes}
 use Rattle.writing.specs.Writing.{isNoStep}
-use Rattle.written.specs.Steps.{HasStep, kindBehind, sessionBehind, statusBehind, keyBehind, valueBehind}
+use Rattle.written.specs.Steps.{HasStep, kindBehind, sessionBehind, keyBehind, valueBehind}
 use Rattle.written.specs.Writes.{AllBytes}
 use Rattle.written.specs.Lists.{UnusedZero, in-open, in-read, in-write, in-close}
 use Rattle.writing.proofs.Grown.{Grown}

@@ -1,30 +1,26 @@
 -- The definition's outcome is what is promised of writing, and the promise leaves one.
-use Prim.Native.Nat.{ℕ, zero, suc, _+_, _*_, _/_, _%_, _^_, _<_, _≤_}
+use Prim.Native.Nat.{ℕ, _+_, _*_, _^_, _<_}
 use mathlib.Core.Path.{_≡_, refl, ap, sym, _∙_}
-use mathlib.Core.Bool.{true, false, true≢false, false≢true}
 use mathlib.Core.List.{List, [], _∷_, _++_}
-use mathlib.Core.Logic.{_⊎_, inl, inr, ⊎-elim, _↔_}
+use mathlib.Core.Logic.{_⊎_, ⊎-elim, _↔_}
 use native.Mathlib.Omega.{arith}
 use lib.ListN.{length, getD, length-append, List·getD-append}
 use lib.Seq.{getD-append-seam}
 use Rattle.base.proofs.Tests.{split}
 use Rattle.base.proofs.Searches.{singles-length, singles-at}
 use Rattle.rules.specs.History.{History, txCount, empty}
-use Rattle.rules.specs.declared.Event.{Event}
 use Rattle.rules.specs.declared.Event.the-variants.{End, Other}
 use Rattle.demand1.specs.Rows.{serial, numberOf}
-use Rattle.writing.specs.Filling.{Said, refusing, answering, said, Fill, fill}
+use Rattle.writing.specs.Filling.{refusing, said, fill}
 use Rattle.writing.specs.Steps.{stepAt, stepCount, stepsFrom, stepsIn}
 use Rattle.writing.specs.Writing.{Followed, good, follow, traceOf, written}
 use Rattle.writing.specs.declared.Filled.{Filled}
 use Rattle.writing.proofs.Grown.{Grown, grown-none, counts}
 use Rattle.writing.proofs.Followed.{followed}
-use Rattle.writing.proofs.Lengths.{trace-length}
-use Rattle.written.specs.Says.{Says}
 use Rattle.written.specs.Declined.{traceLength, WriteDeclines, bad-step, ends-inside, trace-short}
 use Rattle.written.specs.Writes.{AllBytes, recordAt, TraceOf, Writes}
-use Rattle.written.proofs.Records.{Narrow, narrow-end}
-use Rattle.written.proofs.Slim.{EachSlim, slim-steps}
+use Rattle.written.proofs.Records.{narrow-end}
+use Rattle.written.proofs.Slim.{slim-steps}
 use Rattle.written.proofs.Readback.{read-back}
 use Rattle.written.proofs.Serials.{EachNarrow, record-serials, record-events, records-end, grown-narrow, narrow-last}
 use Rattle.written.proofs.Says.{says, says-one}

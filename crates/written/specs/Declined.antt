@@ -1,5 +1,5 @@
 -- Document 02, request One: when the two calls refuse, whole, in the document's own terms.
-use Prim.Native.Nat.{ℕ, _+_, _*_, _<_, _≤_}
+use Prim.Native.Nat.{ℕ, _+_, _*_, _<_}
 use mathlib.Core.List.{List}
 use Rattle.rules.specs.History.{History, txCount, opCount}
 use Rattle.rules.specs.Reading.{Stretch}

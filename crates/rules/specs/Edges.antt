@@ -181,7 +181,7 @@ notes-as-they-should = refl
 -- ── the limits: 127 transactions and 1,024 operations, in states that have come so far ──
 
 -- at the start of the bytes, n transactions closed, or one open with n operations, which write the values 1 to n to the key 1
-abbrev closedState : ℕ → State
+abbrev pub closedState : ℕ → State
 closedState n =
     record {
       at = 0;
@@ -190,7 +190,7 @@ closedState n =
       notes = [];
     }
 
-abbrev openState : ℕ → State
+abbrev pub openState : ℕ → State
 openState n =
     record {
       at = 0;

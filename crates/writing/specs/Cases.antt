@@ -6,11 +6,11 @@ use mathlib.Core.Path.{_≡_, refl}
 use mathlib.Core.Bool.{true}
 use mathlib.Core.List.{List, [], _∷_, _++_, map}
 use lib.ListN.{length, getD, take}
-use Rattle.base.specs.Base.{listed, joined}
+use Rattle.base.specs.Base.{joined}
 use Rattle.rules.specs.History.{History}
 use Rattle.rules.specs.Traces.{whole, trace, opens, closes, ends, note, T, r, w, room}
 use Rattle.rules.specs.Cases.{Case, table}
-use Rattle.rules.specs.Edges.{as-they-should}
+use Rattle.rules.specs.Edges.{closedState, openState, as-they-should}
 use Rattle.rules.specs.declared.Event.{Event}
 use Rattle.rules.specs.declared.Event.the-variants.{Open, Read, Write, Close}
 use Rattle.writing.specs.Filling.{Fill, fill, refusing, answering, into}
@@ -123,16 +123,12 @@ as-written = refl
 
 -- ── the limits: 127 transactions and 1,024 operations, in histories that have come so far ──
 
--- n transactions closed, or one open with n operations, which write the values 1 to n to the key 1
+-- those of document 01's limits: n transactions closed, or one open with n operations, which write the values 1 to n to the key 1
 abbrev closedSoFar : ℕ → History
-closedSoFar n = record { txs = listed 1 (n + 1) (λ i. record { session = i; status = 1 } ∷ []); ops = [] }
+closedSoFar n = closedState n .history
 
 abbrev openSoFar : ℕ → History
-openSoFar n =
-    record {
-      txs = record { session = 1; status = 3 } ∷ [];
-      ops = listed 1 (n + 1) (λ i. record { tx = 1; isWrite = true; key = 1; value = i } ∷ []);
-    }
+openSoFar n = openState n .history
 
 -- a history, the step that comes, and the number of the row that refuses it, 0 for none
 pub record Bound : Type 0 where

@@ -14,5 +14,5 @@ pub clear-spec : {M : Type 1} → statement M
 clear-spec =
     tie.close
     (tie.spec Inv-loop μ-loop (λ c. omega arith) (λ c. clearing-start (c .args .h .now) (c .pre)) (λ c. omega arith) (λ c. omega arith) (λ c. omega arith) (λ c. omega arith)
-    (λ c. omega arith) (λ c. clearing-more (c .loop-test .taken) (c .before .loop .inv)) (λ c. omega arith)
+    (λ c. omega arith) (λ c. clearing-more (omega arith) (c .before .loop .inv)) (λ c. omega arith)
     (λ c. clearing-end (c .before .before .args .h .now) (c .before .before .pre) (c .loop-test .left) (c .before .loop .inv)))

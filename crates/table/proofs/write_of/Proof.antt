@@ -16,7 +16,7 @@ loop-holds : tie.Need-loop-holds Inv-loop μ-loop
 loop-holds c = walk-start _ _ _ _ (c .head-of .ensures .is ∙ rw (c .before .bucket-of .ensures .is))
 
 writes-value-requires : tie.Need-writes-value-requires Inv-loop μ-loop
-writes-value-requires c κs = walk-has _ _ _ _ (c .before .before .before .before .before .pre) (c .before .loop .inv) (c .loop-test .taken) .there
+writes-value-requires c κs = walk-has _ _ _ _ (c .before .before .before .before .before .pre) (c .before .loop .inv) (omega arith) .there
 
 returns : tie.Need-returns Inv-loop μ-loop
 returns c =
@@ -24,12 +24,12 @@ returns c =
     record { is = sym (walk-hit _ _ _ (l .inv) (sym (c .before .writes-value .ensures) ∙ c .if1 .taken)); below = omega (arith, l .inv .within) }
 
 link-of-requires : tie.Need-link-of-requires Inv-loop μ-loop
-link-of-requires c κs = walk-has _ _ _ _ (c .before .before .before .before .before .before .before .pre) (c .before .before .before .loop .inv) (c .before .before .loop-test .taken)
+link-of-requires c κs = walk-has _ _ _ _ (c .before .before .before .before .before .before .before .pre) (c .before .before .before .loop .inv) (omega arith)
 
 loop-again : tie.Need-loop-again Inv-loop μ-loop
 loop-again c =
     let b = c .before .before .before in
-    walk-miss _ _ _ (b .before .loop .inv) _ (b .loop-test .taken) (sym (c .before .before .writes-value .ensures) ∙ c .before .if1 .left) (c .link-of .ensures .is)
+    walk-miss _ _ _ (b .before .loop .inv) _ (omega arith) (sym (c .before .before .writes-value .ensures) ∙ c .before .if1 .left) (c .link-of .ensures .is)
 
 returns-2 : tie.Need-returns-2 Inv-loop μ-loop
 returns-2 c = record { is = sym (walk-end _ _ _ (c .before .loop .inv) (c .loop-test .left)); below = omega arith }

@@ -1,9 +1,9 @@
-// Whoever calls the writer has what document 02 promises. These functions know nothing of `maker::write_trace` and `lister::list_steps` but their contracts:
-// were one of those weaker, they would not be proved.
+// Whoever calls the writer has what document 02 promises. These functions know nothing of `maker::write_trace`, `lister::list_steps` and
+// `rewriting::rewrite_trace` but their contracts: were one of those weaker, they would not be proved.
 ghost use mathlib.Core.Path.{_≡_};
 ghost use Rattle.written.specs.Writes.{Writes};
 ghost use Rattle.written.specs.Lists.{Lists};
-ghost use Rattle.hosts.specs.Hosts.{Coincides};
+ghost use Rattle.hosts.specs.Hosts.{Coincides, OwnBytes};
 use writing::Filled;
 
 // What is written reads back as the steps say; a refusal is given only on its row.
@@ -36,4 +36,11 @@ pub fn listed(trace: &[u8], out: &mut [u8]) -> Filled
     ensures { λ r. ⌜ Lists (now (trace .entry)) (now (out .entry)) r (now (out .exit)) ⌝ }
 {
     lister::list_steps(trace, out)
+}
+
+// A trace without notes comes out with its own bytes.
+pub fn rewrote(trace: &[u8], steps: &mut [u8], out: &mut [u8]) -> Filled
+    ensures { λ r. ⌜ OwnBytes (now (trace .entry)) (now (steps .entry)) (now (out .entry)) r (now (out .exit)) ⌝ }
+{
+    rewriting::rewrite_trace(trace, steps, out)
 }

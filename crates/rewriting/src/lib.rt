@@ -1,0 +1,30 @@
+// A trace read and written again: it is turned into steps, and a trace is made of these.
+ghost use mathlib.Core.Path.{_≡_};
+ghost use Prim.Native.Nat.{_≤_};
+ghost use lib.ListN.{length, take};
+ghost use Rattle.rules.specs.Records.{serialAt};
+ghost use Rattle.writing.specs.Filling.{fill, said};
+ghost use Rattle.writing.specs.Writing.{written};
+ghost use Rattle.rewriting.specs.Rewriting.{Rewrote};
+use writing::Filled;
+
+// The first n bytes of these steps, with the trace's first serial.
+fn write_front(trace: &[u8], steps: &[u8], n: usize, out: &mut [u8]) -> Filled
+    requires { ⌜ (8 ≤ length (now trace)) × (n ≤ length (now steps)) ⌝ }
+    ensures { λ r. ⌜ fill (said r) (now (out .exit)) ≡ written (take n (now (steps .entry))) (serialAt (now (trace .entry)) 0) (now (out .entry)) ⌝ }
+{
+    let serial = frame::u32_at(trace, 4);
+    maker::write_trace(&steps[..n], serial, out)
+}
+
+// Fills `out` with the trace that the steps of this one make, by way of a lent buffer for these. A refusal of the trace, or of the buffer for the steps,
+// is handed on, with nothing written to `out`.
+pub fn rewrite_trace(trace: &[u8], steps: &mut [u8], out: &mut [u8]) -> Filled
+    ensures { λ r. ⌜ Rewrote r (now (trace .entry)) (now (steps .entry)) (now (steps .exit)) (now (out .entry)) (now (out .exit)) ⌝ }
+{
+    let listed = lister::list_steps(trace, steps);
+    match listed {
+        Filled::Refused(no, place) => Filled::Refused(no, place),
+        Filled::Length(n) => write_front(trace, steps, n, out),
+    }
+}

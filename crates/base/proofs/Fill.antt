@@ -1,10 +1,10 @@
--- Filling a buffer with what f gives for each passing number.
+-- Filling a buffer: what was put and what room is left; loops that put a whole forwards or backwards, and what f gives for each number.
 use Prim.Native.Nat.{ℕ, suc, _+_, _<_, _≤_}
 use mathlib.Core.Path.{_≡_, refl, ap, sym, _∙_}
 use mathlib.Core.List.{List, [], _∷_, _++_, append-assoc, append-nil}
 use native.Mathlib.Omega.{arith}
 use lib.ListN.{set, length, take, drop, length-append, length-drop, take-append-drop}
-use lib.Seq.{length-take-le, take-at, drop-at, drop-drop, sets-eq}
+use lib.Seq.{length-take-le, take-at, take-take, drop-at, drop-drop, sets-eq}
 use Rattle.base.specs.Base.{listed}
 use Rattle.base.proofs.Searches.{listed-step, listed-end}
 
@@ -45,40 +45,143 @@ module _ {o : List ℕ} {at : ℕ} {b : List ℕ} {r : ℕ} {xs : List ℕ} (x :
       back : drop q b ≡ drop q o
       back = rw (y .end) (sym (drop-drop (length ys) r b) ∙ ap (drop (length ys)) appended-back ∙ drop-drop (length ys) r o)
 
+-- what is put before what had been put
+module _ {o : List ℕ} {at : ℕ} {b : List ℕ} {r : ℕ} {xs : List ℕ} (x : Appended o at b r xs) {c : List ℕ} {q : ℕ} {ys : List ℕ} (y : Appended b q c at ys) where
+  at-length : length (take at o) ≡ at
+  at-length = length-take-le at o (omega (arith, x .end, x .room))
+
+  -- before `at` nothing had changed
+  front-kept : take q b ≡ take q o
+  front-kept =
+      let l : q ≤ at = omega (arith, y .end) in
+      sym (take-take q at b l) ∙ ap (take q) (ap (take at) (x .is) ∙ take-at (take at o) (xs ++ drop r o) at at-length) ∙ take-take q at o l
+
+  pub appended-before : Appended o q c r (ys ++ xs)
+  appended-before =
+      record {
+        end = omega (arith, x .end, y .end, length-append ys xs);
+        room = x .room;
+        is = y .is
+            ∙ rw (front-kept, ap (drop at) (x .is) ∙ drop-at (take at o) (xs ++ drop r o) at at-length) (ap (λ (l : List ℕ). take q o ++ l) (sym (append-assoc ys xs (drop r o))));
+      }
+
 -- a contract that says `Appended` leaves one answer and one content: of `order_all`, of the lists' and the lines' `put_..`
 pub appended-one : {o : List ℕ} {at : ℕ} {b c : List ℕ} {r q : ℕ} {xs : List ℕ} → Appended o at b r xs → Appended o at c q xs → (b ≡ c) × (r ≡ q)
 appended-one {o} {at} {b} {c} {r} {q} {xs} x y =
     let e : r ≡ q = x .end ∙ sym (y .end) in
     (x .is ∙ ap (λ (n : ℕ). take at o ++ (xs ++ drop n o)) e ∙ sym (y .is), e)
 
--- a loop that has come to j, of the numbers from a to before e, and to r in the buffer
-pub record Filling (f : ℕ → List ℕ) (a e : ℕ) (o : List ℕ) (at : ℕ) (j : ℕ) (b : List ℕ) (r : ℕ) : Type 0 where
+-- ── room ──
+
+-- there is room in o for xs, from `at` to before e
+pub record Room (o : List ℕ) (at e : ℕ) (xs : List ℕ) : Type 0 where
+  pub fits : at + length xs ≤ e
+  pub within : e ≤ length o
+
+-- .. to the buffer's end
+pub room-from : {o : List ℕ} {at : ℕ} (xs : List ℕ) → at + length xs ≤ length o → Room o at (length o) xs
+room-from xs h = record { fits = h; within = omega arith }
+
+pub room-in : {o : List ℕ} {at e : ℕ} {xs : List ℕ} → Room o at e xs → at + length xs ≤ length o
+room-in h = omega (arith, h .fits, h .within)
+
+-- room for two parts is room for each, for the second when the first was put, and for the first when the second was put at the end
+module _ {o : List ℕ} {at e : ℕ} where
+  module _ (xs ys : List ℕ) (h : Room o at e (xs ++ ys)) where
+    pub room-first : Room o at e xs
+    room-first = record { fits = omega (arith, h .fits, length-append xs ys); within = h .within }
+
+    pub room-second : Room o at e ys
+    room-second = record { fits = omega (arith, h .fits, length-append xs ys); within = h .within }
+
+  module _ {b : List ℕ} {r : ℕ} {xs ys : List ℕ} where
+    pub room-then : Appended o at b r xs → Room o at e (xs ++ ys) → Room b r e ys
+    room-then x h =
+        record { fits = omega (arith, h .fits, length-append xs ys, x .end); within = omega (arith, h .within, appended-length x) }
+
+    pub room-before : Appended o r b e ys → Room o at e (xs ++ ys) → Room b at r xs
+    room-before y h =
+        record { fits = omega (arith, h .fits, length-append xs ys, y .end); within = omega (arith, h .within, y .end, appended-length y) }
+
+-- four parts, in the order in which they are put
+pub four-parts : (p q r s : List ℕ) → ((p ++ q) ++ r) ++ s ≡ p ++ (q ++ (r ++ s))
+four-parts p q r s = append-assoc (p ++ q) r s ∙ append-assoc p q (r ++ s)
+
+-- ── loops that put `whole` into o ──
+
+-- from `at` on: one has made b of o, has come to r, and has `left` to put behind
+pub record Forth (o : List ℕ) (at : ℕ) (whole b : List ℕ) (r : ℕ) (left : List ℕ) : Type 0 where
   pub done : List ℕ
   pub is : Appended o at b r done
-  pub rest : done ++ listed j e f ≡ listed a e f
+  pub rest : done ++ left ≡ whole
+
+pub forth-start : {o : List ℕ} {at : ℕ} (whole : List ℕ) → at ≤ length o → Forth o at whole o at whole
+forth-start {o} {at} whole h = record { done = []; is = appended-none o at h; rest = refl }
+
+module _ {o : List ℕ} {at : ℕ} {whole b : List ℕ} {r : ℕ} {left : List ℕ} (x : Forth o at whole b r left) where
+  -- there is room for what is left
+  pub forth-room : {e : ℕ} → Room o at e whole → Room b r e left
+  forth-room h = room-then (x .is) (rw (x .rest) h)
+
+  -- a part of it; the last of it
+  pub forth-step : {xs : List ℕ} (ys : List ℕ) {c : List ℕ} {s : ℕ} → left ≡ xs ++ ys → Appended b r c s xs → Forth o at whole c s ys
+  forth-step {xs} ys q y =
+      record {
+        done = x .done ++ xs;
+        is = appended-then (x .is) y;
+        rest = append-assoc (x .done) xs ys ∙ ap (λ (l : List ℕ). x .done ++ l) (sym q) ∙ x .rest;
+      }
+
+  pub forth-last : {c : List ℕ} {s : ℕ} → Appended b r c s left → Appended o at c s whole
+  forth-last y = rw (← x .rest) (appended-then (x .is) y)
+
+  pub forth-end : left ≡ [] → Appended o at b r whole
+  forth-end q = let d : x .done ≡ whole = sym (append-nil (x .done)) ∙ ap (λ (l : List ℕ). x .done ++ l) (sym q) ∙ x .rest in rw (← d) (x .is)
+
+-- up to e, backwards: one has come down to `at`, and has `left` to put before it
+pub record Back (o : List ℕ) (e : ℕ) (whole b : List ℕ) (at : ℕ) (left : List ℕ) : Type 0 where
+  pub done : List ℕ
+  pub is : Appended o at b e done
+  pub rest : left ++ done ≡ whole
+
+pub back-start : {o : List ℕ} {e : ℕ} (whole : List ℕ) → e ≤ length o → Back o e whole o e whole
+back-start {o} {e} whole h = record { done = []; is = appended-none o e h; rest = append-nil whole }
+
+module _ {o : List ℕ} {e : ℕ} {whole b : List ℕ} {at : ℕ} {left : List ℕ} (x : Back o e whole b at left) where
+  pub back-room : {a : ℕ} → Room o a e whole → Room b a at left
+  back-room h = room-before (x .is) (rw (x .rest) h)
+
+  pub back-step : (xs : List ℕ) {ys c : List ℕ} {r : ℕ} → left ≡ xs ++ ys → Appended b r c at ys → Back o e whole c r xs
+  back-step xs {ys} q y =
+      record {
+        done = ys ++ x .done;
+        is = appended-before (x .is) y;
+        rest = sym (append-assoc xs ys (x .done)) ∙ ap (λ (l : List ℕ). l ++ x .done) (sym q) ∙ x .rest;
+      }
+
+  pub back-end : left ≡ [] → Appended o at b e whole
+  back-end q = let d : x .done ≡ whole = ap (λ (l : List ℕ). l ++ x .done) (sym q) ∙ x .rest in rw (← d) (x .is)
+
+-- ── what f gives for each number ──
+
+-- a loop that has come to j, of the numbers from a to before e, and to r in the buffer
+abbrev pub Filling : (ℕ → List ℕ) → ℕ → ℕ → List ℕ → ℕ → ℕ → List ℕ → ℕ → Type 0
+Filling f a e o at j b r = Forth o at (listed a e f) b r (listed j e f)
 
 module _ (f : ℕ → List ℕ) (a e : ℕ) (o : List ℕ) (at : ℕ) where
   pub fill-start : at ≤ length o → Filling f a e o at a o at
-  fill-start h = record { done = []; is = appended-none o at h; rest = refl }
+  fill-start h = forth-start (listed a e f) h
 
   module _ {j : ℕ} {b : List ℕ} {r : ℕ} (x : Filling f a e o at j b r) where
     -- there is room for what is to be written
     pub fill-room : at + length (listed a e f) ≤ length o → j < e → r + length (f j) ≤ length b
-    fill-room m h =
-        omega (arith, m, x .is .end, appended-length (x .is), ap length (x .rest), length-append (x .done) (listed j e f), ap length (listed-step f j e h), length-append (f j) (listed (j + 1) e f))
+    fill-room m h = room-in (room-first (f j) (listed (j + 1) e f) (rw (listed-step f j e h) at (forth-room x (room-from (listed a e f) m))))
 
     pub fill-step : {c : List ℕ} {s : ℕ} → j < e → Appended b r c s (f j) → Filling f a e o at (j + 1) c s
-    fill-step h y =
-        record {
-          done = x .done ++ f j;
-          is = appended-then (x .is) y;
-          rest = append-assoc (x .done) (f j) (listed (j + 1) e f) ∙ ap (λ (l : List ℕ). x .done ++ l) (sym (listed-step f j e h)) ∙ x .rest;
-        }
+    fill-step h y = forth-step x (listed (j + 1) e f) (listed-step f j e h) y
 
     pub fill-end : e ≤ j → Appended o at b r (listed a e f)
-    fill-end h =
-        let d : x .done ≡ listed a e f = sym (append-nil (x .done)) ∙ ap (λ (l : List ℕ). x .done ++ l) (sym (listed-end f j e h)) ∙ x .rest in
-        rw (← d) (x .is)
+    fill-end h = forth-end x (listed-end f j e h)
 
 -- how long it will be: a loop that has come to j, and to n bytes
 pub record Sizing (f : ℕ → List ℕ) (a e j n : ℕ) : Type 0 where

@@ -237,6 +237,16 @@ listed-more f e =
     (λ j l ih h.
     listed-step f j (e + 1) (omega arith) ∙ rw (ih (omega arith), listed-step f j e l) (sym (append-assoc (f j) (listed (j + 1) e f) (f e))))
 
+-- numbers from m on that give nothing leave what is listed below m
+pub listed-below : {A : Type 0} (f : ℕ → List A) (e m j : ℕ) → j ≤ m → m ≤ e → ((i : ℕ) → m ≤ i → i < e → f i ≡ []) → listed j e f ≡ listed j m f
+listed-below f e m j l g none = let q : e ≡ m + (e - m) = omega arith in ap (λ (n : ℕ). listed j n f) q ∙ past (e - m) (omega arith)
+  where
+    past : (k : ℕ) → m + k ≤ e → listed j (m + k) f ≡ listed j m f
+    past zero b = let i : m + 0 ≡ m = omega arith in rw i
+    past (suc k) b =
+        let i : m + suc k ≡ m + k + 1 = omega arith in
+        rw (i, listed-more f (m + k) j (omega arith), none (m + k) (omega arith) (omega arith)) (append-nil (listed j (m + k) f) ∙ past k (omega arith))
+
 -- where each number gives one entry, they are as many, and stand in order
 singles-of : {A : Type 0} (f : ℕ → A) (n a : ℕ) → length (listOf (λ i. f i ∷ []) a n) ≡ n
 unfolding listOf

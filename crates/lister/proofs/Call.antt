@@ -1,18 +1,14 @@
 -- The whole call: a trace that is refused, and one that was read.
-use Prim.Native.Nat.{ℕ, _<_, _≤_}
-use mathlib.Core.Path.{_≡_, sym}
+use Prim.Native.Nat.{ℕ, _≤_}
+use mathlib.Core.Path.{_≡_}
 use mathlib.Core.List.{List}
 use mathlib.Core.Logic.{⊎-elim}
 use native.Mathlib.Omega.{arith}
 use lib.ListN.{length}
-use lib.Dec.{ltb}
-use borrow.Author.Tests.{ne-eqb, lt-ltb, le-ltb}
-use Rattle.base.proofs.Tests.{pick-on, pick-off}
+use borrow.Author.Tests.{ne-eqb}
 use Rattle.base.proofs.Fill.{Appended}
 use Rattle.rules.specs.History.{History, tx, isOpen}
-use Rattle.rules.specs.Numbers.{over}
 use Rattle.rules.specs.Reading.{Stretch, read, reading}
-use Rattle.rules.proofs.Numbers.{appended-over}
 use Rattle.demand1.proofs.Readings.{reads-iff}
 use Rattle.demand1.proofs.Lawful.{lawful-history}
 use Rattle.table.specs.Table.{historyOf}
@@ -20,27 +16,16 @@ use Rattle.trace.specs.declared.Out.{Out}
 use Rattle.trace.specs.declared.Out.the-variants.{Good, Bad}
 use Rattle.trace.specs.Trace.{TraceRead}
 use Rattle.trace.proofs.Answers.{read-bad, read-good}
-use Rattle.writing.specs.declared.Filled.the-variants.{Refused, Length}
-use Rattle.writing.specs.Filling.{Said, refusing, answering, said, content, fill, into}
+use Rattle.writing.specs.declared.Filled.the-variants.{Refused}
+use Rattle.writing.specs.Filling.{Said, said, content, fill, into}
 use Rattle.writing.specs.Listing.{stepsRead, stepped}
+use Rattle.writing.proofs.Filling.{into-refused}
 use Rattle.writing.proofs.Listed.{listing-length}
 use Rattle.lister.specs.Lister.{allBytes, Listable}
 
--- ── what is to be put, l, has n bytes ──
-
-module _ (l out : List ℕ) {n : ℕ} (e : n ≡ length l) where
-  pub too-short : length out < n → fill (said (Refused 16 n)) out ≡ into (content l) out
-  unfolding said into
-  too-short h =
-      rw e
-      (sym (pick-on (ltb (length out) (length l)) (fill (refusing 16 (length l)) out) (fill (answering (length l)) (over l out)) (lt-ltb (length out) (length l) (omega arith))))
-
-  pub filled : {b : List ℕ} {r : ℕ} → Appended out r b n l → fill (said (Length n)) b ≡ into (content l) out
-  unfolding said into
-  filled {b} {r} x =
-      let z : r ≡ 0 = omega (arith, x .end) in
-      rw (e, appended-over (rw z at x))
-      (sym (pick-off (ltb (length out) (length l)) (fill (refusing 16 (length l)) out) (fill (answering (length l)) (over l out)) (le-ltb (length out) (length l) (omega (arith, x .room)))))
+-- n bytes that end at n start at 0
+pub from-start : {l out b : List ℕ} {r n : ℕ} → n ≡ length l → Appended out r b n l → Appended out 0 b n l
+from-start {r = r} e x = let z : r ≡ 0 = omega (arith, x .end) in rw z at x
 
 -- ── the trace's reading ──
 
@@ -57,8 +42,8 @@ listable s {h} {notes} e =
 
 module _ {s g g₀ : List ℕ} {r : Out} {k : ℕ} (x : TraceRead r g g₀ s k) where
   pub call-refused : (n p : ℕ) → r ≡ Bad n p → (out : List ℕ) → fill (said (Refused n p)) out ≡ stepped s out
-  unfolding said stepped stepsRead into
-  call-refused n p q out = rw (read-bad x q)
+  unfolding stepped stepsRead
+  call-refused n p q out = rw (read-bad x q) (into-refused n p out)
 
   module _ {n a l : ℕ} (q : r ≡ Good n a l) where
     pub call-listable : Listable (historyOf g)

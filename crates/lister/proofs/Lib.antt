@@ -1,4 +1,2 @@
-pub mod Backwards
-pub mod Words
 pub mod Steps
 pub mod Call

@@ -1,39 +1,28 @@
 -- The bytes of a history's steps, from the last one down.
-use Prim.Native.Nat.{ℕ, zero, suc, _+_, _-_, _<_, _≤_}
-use mathlib.Core.Path.{_≡_, refl, ap, _∙_}
-use mathlib.Core.Bool.{true, false, true≢false}
-use mathlib.Core.List.{List, [], _∷_, _++_, append-nil}
+use Prim.Native.Nat.{ℕ, _+_, _-_, _<_, _≤_}
+use mathlib.Core.Path.{_≡_, refl, ap, sym, _∙_}
+use mathlib.Core.Bool.{true, false}
+use mathlib.Core.Logic.{⊎-elim}
+use mathlib.Core.List.{List, [], _∷_, _++_, append-assoc}
 use native.Mathlib.Omega.{arith}
-use lib.ListN.{length, length-append}
 use lib.Dec.{eqb}
-use borrow.Author.Tests.{eqb-true, eq-eqb}
-use Rattle.base.specs.Base.{listed, joined}
-use Rattle.base.proofs.Tests.{ifso, pick-on, pick-off}
-use Rattle.base.proofs.Searches.{listed-more, listed-end, joined-append, joined-one, joined-none}
-use Rattle.base.proofs.Chains.{last-passes, last-less, last-none}
-use Rattle.base.proofs.Fill.{Appended}
+use borrow.Author.Tests.{eq-eqb}
+use Rattle.base.specs.Base.{last, listed, joined}
+use Rattle.base.proofs.Tests.{ifso, split, pick-on, pick-off}
+use Rattle.base.proofs.Searches.{listed-more, listed-below, listed-end, joined-append, joined-one, joined-none}
+use Rattle.base.proofs.Chains.{last-le, last-less, last-none}
+use Rattle.base.proofs.Fill.{Appended, appended-before, Room, room-second, room-before, Back, back-start, back-room, back-step, back-end}
 use Rattle.rules.specs.History.{History, Op, tx, op, opCount, size, isOpen}
-use Rattle.rules.specs.Numbers.{bytes}
 use Rattle.rules.specs.declared.Event.{Event}
-use Rattle.rules.specs.declared.Event.the-variants.{Open, Read, Write, Close, End, Note, Other}
-use Rattle.table.specs.Table.{ofTx, lastBelow, lastOf, prevOf, Below}
-use Rattle.writing.specs.Steps.{fieldBytes, stepBytes}
+use Rattle.rules.specs.declared.Event.the-variants.{Open, Read, Write, Close}
+use Rattle.table.specs.Table.{ofTx, lastOf, prevOf, Below}
+use Rattle.table.proofs.Chain.{OnChain, chain-last, chain-prev, sought-last, sought-prev}
+use Rattle.writing.specs.Steps.{stepBytes}
 use Rattle.writing.specs.Writing.{isNoStep}
 use Rattle.writing.specs.Listing.{opStep, opStepOf, closeStep, txSteps, historySteps}
-use Rattle.lister.specs.Lister.{RoomBefore, opsBytes, txBytes, txsBytes, allBytes}
-use Rattle.lister.proofs.Backwards.{appended-before, room-less, room-left, Backing, back-start, back-room, back-step, back-end}
+use Rattle.lister.specs.Lister.{opsBytes, txBytes, txsBytes, allBytes}
 
--- ── a step has sixteen bytes ──
-
-pub step-length : (e : Event) → isNoStep e ≡ false → length (stepBytes e) ≡ 16
-unfolding isNoStep stepBytes fieldBytes bytes
-step-length (Open s) n = refl
-step-length (Read x v) n = refl
-step-length (Write x v) n = refl
-step-length (Close c) n = refl
-step-length (End m) n = absurd (true≢false n)
-step-length Note n = absurd (true≢false n)
-step-length Other n = absurd (true≢false n)
+-- ── a step ──
 
 -- an operation's, which is a write or a read
 module _ (o : Op) where
@@ -48,17 +37,6 @@ module _ (o : Op) where
   pub op-is-step : isNoStep (opStep o) ≡ false
   unfolding isNoStep
   op-is-step = ifso (o .isWrite) (λ t. rw (op-write t)) (λ t. rw (op-read t))
-
--- ── lists ──
-
-module _ {A : Type 0} (f : ℕ → List A) where
-  -- numbers that give nothing leave it
-  listed-none : (a m k : ℕ) → a ≤ m → ((i : ℕ) → m ≤ i → i < m + k → f i ≡ []) → listed a (m + k) f ≡ listed a m f
-  listed-none a m zero l none = let e : m + 0 ≡ m = omega arith in rw e
-  listed-none a m (suc k) l none =
-      let e : m + suc k ≡ m + k + 1 = omega arith in
-      rw (e, listed-more f (m + k) a (omega arith), none (m + k) (omega arith) (omega arith))
-      (append-nil (listed a (m + k) f) ∙ listed-none a m k l (λ i g b. none i g (omega arith)))
 
 -- ── a transaction's operations ──
 
@@ -80,103 +58,84 @@ module _ (h : History) (t : ℕ) where
       ∙ rw (joined-one stepBytes (opStep (op h i)))
 
   -- those below n are those up to the last of them
-  ops-below : {n r : ℕ} → 1 ≤ n → r ≡ lastBelow h t n → opsBytes h t n ≡ opsBytes h t (r + 1)
-  unfolding opsBytes lastBelow
-  ops-below {n} {r} a e =
-      let l : r < n = omega (arith, e, last-less (ofTx h t) n a) in
-      let q : n ≡ r + 1 + (n - (r + 1)) = omega arith in
+  ops-chain : (n : ℕ) → opsBytes h t n ≡ opsBytes h t (last (ofTx h t) n + 1)
+  unfolding opsBytes
+  ops-chain n =
       ap (joined stepBytes)
-      (ap (λ (m : ℕ). listed 1 m (opStepOf h t)) q
-      ∙ listed-none (opStepOf h t) 1 (r + 1) (n - (r + 1)) (omega arith) (λ i g b. op-other i (last-none (ofTx h t) n i (omega (arith, e)) (omega arith))))
+      (⊎-elim
+      (λ l.
+      listed-below (opStepOf h t) n (last (ofTx h t) n + 1) 1 (omega arith) (omega (arith, last-less (ofTx h t) n l)) (λ i g b. op-other i (last-none (ofTx h t) n i (omega arith) b)))
+      (λ g. listed-end (opStepOf h t) 1 n (omega arith) ∙ sym (listed-end (opStepOf h t) 1 (last (ofTx h t) n + 1) (omega (arith, last-le (ofTx h t) n))))
+      (split 0 n))
 
   ops-none : {i : ℕ} → i ≤ 0 → opsBytes h t (i + 1) ≡ []
   unfolding opsBytes
   ops-none {i} l = ap (joined stepBytes) (listed-end (opStepOf h t) 1 (i + 1) (omega arith)) ∙ joined-none stepBytes
 
--- a loop that puts them into o before e has come to operation i, and to `at` in the buffer: those up to i are left. At 0 there are no more
+-- a loop that puts them into o before e has come to operation i, and to `at` in the buffer: those up to i are left
 pub record OpsLeft (h : History) (t : ℕ) (o : List ℕ) (e : ℕ) (b : List ℕ) (at i : ℕ) : Type 0 where
-  pub to : i ≤ opCount h
-  pub of : 0 < i → op h i .tx ≡ t
-  pub back : Backing o e (opsBytes h t (opCount h + 1)) b at (opsBytes h t (i + 1))
+  pub on : OnChain h t i
+  pub back : Back o e (opsBytes h t (opCount h + 1)) b at (opsBytes h t (i + 1))
 
 module _ {h : History} {t : ℕ} {o : List ℕ} {e : ℕ} where
-  -- those below n are left
-  left-below : {n i : ℕ} {b : List ℕ} {at : ℕ} → 1 ≤ n → n ≤ opCount h + 1 → i ≡ lastBelow h t n
-      → Backing o e (opsBytes h t (opCount h + 1)) b at (opsBytes h t n) → OpsLeft h t o e b at i
-  unfolding lastBelow ofTx
-  left-below {n} {i} a l q x =
-      record {
-        to = omega (arith, q, last-less (ofTx h t) n a);
-        of = λ z. eqb-true _ _ (rw (← q) at (last-passes (ofTx h t) n (omega (arith, q)) .0));
-        back = rw (← ops-below h t a q) x;
-      }
-
-  pub ops-start : {r : ℕ} → RoomBefore o e (length (opsBytes h t (opCount h + 1))) → Below r (lastOf h t) (opCount h + 1) → OpsLeft h t o e o e r
-  unfolding lastOf
-  ops-start x b = left-below (omega arith) (omega arith) (b .is) (back-start _ x)
+  pub ops-start : {r : ℕ} → Room o 0 e (opsBytes h t (opCount h + 1)) → Below r (lastOf h t) (opCount h + 1) → OpsLeft h t o e o e r
+  ops-start x b =
+      record { on = chain-last b; back = rw (← sought-last h t (opsBytes h t) (ops-chain h t) b) (back-start (opsBytes h t (opCount h + 1)) (x .within)) }
 
   module _ {b : List ℕ} {at i : ℕ} (x : OpsLeft h t o e b at i) where
-    pub op-room : 0 < i → RoomBefore o e (length (opsBytes h t (opCount h + 1))) → RoomBefore b at 16
-    op-room l w =
-        room-less (back-room (x .back) w)
-        (omega (arith, ap length (op-top h t l (x .of l)), length-append (opsBytes h t i) (stepBytes (opStep (op h i))), step-length (opStep (op h i)) (op-is-step (op h i))))
+    pub op-room : 0 < i → Room o 0 e (opsBytes h t (opCount h + 1)) → Room b 0 at (stepBytes (opStep (op h i)))
+    op-room l w = room-second (opsBytes h t i) _ (rw (op-top h t l (x .on .of l)) at (back-room (x .back) w))
 
     pub ops-next : {c : List ℕ} {q r : ℕ} → 0 < i → Appended b q c at (stepBytes (opStep (op h i))) → Below r (prevOf h i) i → OpsLeft h t o e c q r
-    unfolding prevOf
     ops-next l y b =
-        left-below l (omega (arith, x .to)) (rw (x .of l) at (b .is)) (back-step (x .back) (opsBytes h t i) (op-top h t l (x .of l)) y)
+        let of = x .on .of l in
+        record { on = chain-prev (x .on) l b; back = back-step (x .back) _ (op-top h t l of ∙ ap (λ (k : List ℕ). k ++ stepBytes (opStep (op h i))) (sought-prev h t (opsBytes h t) (ops-chain h t) of b)) y }
 
     pub ops-end : i ≤ 0 → Appended o at b e (opsBytes h t (opCount h + 1))
     ops-end l = back-end (x .back) (ops-none h t l)
 
 -- ── a transaction ──
 
--- one that is not open: its open, its operations, its close
-module _ (h : History) (t : ℕ) (n : isOpen h t ≡ false) where
+-- one that is not open: its open, its operations, its close, where its session s and its status x are known from elsewhere
+module _ (h : History) (t : ℕ) (n : isOpen h t ≡ false) {s x : ℕ} (e : s ≡ tx h t .session) (i : x ≡ tx h t .status) where
   abbrev opening : List ℕ
-  opening = stepBytes (Open (tx h t .session))
+  opening = stepBytes (Open s)
 
   abbrev inside : List ℕ
   inside = opsBytes h t (opCount h + 1)
 
   abbrev closing : List ℕ
-  closing = stepBytes (Close (tx h t .status))
+  closing = stepBytes (Close x)
 
   tx-bytes : txBytes h t ≡ opening ++ (inside ++ closing)
   unfolding txBytes txSteps closeStep opsBytes joined
   tx-bytes =
-      ap (λ (l : List ℕ). opening ++ l)
+      rw (e, i)
+      (ap (λ (l : List ℕ). stepBytes (Open (tx h t .session)) ++ l)
       (joined-append stepBytes (listed 1 (opCount h + 1) (opStepOf h t)) (closeStep h t)
-      ∙ rw (pick-off (isOpen h t) [] (Close (tx h t .status) ∷ []) n, joined-one stepBytes (Close (tx h t .status))))
-
-  tx-length : length (txBytes h t) ≡ 16 + (length inside + 16)
-  unfolding isNoStep
-  tx-length =
-      omega (
-        arith,
-        ap length tx-bytes,
-        length-append opening (inside ++ closing),
-        length-append inside closing,
-        step-length (Open (tx h t .session)) refl,
-        step-length (Close (tx h t .status)) refl,
-      )
+      ∙ rw (pick-off (isOpen h t) [] (Close (tx h t .status) ∷ []) n, joined-one stepBytes (Close (tx h t .status)))))
 
   -- the three, from the last to the first
-  module _ {o : List ℕ} {at : ℕ} (w : RoomBefore o at (length (txBytes h t))) where
-    pub close-room : RoomBefore o at 16
-    close-room = room-less w (omega (arith, tx-length))
+  module _ {o : List ℕ} {at : ℕ} (w : Room o 0 at (txBytes h t)) where
+    parts-room : Room o 0 at (opening ++ (inside ++ closing))
+    parts-room = rw tx-bytes at w
 
-    module _ {b : List ℕ} {r : ℕ} {xs : List ℕ} (x : Appended o r b at xs) (l : length xs ≡ 16) where
-      pub ops-room : RoomBefore b r (length inside)
-      ops-room = room-left w x (omega (arith, tx-length))
+    pub close-room : Room o 0 at closing
+    close-room = room-second inside closing (room-second opening (inside ++ closing) parts-room)
 
-      pub open-room : {c : List ℕ} {q : ℕ} → Appended b q c r inside → RoomBefore c q 16
-      open-room y = room-left w (appended-before x y) (omega (arith, tx-length, length-append inside xs))
+    module _ {b : List ℕ} {r : ℕ} (y : Appended o r b at closing) where
+      left-room : Room b 0 r (opening ++ inside)
+      left-room = room-before y (rw (append-assoc opening inside closing) parts-room)
 
-  -- .. where its session and its status are known from elsewhere
-  pub tx-put : {s x : ℕ} → s ≡ tx h t .session → x ≡ tx h t .status → {o b c d : List ℕ} {at r q p : ℕ} → Appended o r b at (stepBytes (Close x))
-      → Appended b q c r inside → Appended c p d q (stepBytes (Open s)) → Appended o p d at (txBytes h t)
-  tx-put e i x y z = rw tx-bytes (appended-before (appended-before (rw i at x) y) (rw e at z))
+      pub ops-room : Room b 0 r inside
+      ops-room = room-second opening inside left-room
+
+      pub open-room : {c : List ℕ} {q : ℕ} → Appended b q c r inside → Room c 0 q opening
+      open-room z = room-before z left-room
+
+  pub tx-put : {o b c d : List ℕ} {at r q p : ℕ} → Appended o r b at closing → Appended b q c r inside → Appended c p d q opening
+      → Appended o p d at (txBytes h t)
+  tx-put y z w = rw tx-bytes (appended-before (appended-before y z) w)
 
 -- ── all transactions ──
 
@@ -192,8 +151,8 @@ module _ (h : History) where
       let e : t - 1 + 1 ≡ t = omega arith in
       rw e (ap (joined stepBytes) (listed-more (txSteps h) t 1 l) ∙ joined-append stepBytes (listed 1 t (txSteps h)) (txSteps h t))
 
-  pub txs-room : {b : List ℕ} {at t : ℕ} → 0 < t → RoomBefore b at (length (txsBytes h (t + 1))) → RoomBefore b at (length (txBytes h t))
-  txs-room {t = t} l w = room-less w (omega (arith, ap length (txs-top t l), length-append (txsBytes h (t - 1 + 1)) (txBytes h t)))
+  pub txs-room : {b : List ℕ} {at t : ℕ} → 0 < t → Room b 0 at (txsBytes h (t + 1)) → Room b 0 at (txBytes h t)
+  txs-room {t = t} l w = room-second (txsBytes h (t - 1 + 1)) (txBytes h t) (rw (txs-top t l) at w)
 
   pub txs-none : (t : ℕ) → t ≤ 0 → txsBytes h (t + 1) ≡ []
   unfolding txsBytes

@@ -9,11 +9,6 @@ use Rattle.rules.specs.History.{History, txCount, opCount, isOpen}
 use Rattle.writing.specs.Steps.{stepBytes}
 use Rattle.writing.specs.Listing.{opStepOf, txSteps, historySteps}
 
--- there is room in the buffer o for n bytes before `at`
-pub record RoomBefore (o : List ℕ) (at n : ℕ) : Type 0 where
-  pub fits : n ≤ at
-  pub within : at ≤ length o
-
 -- the bytes of transaction t's operations below n; of transaction t; of the transactions below n; of all
 unfoldable pub opsBytes : History → ℕ → ℕ → List ℕ
 opsBytes h t n = joined stepBytes (listed 1 n (opStepOf h t))

@@ -4,15 +4,14 @@
 ghost use Prim.Native.Nat.{_+_};
 ghost use mathlib.Core.Path.{_≡_};
 ghost use mathlib.Core.Bool.{false};
-ghost use lib.ListN.{length};
-ghost use Rattle.base.proofs.Fill.{Appended};
+ghost use Rattle.base.proofs.Fill.{Appended, Room};
 ghost use Rattle.rules.specs.History.{op, opCount, isOpen};
 ghost use Rattle.table.specs.Table.{historyOf, Held, HasTx, HasOp};
 ghost use Rattle.writing.specs.Filling.{said, fill, content, into};
 ghost use Rattle.writing.specs.Steps.{stepBytes};
 ghost use Rattle.writing.specs.Writing.{isNoStep};
 ghost use Rattle.writing.specs.Listing.{opStep, stepped};
-ghost use Rattle.lister.specs.Lister.{RoomBefore, opsBytes, txBytes, allBytes, Listable};
+ghost use Rattle.lister.specs.Lister.{opsBytes, txBytes, allBytes, Listable};
 use rules::Event;
 use trace::Out;
 use writing::Filled;
@@ -23,7 +22,7 @@ const WORDS: usize = 2306;
 // ── one step ──
 
 fn put_before(out: &mut [u8], at: usize, event: Event) -> usize
-    requires { ⌜ (isNoStep event ≡ false) × RoomBefore (now out) at 16 ⌝ }
+    requires { ⌜ (isNoStep event ≡ false) × Room (now out) 0 at (stepBytes event) ⌝ }
     ensures { λ r. ⌜ Appended (now (out .entry)) r (now (out .exit)) at (stepBytes event) ⌝ }
 {
     let from = at - 16;
@@ -48,7 +47,7 @@ fn op_step(h: &[u64], i: usize) -> Event
 
 // The operations of transaction t, from its last one down.
 fn put_ops(h: &[u64], t: usize, out: &mut [u8], at: usize) -> usize
-    requires { ⌜ HasTx (now h) t × RoomBefore (now out) at (length (opsBytes (historyOf (now h)) t (opCount (historyOf (now h)) + 1))) ⌝ }
+    requires { ⌜ HasTx (now h) t × Room (now out) 0 at (opsBytes (historyOf (now h)) t (opCount (historyOf (now h)) + 1)) ⌝ }
     ensures { λ r. ⌜ Appended (now (out .entry)) r (now (out .exit)) at (opsBytes (historyOf (now (h .entry))) t (opCount (historyOf (now (h .entry))) + 1)) ⌝ }
 {
     let mut from = at;
@@ -62,7 +61,7 @@ fn put_ops(h: &[u64], t: usize, out: &mut [u8], at: usize) -> usize
 
 // Its close, its operations, its open.
 fn put_tx(h: &[u64], t: usize, out: &mut [u8], at: usize) -> usize
-    requires { ⌜ HasTx (now h) t × (isOpen (historyOf (now h)) t ≡ false) × RoomBefore (now out) at (length (txBytes (historyOf (now h)) t)) ⌝ }
+    requires { ⌜ HasTx (now h) t × (isOpen (historyOf (now h)) t ≡ false) × Room (now out) 0 at (txBytes (historyOf (now h)) t) ⌝ }
     ensures { λ r. ⌜ Appended (now (out .entry)) r (now (out .exit)) at (txBytes (historyOf (now (h .entry))) t) ⌝ }
 {
     let close = Event::Close(table::status_of(h, t) as u16);
@@ -76,7 +75,7 @@ fn put_tx(h: &[u64], t: usize, out: &mut [u8], at: usize) -> usize
 
 // All transactions, from the last one down.
 fn put_txs(h: &[u64], out: &mut [u8], at: usize) -> usize
-    requires { ⌜ Held (now h) × Listable (historyOf (now h)) × RoomBefore (now out) at (length (allBytes (historyOf (now h)))) ⌝ }
+    requires { ⌜ Held (now h) × Listable (historyOf (now h)) × Room (now out) 0 at (allBytes (historyOf (now h))) ⌝ }
     ensures { λ r. ⌜ Appended (now (out .entry)) r (now (out .exit)) at (allBytes (historyOf (now (h .entry)))) ⌝ }
 {
     let mut from = at;

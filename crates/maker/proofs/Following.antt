@@ -21,8 +21,9 @@ use Rattle.writing.specs.Steps.{stepCount, stepAt, stepsFrom, stepsIn}
 use Rattle.writing.specs.Writing.{isNoStep, writeRows, writeNo, endNo, bad, good, follow}
 use Rattle.writing.proofs.Rows.{taken}
 use Rattle.writing.proofs.Followed.{follow-bad, follow-on}
-use Rattle.maker.specs.Maker.{numberIn, Entered, Ended}
-use Rattle.maker.proofs.Steps.{steps-step, steps-end}
+use Rattle.maker.specs.declared.Course.the-variants.{Good, Bad}
+use Rattle.maker.specs.Maker.{numberIn, Entered, Ended, followedAs, FollowedInto}
+use Rattle.writing.proofs.Steps.{steps-step, steps-end}
 
 -- ── one step ──
 
@@ -88,11 +89,16 @@ following-first s g h = record { held = h .held; within = omega arith; whole = r
 
 module _ {s g : List ℕ} {k : ℕ} (x : Following s g k) where
   module _ (l : k < stepCount s) {r : ℕ} {g2 : List ℕ} (y : Entered r g2 g (stepAt s (16 * k))) where
-    pub following-bad : 0 < r → follow empty 1 (stepsIn s) ≡ bad r (k + 1)
+    pub following-bad : 0 < r → FollowedInto (Bad r (k + 1)) g2 s
+    unfolding followedAs
     following-bad p =
-        x .whole ∙ ap (follow (historyOf g) (k + 1)) (steps-step s k l)
-        ∙ follow-bad (historyOf g) (k + 1) (stepAt s (16 * k)) (stepsFrom s (k + 1)) (omega (arith, y .is))
-        ∙ ap (λ (n : ℕ). bad n (k + 1)) (sym (y .is))
+        record {
+          is =
+              x .whole ∙ ap (follow (historyOf g) (k + 1)) (steps-step s k l)
+              ∙ follow-bad (historyOf g) (k + 1) (stepAt s (16 * k)) (stepsFrom s (k + 1)) (omega (arith, y .is))
+              ∙ ap (λ (n : ℕ). bad n (k + 1)) (sym (y .is));
+          held = y .held;
+        }
 
     pub following-more : r ≤ 0 → Following s g2 (k + 1)
     following-more p =
@@ -111,12 +117,22 @@ module _ {s g : List ℕ} {k : ℕ} (x : Following s g k) where
     unfolding follow
     at-end = x .whole ∙ ap (follow (historyOf g) (k + 1)) (steps-end s k (rw q at l))
 
-    pub following-open : 0 < r → follow empty 1 (stepsIn s) ≡ bad r (n + 1)
+    pub following-open : 0 < r → FollowedInto (Bad r (n + 1)) g2 s
+    unfolding followedAs
     following-open p =
-        at-end ∙ pick-on _ (bad (endNo (historyOf g)) (k + 1)) (good (historyOf g)) (lt-ltb 0 (endNo (historyOf g)) (omega (arith, y .is)))
-        ∙ ap (λ (n : ℕ). bad n (k + 1)) (sym (y .is)) ∙ ap (λ (n : ℕ). bad r n) (omega (arith, x .within, q))
+        record {
+          is =
+              at-end ∙ pick-on _ (bad (endNo (historyOf g)) (k + 1)) (good (historyOf g)) (lt-ltb 0 (endNo (historyOf g)) (omega (arith, y .is)))
+              ∙ ap (λ (n : ℕ). bad n (k + 1)) (sym (y .is)) ∙ ap (λ (n : ℕ). bad r n) (omega (arith, x .within, q));
+          held = y .held;
+        }
 
-    pub following-good : r ≤ 0 → follow empty 1 (stepsIn s) ≡ good (historyOf g2)
+    pub following-good : r ≤ 0 → FollowedInto Good g2 s
+    unfolding followedAs
     following-good p =
-        at-end ∙ pick-off _ (bad (endNo (historyOf g)) (k + 1)) (good (historyOf g)) (le-ltb 0 (endNo (historyOf g)) (omega (arith, y .is)))
-        ∙ ap good (sym (y .history))
+        record {
+          is =
+              at-end ∙ pick-off _ (bad (endNo (historyOf g)) (k + 1)) (good (historyOf g)) (le-ltb 0 (endNo (historyOf g)) (omega (arith, y .is)))
+              ∙ ap good (sym (y .history));
+          held = y .held;
+        }

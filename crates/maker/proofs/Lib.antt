@@ -1,4 +1,3 @@
-pub mod Steps
 pub mod Following
 pub mod Records
 pub mod Call

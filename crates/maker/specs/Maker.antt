@@ -33,13 +33,13 @@ pub record Ended (r : ℕ) (g2 g : List ℕ) : Type 0 where
   pub held : Held g2
 
 -- an answer as the definition has it, where the table holds h
-unfoldable pub cameTo : Course → History → Followed
-cameTo Good h = good h
-cameTo (Bad n p) h = bad n p
+unfoldable pub followedAs : Course → History → Followed
+followedAs Good h = good h
+followedAs (Bad n p) h = bad n p
 
 -- the answer r to the steps s, which are followed into the table g
-pub record Came (r : Course) (g s : List ℕ) : Type 0 where
-  pub is : follow empty 1 (stepsIn s) ≡ cameTo r (historyOf g)
+pub record FollowedInto (r : Course) (g s : List ℕ) : Type 0 where
+  pub is : follow empty 1 (stepsIn s) ≡ followedAs r (historyOf g)
   pub held : Held g
 
 -- the table g holds the history of the steps s, which no row refuses

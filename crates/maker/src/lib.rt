@@ -8,7 +8,7 @@ ghost use Rattle.table.specs.Table.{tableWords, historyOf, Held};
 ghost use Rattle.writing.specs.Filling.{fill, said};
 ghost use Rattle.writing.specs.Steps.{stepCount, stepOf, stepAt, stepsIn};
 ghost use Rattle.writing.specs.Writing.{isNoStep, traceOf, written};
-ghost use Rattle.maker.specs.Maker.{numberIn, Entered, Ended, Came, Makes};
+ghost use Rattle.maker.specs.Maker.{numberIn, Entered, Ended, FollowedInto, Makes};
 use rules::Event;
 use steps::Next;
 use writing::Filled;
@@ -106,7 +106,7 @@ pub enum Course {
 // "the step's number, from 1, as place; a sequence that ends inside a transaction gets 7 with the number of steps plus one"
 fn follow_steps(s: &[u8], h: &mut [u64]) -> Course
     requires { ⌜ length (now h) ≡ tableWords ⌝ }
-    ensures { λ r. ⌜ Came r (now (h .exit)) (now (s .entry)) ⌝ }
+    ensures { λ r. ⌜ FollowedInto r (now (h .exit)) (now (s .entry)) ⌝ }
 {
     table::clear(h);
     let n = step_count(s);

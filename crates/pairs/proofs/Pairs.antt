@@ -18,11 +18,12 @@ use Rattle.rules.specs.History.{History, op, opCount, size, committed}
 use Rattle.rules.specs.Reads.{sourceOf, isExternal, readsFrom}
 use Rattle.rules.specs.Levels.{isStart, isSession, isRead, basic, leads}
 use Rattle.table.specs.Table.{historyOf, ofTx, Held, HasTx, HasOp}
+use Rattle.table.proofs.Chain.{OnChain}
 use Rattle.reads.proofs.Fitting.{past-committed, source-less}
 use Rattle.reads.proofs.Entries.{external-says, judged-external, judged-reads}
 use Rattle.bits.specs.Bits.{bitOf, Holds, Under, nothing, either}
 use Rattle.bits.proofs.Tables.{holds-same}
-use Rattle.pairs.specs.Pairs.{Ready, OnChain, before, cell, across, precedes, orderBit, orderRow, orders, readBit, readBits}
+use Rattle.pairs.specs.Pairs.{Ready, before, cell, across, precedes, orderBit, orderRow, orders, readBit, readBits}
 use Rattle.pairs.proofs.Marking.{cell-is, cell-has}
 
 -- ── what the bytes say ──

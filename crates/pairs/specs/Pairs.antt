@@ -1,6 +1,5 @@
 -- Tables of pairs, kept by predecessor, and how the table of basic pairs is filled.
-use Prim.Native.Nat.{ℕ, _+_, _≤_, _<_}
-use mathlib.Core.Path.{_≡_}
+use Prim.Native.Nat.{ℕ, _+_}
 use mathlib.Core.Bool.{Bool}
 use mathlib.Core.List.{List}
 use lib.Dec.{eqb}
@@ -19,11 +18,6 @@ before f b a = f a b
 pub record Ready (h k : List ℕ) : Type 0 where
   pub held : Held h
   pub judged : Judged k (historyOf h)
-
--- i is an operation of t, or 0: where a walk through t's operations, from the last down, can stand
-pub record OnChain (h : History) (t i : ℕ) : Type 0 where
-  pub to : i ≤ opCount h
-  pub of : 0 < i → op h i .tx ≡ t
 
 -- ── what is marked ──
 

@@ -2,14 +2,13 @@
 // stays as it was.
 ghost use mathlib.Core.Path.{_≡_};
 ghost use mathlib.Core.List.{_++_};
-ghost use Prim.Native.Nat.{_+_, _≤_, _<_};
+ghost use Prim.Native.Nat.{_+_, _≤_};
 ghost use lib.ListN.{length};
 ghost use Rattle.base.proofs.Fill.{Appended};
 ghost use Rattle.rules.specs.Numbers.{bytes};
 ghost use Rattle.rules.specs.Traces.{recordOf};
 ghost use Rattle.writing.specs.Steps.{fieldBytes, stepBytes};
 ghost use Rattle.writing.specs.Writing.{itemOf};
-ghost use Rattle.putting.specs.Putting.{statusOf};
 use rules::Event;
 
 // "all little-endian": n in this many bytes.
@@ -68,9 +67,8 @@ fn payload_length(event: Event) -> u64
     }
 }
 
-// A close's status takes one byte.
 fn put_payload(out: &mut [u8], at: usize, event: Event) -> usize
-    requires { ⌜ (statusOf event < 256) × (at + length (itemOf event .payload) ≤ length (now out)) ⌝ }
+    requires { ⌜ at + length (itemOf event .payload) ≤ length (now out) ⌝ }
     ensures { λ r. ⌜ Appended (now (out .entry)) at (now (out .exit)) r (itemOf event .payload) ⌝ }
 {
     match event {
@@ -86,7 +84,7 @@ fn put_payload(out: &mut [u8], at: usize, event: Event) -> usize
 
 // "A record is a 2-byte length, a 2-byte kind, a 4-byte serial and a payload"; "The length counts everything after itself."
 pub fn put_record(out: &mut [u8], at: usize, serial: u32, event: Event) -> usize
-    requires { ⌜ (statusOf event < 256) × (at + length (recordOf serial (itemOf event)) ≤ length (now out)) ⌝ }
+    requires { ⌜ at + length (recordOf serial (itemOf event)) ≤ length (now out) ⌝ }
     ensures { λ r. ⌜ Appended (now (out .entry)) at (now (out .exit)) r (recordOf serial (itemOf event)) ⌝ }
 {
     let to = put_number(out, at, 2, 6 + payload_length(event));

@@ -5,14 +5,15 @@ use mathlib.Core.Bool.{Bool, true, false}
 use mathlib.Core.Logic.{⊎-elim}
 use native.Mathlib.Omega.{arith}
 use lib.Dec.{eqb}
-use borrow.Author.Tests.{eqb-true, eq-eqb}
+use borrow.Author.Tests.{eq-eqb}
 use Rattle.base.specs.Base.{_and_}
 use Rattle.base.proofs.Tests.{and-left, and-right, and-true, split}
 use Rattle.base.proofs.Searches.{some-end}
-use Rattle.base.proofs.Chains.{last-passes, top-hit, top-miss, top-chain}
+use Rattle.base.proofs.Chains.{top-hit, top-miss, top-chain}
 use Rattle.rules.specs.History.{History, op, opCount}
 use Rattle.rules.specs.Reads.{writesAt, wroteBetween}
 use Rattle.table.specs.Table.{ofTx, lastBelow, lastOf, prevOf}
+use Rattle.table.proofs.Chain.{last-own}
 use Rattle.reads.specs.Verdicts.{writesKeyAt, wroteUpTo}
 
 -- t writes by its own operations only
@@ -30,15 +31,11 @@ module _ (h : History) (t x a e j : ℕ) (q : j ≡ lastBelow h t e) where
   unfolding wroteBetween lastBelow
   to-last = rw q (top-chain (writesAt h t x) (a + 1) (ofTx h t) (λ i l s. writes-own h t x i s) e (omega arith))
 
-  last-own : 0 < j → op h j .tx ≡ t
-  unfolding lastBelow ofTx
-  last-own z = eqb-true (op h j .tx) t (rw (← q) at (last-passes (ofTx h t) e (omega (arith, q)) .0))
-
   pub wrote-below : wroteBetween h t x a e ≡ wroteUpTo h x a j
   unfolding wroteUpTo wroteBetween
   wrote-below =
       to-last
-      ∙ ⊎-elim (λ z. rw (last-own z) refl) (λ z. some-end (writesAt h t x) (a + 1) (j + 1) (omega arith) ∙ sym (some-end (writesAt h (op h j .tx) x) (a + 1) (j + 1) (omega arith)))
+      ∙ ⊎-elim (λ z. rw (last-own h t e q z) refl) (λ z. some-end (writesAt h t x) (a + 1) (j + 1) (omega arith) ∙ sym (some-end (writesAt h (op h j .tx) x) (a + 1) (j + 1) (omega arith)))
       (split 0 j)
 
 module _ (h : History) (x a : ℕ) where

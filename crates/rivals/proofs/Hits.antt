@@ -15,10 +15,10 @@ use Rattle.rules.specs.History.{History, op, opCount}
 use Rattle.rules.specs.Reads.{writesAt, wroteBetween, sourceOf, isExternal}
 use Rattle.rules.specs.Levels.{writesKey}
 use Rattle.table.specs.Table.{historyOf, ofTx, lastBelow, lastOf, prevOf, HasOp, Below}
+use Rattle.table.proofs.Chain.{OnChain, on-last, chain-prev, sought-prev}
 use Rattle.bits.specs.Bits.{bitOf}
-use Rattle.pairs.specs.Pairs.{Ready, OnChain}
+use Rattle.pairs.specs.Pairs.{Ready}
 use Rattle.pairs.proofs.Pairs.{byte-clean, byte-other, byte-origin}
-use Rattle.pairs.proofs.Walk.{on-last, chain-prev, sought-prev}
 use Rattle.rivals.specs.Rivals.{isAbove, canRival, fits, isTried, isHit, isHitOf, standsFor, writesFor, triesFrom}
 
 -- ── one operation of t2 ──

@@ -16,12 +16,12 @@ use Rattle.rules.specs.History.{History, op, opCount, size, committed}
 use Rattle.rules.specs.Reads.{sourceOf, isExternal}
 use Rattle.rules.specs.Levels.{basic, writesKey, sees, settles, isRival, forced}
 use Rattle.table.specs.Table.{historyOf, lastOf, prevOf, Held, Below}
+use Rattle.table.proofs.Chain.{OnChain, sought-last, sought-prev}
 use Rattle.reads.proofs.Fitting.{source-less}
 use Rattle.bits.specs.Bits.{bitOf, Holds, Under, nothing, either}
 use Rattle.bits.proofs.Tables.{holds-same}
-use Rattle.pairs.specs.Pairs.{OnChain, before, cell, across}
+use Rattle.pairs.specs.Pairs.{before, cell, across}
 use Rattle.pairs.proofs.Marking.{cell-is, cell-has, Marking, mark-chain, mark-down}
-use Rattle.pairs.proofs.Walk.{sought-last, sought-prev}
 use Rattle.pairs.proofs.Pairs.{committed-in, basic-under, before-under, before-via}
 use Rattle.rivals.specs.Rivals.{seenFrom, isAbove, canRival, fits, isHitOf, hitBit, hitBits, settlesIn, rivalBit, rivalBits, rivalsOf, rivals}
 use Rattle.rivals.proofs.Hits.{hit-tx, hit-external, hit-fits, fits-hit, last-hit-of}

@@ -15,9 +15,9 @@ use Rattle.rules.specs.History.{History, txCount, opCount}
 use Rattle.rules.specs.Reads.{readsFrom}
 use Rattle.rules.specs.Levels.{isRead, basic, leads, sees}
 use Rattle.table.specs.Table.{historyOf, HasTx, ofTx, lastOf, prevOf, Below}
+use Rattle.table.proofs.Chain.{OnChain, chain-last, chain-prev, sought-last, sought-prev}
 use Rattle.bits.specs.Bits.{bitOf, Holds}
-use Rattle.pairs.specs.Pairs.{OnChain, before}
-use Rattle.pairs.proofs.Walk.{chain-last, chain-prev, sought-last, sought-prev}
+use Rattle.pairs.specs.Pairs.{before}
 use Rattle.rivals.specs.Rivals.{pairsFor, Told, firstFrom, seenFrom}
 
 -- ── the first, found from the top down ──

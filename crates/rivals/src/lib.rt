@@ -9,8 +9,9 @@ ghost use Rattle.base.specs.Base.{pick, last};
 ghost use Rattle.rules.specs.History.{op, txCount};
 ghost use Rattle.rules.specs.Levels.{isRival};
 ghost use Rattle.table.specs.Table.{historyOf, HasTx, HasOp};
+ghost use Rattle.table.proofs.Chain.{OnChain};
 ghost use Rattle.bits.specs.Bits.{bitOf, Holds, either};
-ghost use Rattle.pairs.specs.Pairs.{Ready, OnChain, before};
+ghost use Rattle.pairs.specs.Pairs.{Ready, before};
 ghost use Rattle.rivals.specs.Rivals.{Told, firstFrom, seenFrom, standsFor, writesFor, triesFrom, isHitOf, hitBits, rivalBits, rivalsOf, rivals};
 
 // ── which reads of t3 see t2 ──

@@ -1,11 +1,11 @@
 -- Laws of bytes as numbers, and of bytes that are written over others.
 use Prim.Native.Nat.{ℕ, zero, suc, _+_, _*_, _/_, _%_, _^_, _<_, _≤_}
 use mathlib.Core.Path.{_≡_, refl, ap, sym, _∙_}
-use mathlib.Core.List.{List, [], _∷_, _++_, append-nil}
+use mathlib.Core.List.{List, [], _∷_, _++_, append-assoc, append-nil}
 use native.Mathlib.Omega.{arith}
 use native.Mathlib.Numerals.{add-one, unary-clauses}
 use lib.ListN.{length, getD, take, drop}
-use lib.Seq.{getD-append-add, take-suc, append-snoc}
+use lib.Seq.{getD-append-add, getD-take, take-suc, append-snoc}
 use Rattle.base.proofs.Fill.{Appended}
 use Rattle.rules.specs.Numbers.{le, bytes, over}
 
@@ -23,6 +23,12 @@ unfolding le
 le-behind zero xs s i = refl
 le-behind (suc w) xs s i =
     let e : length xs + i + 1 ≡ length xs + (i + 1) = omega arith in rw (getD-append-add xs s i 0, e, le-behind w xs s (i + 1))
+
+-- what stands behind does not count
+pub le-take : (w i m : ℕ) (s : List ℕ) → i + w ≤ m → le w (take m s) i ≡ le w s i
+unfolding le
+le-take zero i m s l = refl
+le-take (suc w) i m s l = rw (getD-take m s i 0 (omega arith), le-take w (i + 1) m s (omega arith))
 
 -- the bytes of a number spell it
 pub le-bytes : (w n : ℕ) (s : List ℕ) → n < 256 ^ w → le w (bytes w n ++ s) 0 ≡ n
@@ -48,6 +54,13 @@ spelt (suc w) s at b l =
     let e : at + suc w ≡ at + 1 + w = omega arith in
     let t : take (at + 1) s ≡ take at s ++ (x ∷ []) = rw (add-one at) (take-suc s at 0 (omega arith)) in
     rw (q, r, e) (spelt w s (at + 1) b (omega arith) ∙ rw t (append-snoc (take at s) x (bytes w m)))
+
+-- .. and of the next one
+pub spelt-on : (s : List ℕ) → ((i : ℕ) → getD s i 0 < 256) → (at w i : ℕ) (xs : List ℕ) → at + (i + w) ≤ length s → take (at + i) s ≡ take at s ++ xs
+    → take (at + (i + w)) s ≡ take at s ++ (xs ++ bytes w (le w s (at + i)))
+spelt-on s b at w i xs l e =
+    let n : at + (i + w) ≡ at + i + w = omega arith in
+    rw n (spelt w s (at + i) b (omega arith) ∙ rw e (append-assoc (take at s) xs (bytes w (le w s (at + i)))))
 
 -- ── buffers ──
 

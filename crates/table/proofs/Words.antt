@@ -7,7 +7,7 @@ use lib.ListN.{getD}
 use Rattle.base.proofs.Chains.{last-less}
 use Rattle.base.proofs.Numbered.{numbered-length, numbered-at}
 use Rattle.rules.specs.History.{History, Op, tx, op, txCount, opCount, zeroth, noTx, noOp, writesValue, writeOf}
-use Rattle.table.specs.Table.{txAt, opAt, historyOf, lastAt, prevAt, headAt, linkAt, lastOf, prevOf, headOf, linkOf, Held, HasTx, HasOp, HasWrite, Below}
+use Rattle.table.specs.Table.{txAt, opAt, opOf, historyOf, lastAt, prevAt, headAt, linkAt, lastOf, prevOf, headOf, linkOf, Held, HasTx, HasOp, HasWrite, Below}
 use Rattle.table.proofs.Grown.{last-of-less, prev-of-less, head-of-less, link-of-less}
 
 pub tx-count : (h : List ℕ) → txCount (historyOf h) ≡ getD h 0 0 % 128
@@ -23,6 +23,15 @@ module _ (h : List ℕ) (t : ℕ) (p : HasTx h t) where
   unfolding historyOf tx
   tx-is = numbered-at zeroth noTx _ (txAt h) t (p .from) (omega (arith, tx-count h, p .to))
 
+  -- its fields fit into 16 bits each
+  pub session-small : tx (historyOf h) t .session < 65536
+  unfolding txAt
+  session-small = rw tx-is (omega arith)
+
+  pub status-small : tx (historyOf h) t .status < 65536
+  unfolding txAt
+  status-small = rw tx-is (omega arith)
+
   pub last-is-kept : Below (lastAt h t) (lastOf (historyOf h) t) (opCount (historyOf h) + 1)
   last-is-kept =
       let e = p .held .lasts t (p .from) (p .to) in
@@ -37,6 +46,11 @@ module _ (h : List ℕ) (i : ℕ) (p : HasOp h i) where
   pub op-is : op (historyOf h) i ≡ opAt h i
   unfolding historyOf op
   op-is = numbered-at noOp noOp _ (opAt h) i (p .from) (omega (arith, op-count h, p .to))
+
+  -- its key fits into 32 bits
+  pub key-small : op (historyOf h) i .key < 4294967296
+  unfolding opAt opOf
+  key-small = rw op-is (omega arith)
 
   pub prev-is-kept : Below (prevAt h i) (prevOf (historyOf h) i) i
   prev-is-kept =

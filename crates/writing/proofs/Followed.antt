@@ -8,10 +8,10 @@ use lib.Dec.{ltb}
 use lib.ListN.{length, length-append}
 use borrow.Author.Tests.{lt-ltb, le-ltb}
 use Rattle.base.proofs.Tests.{pick-on, pick-off, split}
-use Rattle.rules.specs.History.{History, txCount, current, empty}
+use Rattle.rules.specs.History.{History, current, empty}
 use Rattle.rules.specs.Reading.{entered}
 use Rattle.rules.specs.declared.Event.{Event}
-use Rattle.writing.specs.Writing.{writeNo, endNo, Followed, bad, good, follow}
+use Rattle.writing.specs.Writing.{writeNo, endNo, bad, good, follow}
 use Rattle.writing.proofs.Rows.{Taken, taken, taken-none, end-clear, end-inside}
 use Rattle.writing.proofs.Grown.{Grown, grown-none, grown-step}
 

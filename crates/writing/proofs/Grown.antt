@@ -1,7 +1,7 @@
 -- Histories that grow step by step: whatever is followed or read has grown so.
 use Prim.Native.Nat.{ℕ, _+_, _*_, _<_, _≤_}
-use mathlib.Core.Path.{_≡_, refl, ap, sym, _∙_}
-use mathlib.Core.Bool.{Bool, true, false}
+use mathlib.Core.Path.{_≡_, refl, ap, _∙_}
+use mathlib.Core.Bool.{true, false}
 use mathlib.Core.List.{List, [], _∷_, _++_}
 use mathlib.Core.Logic.{⊎-elim}
 use native.Mathlib.Omega.{arith}
@@ -15,7 +15,6 @@ use Rattle.rules.specs.Reading.{entered}
 use Rattle.rules.specs.declared.Event.{Event}
 use Rattle.rules.specs.declared.Event.the-variants.{Open, Read, Write, Close}
 use Rattle.rules.proofs.History.{with-op-count, with-op-txs, with-op-old, with-op-new, open-count, open-ops, open-new, close-count, close-ops, close-this}
-use Rattle.demand1.specs.Rows.{Inside}
 use Rattle.demand1.proofs.Histories.{inside-current, outside-current, current-inside}
 use Rattle.writing.proofs.Rows.{Taken, open-taken, read-taken, write-taken, close-taken}
 

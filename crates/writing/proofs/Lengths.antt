@@ -1,6 +1,6 @@
 -- How long a trace is that is written.
 use Prim.Native.Nat.{ℕ, _+_, _*_, _%_, _^_}
-use mathlib.Core.Path.{_≡_, refl, ap, sym, _∙_}
+use mathlib.Core.Path.{_≡_, refl, ap, _∙_}
 use mathlib.Core.Bool.{true, false}
 use mathlib.Core.List.{List, [], _∷_, _++_, map}
 use native.Mathlib.Omega.{arith}
@@ -8,7 +8,7 @@ use lib.ListN.{length, length-append, length-map}
 use Rattle.rules.specs.Numbers.{bytes}
 use Rattle.rules.specs.History.{History, Op, txCount, opCount, current, empty, opened, closed, withOp}
 use Rattle.rules.specs.Reading.{entered}
-use Rattle.rules.specs.Traces.{Item, recordOf, trace}
+use Rattle.rules.specs.Traces.{recordOf, trace}
 use Rattle.rules.specs.declared.Event.{Event}
 use Rattle.rules.specs.declared.Event.the-variants.{Open, Read, Write, Close, End}
 use Rattle.rules.proofs.Traces.{record-length, serialFrom, trace-one, trace-append}
@@ -32,10 +32,13 @@ pub records-first : (n : ℕ) (e : Event) (es : List Event) → recordsOf n (e �
 unfolding recordsOf trace
 records-first n e es = refl
 
--- one more
-pub records-more : (n : ℕ) (es : List Event) (e : Event) → recordsOf n (es ++ (e ∷ [])) ≡ recordsOf n es ++ recordOf (serialFrom n (length es)) (itemOf e)
+-- one alone; one more
+pub records-one : (n : ℕ) (e : Event) → recordsOf n (e ∷ []) ≡ recordOf n (itemOf e)
 unfolding recordsOf
-records-more n es e = records-append n es (e ∷ []) ∙ rw (trace-one (serialFrom n (length es)) (itemOf e))
+records-one n e = trace-one n (itemOf e)
+
+pub records-more : (n : ℕ) (es : List Event) (e : Event) → recordsOf n (es ++ (e ∷ [])) ≡ recordsOf n es ++ recordOf (serialFrom n (length es)) (itemOf e)
+records-more n es e = records-append n es (e ∷ []) ∙ rw (records-one (serialFrom n (length es)) e)
 
 -- .. by so many bytes
 pub records-length : (n : ℕ) (es : List Event) (e : Event) → length (recordsOf n (es ++ (e ∷ []))) ≡ length (recordsOf n es) + (8 + length (itemOf e .payload))

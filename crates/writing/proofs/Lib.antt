@@ -1,3 +1,5 @@
+pub mod Filling
+pub mod Steps
 pub mod Rows
 pub mod Grown
 pub mod Followed

@@ -1,13 +1,11 @@
 -- A history that a trace is read into has grown by the steps that tell it.
-use Prim.Native.Nat.{ℕ, _+_, _*_, _<_, _≤_}
-use mathlib.Core.Path.{_≡_, refl, ap, sym, _∙_}
-use mathlib.Core.Bool.{true, false}
-use mathlib.Core.List.{List, [], _∷_, _++_}
+use Prim.Native.Nat.{ℕ, _+_, _*_, _<_}
+use mathlib.Core.Path.{_≡_, refl, ap, _∙_}
+use mathlib.Core.List.{List, [], _∷_}
 use native.Mathlib.Omega.{arith}
 use lib.ListN.{length, length-append}
 use Rattle.base.specs.Base.{joined}
 use Rattle.base.proofs.Searches.{joined-append, joined-one, joined-none}
-use Rattle.rules.specs.Numbers.{bytes}
 use Rattle.rules.specs.History.{History, txCount, opCount, current, writeOf}
 use Rattle.rules.specs.Records.{eventAt}
 use Rattle.rules.specs.Reading.{State, Stretch, entered, reading, read}
@@ -19,10 +17,11 @@ use Rattle.demand1.proofs.Events.{Framed, passes-framed, open-event, read-event
 use Rattle.demand1.proofs.Steps.{inside}
 use Rattle.demand1.proofs.Checks.{write-found}
 use Rattle.demand1.proofs.Readings.{reads-iff}
-use Rattle.writing.specs.Steps.{fieldBytes, stepBytes}
+use Rattle.writing.specs.Steps.{stepBytes}
 use Rattle.writing.specs.Listing.{historySteps}
-use Rattle.writing.proofs.Rows.{Taken, open-taken, read-taken, write-taken, close-taken}
-use Rattle.writing.proofs.Grown.{Grown, grown-none, grown-step, counts, open-none, latest}
+use Rattle.writing.proofs.Steps.{step-length}
+use Rattle.writing.proofs.Rows.{Taken, open-taken, read-taken, write-taken, close-taken, taken-step}
+use Rattle.writing.proofs.Grown.{Grown, grown-none, grown-step, counts, open-none}
 use Rattle.writing.proofs.Told.{told}
 
 -- told by itself
@@ -88,19 +87,11 @@ read-grown (to-the-end {st} l r p k e) = (reached r, outside-current (st .histor
 
 -- ── how long the steps are ──
 
--- a step that is taken has sixteen bytes
-step-length : {h : History} (e : Event) → Taken h e → length (stepBytes e) ≡ 16
-unfolding stepBytes fieldBytes bytes
-step-length (Open s) t = refl
-step-length (Read x v) t = refl
-step-length (Write x v) t = refl
-step-length (Close c) t = refl
-
 pub grown-bytes : {es : List Event} {h : History} → Grown es h → length (joined stepBytes es) ≡ 16 * length es
 grown-bytes grown-none = ap length (joined-none stepBytes)
 grown-bytes (grown-step {es} e g t) =
     ap length (joined-append stepBytes es (e ∷ [])) ∙ length-append (joined stepBytes es) (joined stepBytes (e ∷ []))
-    ∙ rw (joined-one stepBytes e) (omega (arith, step-length e t, grown-bytes g, length-append es (e ∷ [])))
+    ∙ rw (joined-one stepBytes e) (omega (arith, step-length e (taken-step t), grown-bytes g, length-append es (e ∷ [])))
 
 -- two for a transaction and one for an operation
 pub listing-length : (s : List ℕ) (h : History) (notes : List Stretch) → reading s ≡ read h notes

@@ -1,7 +1,6 @@
 -- A history that has grown by steps is told by just those.
-use Prim.Native.Nat.{ℕ, _+_, _*_, _<_, _≤_}
+use Prim.Native.Nat.{ℕ, _+_, _<_, _≤_}
 use mathlib.Core.Path.{_≡_, refl, ap, sym, _∙_}
-use mathlib.Core.Bool.{Bool, true, false}
 use mathlib.Core.List.{List, [], _∷_, _++_, append-assoc, append-nil}
 use native.Mathlib.Omega.{arith}
 use lib.Dec.{eqb}
@@ -18,8 +17,8 @@ use Rattle.rules.specs.declared.Event.the-variants.{Open, Read, Write, Close}
 use Rattle.rules.proofs.History.{with-op-count, with-op-txs, with-op-tx, with-op-old, with-op-new, open-count, open-ops, open-old, open-new, close-count, close-ops, close-whole, close-other}
 use Rattle.demand1.proofs.Histories.{current-inside}
 use Rattle.writing.specs.Listing.{opStep, opStepOf, closeStep, txSteps, historySteps}
-use Rattle.writing.proofs.Rows.{Taken, open-taken, read-taken, write-taken, close-taken}
-use Rattle.writing.proofs.Grown.{Grown, grown-none, grown-step, OpsIn, Counts, counts, latest}
+use Rattle.writing.proofs.Rows.{open-taken, read-taken, write-taken, close-taken}
+use Rattle.writing.proofs.Grown.{Grown, grown-none, grown-step, OpsIn, counts, latest}
 
 -- the steps of t's operations
 abbrev opSteps : History → ℕ → List Event

@@ -3,3 +3,4 @@ pub mod Steps
 pub mod Writing
 pub mod Listing
 pub mod Rewriting
+pub mod Cases

@@ -6,11 +6,13 @@ use mathlib.Core.Logic.{⊎-elim}
 use native.Mathlib.Omega.{arith}
 use lib.ListN.{length, getD, List·getD-append}
 use lib.Seq.{getD-append-add}
+use Rattle.base.specs.Base.{joined}
 use Rattle.base.proofs.Tests.{split}
 use Rattle.rules.specs.Numbers.{bytes}
 use Rattle.rules.specs.Traces.{Item, raw, recordOf, trace}
 use Rattle.rules.specs.declared.Event.{Event}
 use Rattle.rules.specs.declared.Event.the-variants.{Open, Read, Write, Close, End, Note, Other}
+use Rattle.writing.specs.Steps.{fieldBytes, stepBytes}
 use Rattle.writing.specs.Writing.{itemOf, recordsOf}
 use Rattle.written.specs.Writes.{AllBytes}
 
@@ -49,7 +51,28 @@ one-record n e =
     (append (bytes 2 (6 + length (itemOf e .payload)) ++ bytes 2 (itemOf e .kind)) (bytes 4 n) (append (bytes 2 (6 + length (itemOf e .payload))) (bytes 2 (itemOf e .kind)) (number 2 _) (number 2 _)) (number 4 n))
     (payload e)
 
+fields : (k c x v : ℕ) → AllBytes (fieldBytes k c x v)
+unfolding fieldBytes
+fields k c x v =
+    append (bytes 2 k ++ bytes 2 c ++ bytes 4 x) (bytes 8 v) (append (bytes 2 k ++ bytes 2 c) (bytes 4 x) (append (bytes 2 k) (bytes 2 c) (number 2 k) (number 2 c)) (number 4 x)) (number 8 v)
+
 pub records-bytes : (n : ℕ) (es : List Event) → AllBytes (recordsOf n es)
 unfolding recordsOf trace
 records-bytes n [] = none
 records-bytes n (e ∷ es) = append (recordOf n (itemOf e)) (recordsOf ((n + 1) % 2 ^ 32) es) (one-record n e) (records-bytes ((n + 1) % 2 ^ 32) es)
+
+-- a step, and all of them
+one-step : (e : Event) → AllBytes (stepBytes e)
+unfolding stepBytes
+one-step (Open s) = fields 1 s 0 0
+one-step (Read x v) = fields 2 0 x v
+one-step (Write x v) = fields 3 0 x v
+one-step (Close c) = fields 4 c 0 0
+one-step (End n) = none
+one-step Note = none
+one-step Other = none
+
+pub steps-bytes : (es : List Event) → AllBytes (joined stepBytes es)
+unfolding joined
+steps-bytes [] = none
+steps-bytes (e ∷ es) = append (stepBytes e) (joined stepBytes es) (one-step e) (steps-bytes es)

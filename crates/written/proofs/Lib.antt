@@ -14,4 +14,6 @@ pub mod Fills
 pub mod Declined
 pub mod Bytes
 pub mod Writes
+pub mod Unused
 pub mod Lists
+pub mod Enough

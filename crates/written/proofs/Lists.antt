@@ -4,29 +4,35 @@ use mathlib.Core.Path.{_≡_, refl, ap, sym, _∙_}
 use mathlib.Core.List.{List, [], append-nil}
 use mathlib.Core.Logic.{⊎-elim, _↔_}
 use native.Mathlib.Omega.{arith}
-use lib.ListN.{length}
-use Rattle.base.specs.Base.{joined}
+use lib.ListN.{length, take, drop}
+use lib.Seq.{take-append-seam}
+use Rattle.base.specs.Base.{pick, joined}
 use Rattle.base.proofs.Tests.{split}
 use Rattle.rules.specs.Numbers.{over}
-use Rattle.rules.specs.History.{History, txCount, opCount, empty}
+use Rattle.rules.specs.History.{History, txCount, opCount, current, empty}
 use Rattle.rules.specs.Reading.{Stretch, Reading, refused, read, reading}
 use Rattle.demand1.specs.Rows.{serial, Refuses, ReadInto}
-use Rattle.demand1.proofs.Readings.{refuses-iff, reads-iff}
+use Rattle.demand1.proofs.Readings.{refuses-iff, reads-iff, one-outcome}
 use Rattle.writing.specs.Filling.{refusing, answering, said, content, fill, into}
 use Rattle.writing.specs.Steps.{stepsIn, stepBytes}
 use Rattle.writing.specs.Writing.{Followed, bad, good, follow, traceOf, written}
 use Rattle.writing.specs.Listing.{historySteps, stepsRead, stepped}
+use Rattle.writing.specs.Rewriting.{again, rewritten}
 use Rattle.writing.specs.declared.Filled.{Filled}
-use Rattle.writing.proofs.Followed.{grown-follow, follow-end}
+use Rattle.writing.proofs.Grown.{Grown, grown-none}
+use Rattle.writing.proofs.Followed.{followed, grown-follow, follow-end}
+use Rattle.writing.proofs.Told.{told}
 use Rattle.writing.proofs.Listed.{read-grown, listing-length}
 use Rattle.written.specs.Steps.{NoStep, Comes, at-start, one-more}
 use Rattle.written.specs.Declined.{stepsLength, ListDeclines, trace-refused, steps-short}
 use Rattle.written.specs.Writes.{AllBytes}
 use Rattle.written.specs.Lists.{StepsOf, Lists}
 use Rattle.written.proofs.StepBytes.{steps-back}
-use Rattle.written.proofs.Comes.{Ends, at-step, inside, outside, ends}
+use Rattle.written.proofs.Bytes.{steps-bytes}
+use Rattle.written.proofs.Unused.{known-steps, unused-steps}
+use Rattle.written.proofs.Comes.{steps-over, comes-follow, Ends, at-step, inside, outside, ends}
 use Rattle.written.proofs.Declined.{written-good}
-use Rattle.written.proofs.Fills.{into-short, into-fits, Comes-out, declining, putting, declines-iff, fills}
+use Rattle.written.proofs.Fills.{into-short, into-fits, Comes-out, declining, putting, declines-iff, fills, fills-one}
 use Rattle.written.proofs.Retold.{own-bytes, slim-read}
 
 -- the bytes of a history's steps
@@ -54,7 +60,16 @@ module _ (s : List ℕ) (b : AllBytes s) {h : History} {notes : List Stretch} (r
   comes-within (one-more c l p n) = omega arith
 
   pub steps-of : StepsOf s (listing h)
-  steps-of = record { history = h; notes = notes; reads = r; comes = by (ends (listing h)) listing-good; long = long }
+  steps-of =
+      record {
+        is-bytes = steps-bytes (historySteps h);
+        history = h;
+        notes = notes;
+        reads = r;
+        comes = by (ends (listing h)) listing-good;
+        unused = unused-steps (read-grown r .0) (slim-read s b r);
+        long = long;
+      }
     where
       by : {f : Followed} → Ends (listing h) f → f ≡ good h → Comes (listing h) (2 * txCount h + opCount h) h
       by (at-step c l f) e = let z : _≡_ {A = ℕ} 0 1 = cc in absurd (omega arith)
@@ -63,6 +78,32 @@ module _ (s : List ℕ) (b : AllBytes s) {h : History} {notes : List Stretch} (r
           let q : g ≡ h = cc in
           let n : k ≡ 2 * txCount h + opCount h = omega (arith, long, comes-within c) in
           rw (← n) (rw q at c)
+
+-- steps of a trace are known by its history
+known : {s : List ℕ} (x : List ℕ) (a : StepsOf s x) → x ≡ listing (a .history)
+known {s} x a =
+    known-steps x (a .is-bytes) (a .unused) (2 * txCount (a .history) + opCount (a .history)) (a .long) ∙ ap (joined stepBytes) (sym (told grown))
+  where
+    h : History
+    h = a .history
+
+    n : ℕ
+    n = 2 * txCount h + opCount h
+
+    outside-now : current h ≡ 0
+    outside-now = read-grown (a .reads) .1
+
+    good-now : follow empty 1 (stepsIn x) ≡ good h
+    good-now = comes-follow x (a .comes) ∙ ap (follow h (n + 1)) (steps-over x n h (omega (arith, a .long))) ∙ follow-end h (n + 1) outside-now
+
+    grown : Grown (stepsIn x) h
+    grown = followed empty 1 (stepsIn x) grown-none good-now .0
+
+-- the steps of a trace are one
+steps-one : {s : List ℕ} (x y : List ℕ) → StepsOf s x → StepsOf s y → x ≡ y
+steps-one {s} x y a b =
+    let h : a .history ≡ b .history = one-outcome s .one-reading (a .history) (b .history) (a .notes) (b .notes) (a .reads) (b .reads) .0 in
+    known x a ∙ ap listing h ∙ sym (known y b)
 
 -- ── the definition's cases ──
 
@@ -112,8 +153,26 @@ module _ (s o : List ℕ) where
     pub lists : (r : Filled) (c : List ℕ) → fill (said r) c ≡ stepped s o → Lists s o r c
     lists = fills (ListDeclines s (length o)) (StepsOf s) o (stepped s o) declined-is out
 
--- "a trace without notes, read and written again, gives its own bytes"
-pub rewritten : (s : List ℕ) → AllBytes s → {h : History} → ReadInto s h [] → (o : List ℕ) → written (listing h) (serial s 0) o ≡ into (content s) o
-rewritten s b {h} r o =
+-- any two outcomes that the promise admits coincide
+pub lists-one : {s o : List ℕ} {r q : Filled} {c d : List ℕ} → Lists s o r c → Lists s o q d → (said r ≡ said q) × (c ≡ d)
+lists-one x y = fills-one steps-one x y
+
+-- ── written again ──
+
+-- the steps of a trace without notes are written as its own bytes
+written-again : (s : List ℕ) → AllBytes s → {h : History} → ReadInto s h [] → (o : List ℕ) → written (listing h) (serial s 0) o ≡ into (content s) o
+written-again s b {h} r o =
     written-good (listing h) (serial s 0) o (listing-good s b r)
     ∙ ap (λ (x : List ℕ). into (content x) o) (ap (λ es. traceOf (serial s 0) es h) (listing-back s b r) ∙ own-bytes s b r)
+
+-- what was put at the front
+front : (l x : List ℕ) → take (length l) (over l x) ≡ l
+unfolding over
+front l x = take-append-seam l (drop (length l) x)
+
+-- "a trace without notes, read and written again, gives its own bytes": where both buffers have room
+pub own-again : (s : List ℕ) → AllBytes s → {h : History} → ReadInto s h [] → (x o : List ℕ) → stepsLength h ≤ length x → length s ≤ length o
+    → rewritten s x o ≡ fill (answering (length s)) (over s o)
+unfolding rewritten again pick
+own-again s b {h} r x o l m =
+    rw (listed-fits s x r l, front (listing h) x) (written-again s b r o ∙ into-fits s o m)

@@ -11,7 +11,7 @@ use Rattle.rules.specs.Records.{eventAt}
 use Rattle.rules.specs.Traces.{Item, raw, recordOf}
 use Rattle.rules.specs.declared.Event.{Event}
 use Rattle.rules.specs.declared.Event.the-variants.{Open, Read, Write, Close, End, Note}
-use Rattle.rules.proofs.Numbers.{spelt, bytes-length}
+use Rattle.rules.proofs.Numbers.{spelt, spelt-on}
 use Rattle.demand1.specs.Rows.{len, kind, serial, session, key, value, status, endNumber, behind, open-not-8, read-not-18, write-not-18, close-not-7, end-not-8}
 use Rattle.demand1.proofs.Events.{Framed, exactly, Shape, open-record, read-record, write-record, close-record, end-record, note-record, shape}
 use Rattle.writing.specs.Writing.{isNoStep, itemOf}
@@ -20,20 +20,14 @@ use Rattle.written.specs.Writes.{AllBytes}
 use Rattle.written.proofs.Slim.{Slim, le-below}
 
 module _ {s : List ℕ} {at : ℕ} (b : AllBytes s) (f : Framed s at) where
-  -- a further number
-  further : (w i : ℕ) (xs : List ℕ) → at + (i + w) ≤ length s → take (at + i) s ≡ take at s ++ xs → take (at + (i + w)) s ≡ take at s ++ (xs ++ bytes w (le w s (at + i)))
-  further w i xs l e =
-      let n : at + (i + w) ≡ at + i + w = omega arith in
-      rw n (spelt w s (at + i) b (omega arith) ∙ rw e (append-assoc (take at s) xs (bytes w (le w s (at + i)))))
-
   header : List ℕ
   header = bytes 2 (len s at) ++ bytes 2 (kind s at) ++ bytes 4 (serial s at)
 
   header-spelt : take (at + 8) s ≡ take at s ++ header
   unfolding header bytes
   header-spelt =
-      further 4 4 (bytes 2 (len s at) ++ bytes 2 (kind s at)) (omega (arith, f .sized .low, f .sized .there))
-      (further 2 2 (bytes 2 (len s at)) (omega (arith, f .sized .low, f .sized .there)) (spelt 2 s at b (omega (arith, f .sized .low, f .sized .there))))
+      spelt-on s b at 4 4 (bytes 2 (len s at) ++ bytes 2 (kind s at)) (omega (arith, f .sized .low, f .sized .there))
+      (spelt-on s b at 2 2 (bytes 2 (len s at)) (omega (arith, f .sized .low, f .sized .there)) (spelt 2 s at b (omega (arith, f .sized .low, f .sized .there))))
 
   -- the record i, whose payload reaches to the record's end
   whole : (i : Item) → kind s at ≡ i .kind → len s at ≡ 6 + length (i .payload) → take (at + (8 + length (i .payload))) s ≡ take at s ++ (header ++ i .payload)
@@ -49,11 +43,11 @@ module _ {s : List ℕ} {at : ℕ} (b : AllBytes s) (f : Framed s at) where
   unfolding itemOf bytes
   open-spelt k =
       let n = exactly (len s at) 8 (λ d. f .fits (open-not-8 k d)) in
-      whole (itemOf (Open (session s at))) k n (further 2 8 header (omega (arith, n, f .sized .there)) header-spelt)
+      whole (itemOf (Open (session s at))) k n (spelt-on s b at 2 8 header (omega (arith, n, f .sized .there)) header-spelt)
 
   op-spelt : len s at ≡ 18 → take (at + 20) s ≡ take at s ++ (header ++ (bytes 4 (key s at) ++ bytes 8 (value s at)))
   op-spelt n =
-      further 8 12 (header ++ bytes 4 (key s at)) (omega (arith, n, f .sized .there)) (further 4 8 header (omega (arith, n, f .sized .there)) header-spelt)
+      spelt-on s b at 8 12 (header ++ bytes 4 (key s at)) (omega (arith, n, f .sized .there)) (spelt-on s b at 4 8 header (omega (arith, n, f .sized .there)) header-spelt)
       ∙ rw (append-assoc header (bytes 4 (key s at)) (bytes 8 (value s at)))
 
   read-spelt : kind s at ≡ 2 → take (behind s at) s ≡ take at s ++ recordOf (serial s at) (itemOf (Read (key s at) (value s at)))
@@ -70,13 +64,13 @@ module _ {s : List ℕ} {at : ℕ} (b : AllBytes s) (f : Framed s at) where
   unfolding itemOf bytes
   close-spelt k =
       let n = exactly (len s at) 7 (λ d. f .fits (close-not-7 k d)) in
-      whole (itemOf (Close (status s at))) k n (further 1 8 header (omega (arith, n, f .sized .there)) header-spelt)
+      whole (itemOf (Close (status s at))) k n (spelt-on s b at 1 8 header (omega (arith, n, f .sized .there)) header-spelt)
 
   pub end-spelt : kind s at ≡ 5 → take (behind s at) s ≡ take at s ++ recordOf (serial s at) (itemOf (End (endNumber s at)))
   unfolding itemOf bytes
   end-spelt k =
       let n = exactly (len s at) 8 (λ d. f .fits (end-not-8 k d)) in
-      whole (itemOf (End (endNumber s at))) k n (further 2 8 header (omega (arith, n, f .sized .there)) header-spelt)
+      whole (itemOf (End (endNumber s at))) k n (spelt-on s b at 2 8 header (omega (arith, n, f .sized .there)) header-spelt)
 
   -- a step that is taken
   pub step-spelt : {h : History} {e : Event} → Taken h e → eventAt s at ≡ e → take (behind s at) s ≡ take at s ++ recordOf (serial s at) (itemOf e)

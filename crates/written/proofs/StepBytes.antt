@@ -48,10 +48,19 @@ module _ (front : List ℕ) (back : List ℕ) where
   abbrev around : ℕ → ℕ → ℕ → ℕ → List ℕ
   around k c x v = front ++ (fieldBytes k c x v ++ back)
 
-  start : (k c x v : ℕ) → k < 65536 → le 2 (around k c x v) (length front) ≡ k
+  pub start : (k c x v : ℕ) → k < 65536 → le 2 (around k c x v) (length front) ≡ k
   start k c x v h =
       let z : length front ≡ length front + 0 = omega arith in
       ap (le 2 (around k c x v)) z ∙ le-behind 2 front (fieldBytes k c x v ++ back) 0 ∙ kind-field k c x v back h
+
+  pub second-at : (k c x v : ℕ) → c < 65536 → le 2 (around k c x v) (length front + 2) ≡ c
+  second-at k c x v h = le-behind 2 front (fieldBytes k c x v ++ back) 2 ∙ second-field k c x v back h
+
+  pub key-at : (k c x v : ℕ) → x < 4294967296 → le 4 (around k c x v) (length front + 4) ≡ x
+  key-at k c x v h = le-behind 4 front (fieldBytes k c x v ++ back) 4 ∙ key-field k c x v back h
+
+  pub value-at : (k c x v : ℕ) → v < 18446744073709551616 → le 8 (around k c x v) (length front + 8) ≡ v
+  value-at k c x v h = le-behind 8 front (fieldBytes k c x v ++ back) 8 ∙ value-field k c x v back h
 
   room : (k c x v : ℕ) → length front + 16 ≤ length (around k c x v)
   unfolding fieldBytes bytes
@@ -61,22 +70,22 @@ module _ (front : List ℕ) (back : List ℕ) where
   unfolding stepBytes isNoStep
   step-back (narrow-open {s} h) n =
       open-kind (around 1 s 0 0) (length front) (room 1 s 0 0) (start 1 s 0 0 (omega arith))
-      ∙ ap Open (le-behind 2 front (fieldBytes 1 s 0 0 ++ back) 2 ∙ second-field 1 s 0 0 back h)
+      ∙ ap Open (second-at 1 s 0 0 h)
   step-back (narrow-read {x} {v} h g) n =
       read-kind (around 2 0 x v) (length front) (room 2 0 x v) (start 2 0 x v (omega arith))
-      ∙ rw (le-behind 4 front (fieldBytes 2 0 x v ++ back) 4, le-behind 8 front (fieldBytes 2 0 x v ++ back) 8, key-field 2 0 x v back h, value-field 2 0 x v back g)
+      ∙ rw (key-at 2 0 x v h, value-at 2 0 x v g)
   step-back (narrow-write {x} {v} h g) n =
       write-kind (around 3 0 x v) (length front) (room 3 0 x v) (start 3 0 x v (omega arith))
-      ∙ rw (le-behind 4 front (fieldBytes 3 0 x v ++ back) 4, le-behind 8 front (fieldBytes 3 0 x v ++ back) 8, key-field 3 0 x v back h, value-field 3 0 x v back g)
+      ∙ rw (key-at 3 0 x v h, value-at 3 0 x v g)
   step-back (narrow-close {c} h) n =
       close-kind (around 4 c 0 0) (length front) (room 4 c 0 0) (start 4 c 0 0 (omega arith))
-      ∙ ap Close (le-behind 2 front (fieldBytes 4 c 0 0 ++ back) 2 ∙ second-field 4 c 0 0 back (omega arith))
+      ∙ ap Close (second-at 4 c 0 0 (omega arith))
   step-back (narrow-end h) n = absurd (true≢false n)
 
 -- ── all of them ──
 
 -- steps whose fields fit
-data Fitting : List Event → Type 0 where
+pub data Fitting : List Event → Type 0 where
   fits-none : Fitting []
   fits-more : {e : Event} {es : List Event} → Narrow e → isNoStep e ≡ false → Fitting es → Fitting (e ∷ es)
 
@@ -84,11 +93,11 @@ fits-last : {es : List Event} {e : Event} → Fitting es → Narrow e → isNoSt
 fits-last fits-none w n = fits-more w n fits-none
 fits-last (fits-more v m f) w n = fits-more v m (fits-last f w n)
 
-fitting : {es : List Event} {h : History} → Grown es h → EachSlim es → Fitting es
+pub fitting : {es : List Event} {h : History} → Grown es h → EachSlim es → Fitting es
 fitting grown-none s = fits-none
 fitting (grown-step {es} e g t) s = fits-last (fitting g (slim-front es e s)) (narrow t (slim-at es e [] s)) (taken-step t)
 
-bytes-16 : {e : Event} → Narrow e → isNoStep e ≡ false → length (stepBytes e) ≡ 16
+pub bytes-16 : {e : Event} → Narrow e → isNoStep e ≡ false → length (stepBytes e) ≡ 16
 unfolding stepBytes fieldBytes bytes isNoStep
 bytes-16 (narrow-open h) n = refl
 bytes-16 (narrow-read h g) n = refl

@@ -1,7 +1,7 @@
 use mathlib.Core.Path.{sym, _∙_}
 use native.Mathlib.Omega.{arith}
 use borrow.Author.Needs.{needs}
-use Rattle.lister.proofs.Words.{key-small}
+use Rattle.table.proofs.Words.{key-small}
 use Rattle.lister.proofs.Steps.{op-write, op-read}
 use Rattle.lister.proofs.op_step.Statement.{statement}
 use Rattle.lister.proofs.op_step.Tie as tie
@@ -19,5 +19,5 @@ returns-2 c =
 pub op-step-spec : {M : Type 1} → statement M
 op-step-spec =
     tie.close
-    (tie.spec (λ c κs. search needs) (λ c. omega (arith, c .key-of .ensures, key-small (c .before .before .pre))) (λ c κs. search needs)
+    (tie.spec (λ c κs. search needs) (λ c. omega (arith, c .key-of .ensures, key-small _ _ (c .before .before .pre))) (λ c κs. search needs)
     (λ c κs. search needs) returns returns-2)

@@ -1,7 +1,7 @@
 use mathlib.Core.Path.{_≡_}
 use native.Mathlib.Omega.{arith}
 use borrow.Author.Needs.{needs}
-use Rattle.lister.proofs.Steps.{step-length}
+use Rattle.writing.proofs.Steps.{step-length}
 use Rattle.lister.proofs.put_before.Statement.{statement}
 use Rattle.lister.proofs.put_before.Tie as tie
 

@@ -1,6 +1,7 @@
 use native.Mathlib.Omega.{arith}
 use Rattle.base.proofs.Fill.{appended-length}
 use Rattle.table.specs.Table.{historyOf}
+use Rattle.table.proofs.Chain.{chain-has}
 use Rattle.lister.proofs.Steps.{op-is-step, OpsLeft, ops-start, op-room, ops-next, ops-end}
 use Rattle.lister.proofs.put_ops.Statement.{statement}
 use Rattle.lister.proofs.put_ops.Tie as tie
@@ -17,7 +18,7 @@ loop-holds c = ops-start (c .before .before .before .pre .1) (c .last-op .ensure
 op-step-requires : tie.Need-op-step-requires Inv-loop μ-loop
 op-step-requires c κs =
     let l = c .before .before in
-    record { held = l .before .before .before .before .pre .0 .held; from = omega arith; to = l .loop .inv .to }
+    chain-has (l .before .before .before .before .pre .0 .held) (l .loop .inv .on) (omega arith)
 
 put-before-requires : tie.Need-put-before-requires Inv-loop μ-loop
 put-before-requires c κs =
@@ -27,7 +28,7 @@ put-before-requires c κs =
 prev-op-requires : tie.Need-prev-op-requires Inv-loop μ-loop
 prev-op-requires c κs =
     let l = c .before .before .before .before .before .before in
-    record { held = l .before .before .before .before .pre .0 .held; from = omega arith; to = l .loop .inv .to }
+    chain-has (l .before .before .before .before .pre .0 .held) (l .loop .inv .on) (omega arith)
 
 loop-again : tie.Need-loop-again Inv-loop μ-loop
 loop-again c =

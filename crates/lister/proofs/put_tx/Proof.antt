@@ -2,31 +2,36 @@ use mathlib.Core.Path.{refl}
 use native.Mathlib.Omega.{arith}
 use borrow.Author.Needs.{needs}
 use Rattle.writing.specs.Writing.{isNoStep}
-use Rattle.lister.proofs.Words.{session-small, status-small}
-use Rattle.lister.proofs.Steps.{step-length, close-room, ops-room, open-room, tx-put}
+use Rattle.table.proofs.Words.{session-small, status-small}
+use Rattle.lister.proofs.Steps.{close-room, ops-room, open-room, tx-put}
 use Rattle.lister.proofs.put_tx.Statement.{statement}
 use Rattle.lister.proofs.put_tx.Tie as tie
 
 put-before-requires : tie.Need-put-before-requires
 unfolding isNoStep
 put-before-requires c κs =
-    let p = c .before .before .before .before .before .pre in
-    (refl, close-room _ _ (p .1) (p .2))
+    let e = c .before in
+    let s = e .before in
+    let p = s .before .before .before .pre in
+    (refl, close-room _ _ (p .1) (e .session-of .ensures) (s .status-of .ensures) (p .2))
 
 put-ops-requires : tie.Need-put-ops-requires
-unfolding isNoStep
 put-ops-requires c κs =
     let b = c .before .before .before in
-    let p = b .before .before .before .before .before .before .pre in
-    (p .0, ops-room _ _ (p .1) (p .2) (b .put-before .ensures) (step-length _ refl))
+    let e = b .before .before in
+    let s = e .before in
+    let p = s .before .before .before .pre in
+    (p .0, ops-room _ _ (p .1) (e .session-of .ensures) (s .status-of .ensures) (p .2) (b .put-before .ensures))
 
 put-before-requires-2 : tie.Need-put-before-requires-2
 unfolding isNoStep
 put-before-requires-2 c κs =
     let o = c .before .before .before in
     let b = o .before .before .before .before in
-    let p = b .before .before .before .before .before .before .pre in
-    (refl, open-room _ _ (p .1) (p .2) (b .put-before .ensures) (step-length _ refl) (o .put-ops .ensures))
+    let e = b .before .before in
+    let s = e .before in
+    let p = s .before .before .before .pre in
+    (refl, open-room _ _ (p .1) (e .session-of .ensures) (s .status-of .ensures) (p .2) (b .put-before .ensures) (o .put-ops .ensures))
 
 returns : tie.Need-returns
 returns c =
@@ -43,9 +48,9 @@ put-tx-spec =
     tie.close
     (tie.spec
     (λ c κs. search needs)
-    (λ c. omega (arith, c .status-of .ensures, status-small (c .before .before .before .pre .0)))
+    (λ c. omega (arith, c .status-of .ensures, status-small _ _ (c .before .before .before .pre .0)))
     (λ c κs. search needs)
-    (λ c. omega (arith, c .session-of .ensures, session-small (c .before .before .before .before .pre .0)))
+    (λ c. omega (arith, c .session-of .ensures, session-small _ _ (c .before .before .before .before .pre .0)))
     put-before-requires
     put-ops-requires
     put-before-requires-2

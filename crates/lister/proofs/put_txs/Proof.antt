@@ -1,24 +1,23 @@
 use Prim.Native.Nat.{_+_, _≤_}
 use native.Mathlib.Omega.{arith}
-use Rattle.base.proofs.Fill.{appended-length}
+use Rattle.base.proofs.Fill.{appended-length, Back, back-start, back-room, back-step, back-end}
 use Rattle.rules.specs.History.{txCount}
 use Rattle.table.specs.Table.{historyOf}
 use Rattle.lister.specs.Lister.{txsBytes, allBytes}
-use Rattle.lister.proofs.Backwards.{Backing, back-start, back-room, back-step, back-end}
 use Rattle.lister.proofs.Steps.{txs-all, txs-top, txs-room, txs-none}
 use Rattle.lister.proofs.put_txs.Statement.{statement}
 use Rattle.lister.proofs.put_txs.Tie as tie
 
 abbrev Inv-loop : tie.InvT-loop
 Inv-loop h out₀ at from₀ t₀ out from t =
-    (t ≤ txCount (historyOf h)) × Backing out₀ at (allBytes (historyOf h)) out from (txsBytes (historyOf h) (t + 1))
+    (t ≤ txCount (historyOf h)) × Back out₀ at (allBytes (historyOf h)) out from (txsBytes (historyOf h) (t + 1))
 
 abbrev μ-loop : tie.MeasureT-loop
 μ-loop h out₀ at from₀ t₀ out from t = t
 
 loop-holds : tie.Need-loop-holds Inv-loop μ-loop
 loop-holds c =
-    (omega (arith, c .txs .ensures), rw (c .txs .ensures, ← txs-all _) (back-start _ (c .before .before .before .pre .2)))
+    (omega (arith, c .txs .ensures), rw (c .txs .ensures, ← txs-all _) (back-start _ (c .before .before .before .pre .2 .within)))
 
 put-tx-requires : tie.Need-put-tx-requires Inv-loop μ-loop
 put-tx-requires c κs =

@@ -2,7 +2,7 @@ use Prim.Native.Nat.{_-_}
 use native.Mathlib.Omega.{arith}
 use Rattle.base.proofs.Fill.{appended-length}
 use Rattle.table.specs.Table.{historyOf}
-use Rattle.maker.proofs.Records.{Writing, writing-start, writing-length, writing-status, writing-room, writing-step, end-status, end-room, writing-end}
+use Rattle.maker.proofs.Records.{Writing, writing-start, writing-room, writing-step, end-room, writing-end}
 use borrow.Author.Needs.{needs}
 use Rattle.maker.proofs.put_trace.Statement.{statement}
 use Rattle.maker.proofs.put_trace.Tie as tie
@@ -20,7 +20,7 @@ put-record-requires c κs =
     let count = turn .before in
     let start = count .before .before .before .before in
     let below = rw (count .step-count .ensures) at (test .loop-test .taken) in
-    rw (c .step-at .ensures) (writing-status _ _ _ _ (turn .loop .inv) below, writing-room _ _ _ _ (turn .loop .inv) below (start .pre .1))
+    rw (c .step-at .ensures) (writing-room (turn .loop .inv) below (start .pre .1))
 
 loop-again : tie.Need-loop-again Inv-loop μ-loop
 loop-again c =
@@ -29,7 +29,7 @@ loop-again c =
     let test = step .before .before in
     let turn = test .before in
     let count = turn .before in
-    rw (c .wrapping-add-u32 .ensures) (writing-step _ _ _ _ (turn .loop .inv) (rw (count .step-count .ensures) at (test .loop-test .taken)) (rw (step .step-at .ensures) at (record1 .put-record .ensures)))
+    rw (c .wrapping-add-u32 .ensures) (writing-step (turn .loop .inv) (rw (count .step-count .ensures) at (test .loop-test .taken)) (rw (step .step-at .ensures) at (record1 .put-record .ensures)))
 
 cast-txs : tie.Need-cast-txs Inv-loop μ-loop
 cast-txs c =
@@ -42,13 +42,13 @@ put-record-requires-2 c κs =
     let turn = test .before in
     let count = turn .before in
     let start = count .before .before .before .before in
-    (end-status _, rw (txs .txs .ensures) (end-room _ _ _ _ (turn .loop .inv) (rw (count .step-count .ensures) at (test .loop-test .left)) (start .pre .1)))
+    rw (txs .txs .ensures) (end-room (turn .loop .inv) (rw (count .step-count .ensures) at (test .loop-test .left)) (start .pre .1))
 
 same-length : tie.Need-same-length Inv-loop μ-loop
 same-length c =
     let record2 = c .before .before in
     let turn = record2 .before .before .before .before in
-    omega (arith, writing-length _ _ _ _ (turn .loop .inv), appended-length (record2 .put-record2 .ensures))
+    omega (arith, appended-length (turn .loop .inv .forth .is), appended-length (record2 .put-record2 .ensures))
 
 returns : tie.Need-returns Inv-loop μ-loop
 returns c =
@@ -57,12 +57,12 @@ returns c =
     let test = txs .before in
     let turn = test .before in
     let count = turn .before in
-    writing-end _ _ _ _ (turn .loop .inv) (rw (count .step-count .ensures) at (test .loop-test .left)) (rw (txs .txs .ensures) at (record2 .put-record2 .ensures))
+    writing-end (turn .loop .inv) (rw (count .step-count .ensures) at (test .loop-test .left)) (rw (txs .txs .ensures) at (record2 .put-record2 .ensures))
 
 pub put-trace-spec : {M : Type 1} → statement M
 put-trace-spec =
     tie.close
-    (tie.spec Inv-loop μ-loop (λ c κs. search needs) (λ c. writing-start _ _ _ _ (c .before .before .before .before .pre .0 .is))
+    (tie.spec Inv-loop μ-loop (λ c κs. search needs) (λ c. writing-start _ _ _ _)
     (λ c. omega (arith, c .before .before .before .step-count .ensures)) (λ c κs. omega (arith, c .before .before .before .step-count .ensures))
     put-record-requires (λ c κs. search needs) (λ c. search needs) (λ c. search needs) loop-again
     (λ c κs. c .before .before .before .before .before .before .pre .0 .held) cast-txs put-record-requires-2 same-length returns)

@@ -1,4 +1,4 @@
-use Rattle.maker.proofs.Steps.{step-rest, step-whole}
+use Rattle.writing.proofs.Steps.{step-rest, step-whole}
 use borrow.Author.Needs.{needs}
 use Rattle.maker.proofs.step_at.Statement.{statement}
 use Rattle.maker.proofs.step_at.Tie as tie

@@ -5,22 +5,6 @@ use borrow.Author.Needs.{needs}
 use Rattle.maker.proofs.step_of.Statement.{statement}
 use Rattle.maker.proofs.step_of.Tie as tie
 
-returns-2 : tie.Need-returns-2
-unfolding stepOf pick
-returns-2 c =
-    let u = c .before in
-    let m = u .before in
-    let u2 = m .before in
-    rw (← u2 .u16-at .ensures, m .match .keys2, u .u32-at .ensures, c .u64-at .ensures)
-
-returns-3 : tie.Need-returns-3
-unfolding stepOf pick
-returns-3 c =
-    let u = c .before in
-    let m = u .before in
-    let u2 = m .before in
-    rw (← u2 .u16-at .ensures, m .match .keys3, u .u32-at2 .ensures, c .u64-at2 .ensures)
-
 returns-5 : tie.Need-returns-5
 unfolding stepOf pick
 returns-5 c =
@@ -34,5 +18,7 @@ step-of-spec =
     tie.close
     (tie.spec (λ c κs. search needs) (λ c. search needs) (λ c κs. search needs) (λ c. search needs) (λ c κs. search needs) (λ c. search needs)
     (λ c κs. search needs) (λ c. search needs) (λ c κs. search needs) (λ c. search needs) (λ c κs. search needs) (λ c. search needs)
-    (λ c κs. search needs) (λ c. rw (← c .before .before .u16-at .ensures, c .before .match .keys1, c .u16-at2 .ensures)) returns-2 returns-3
+    (λ c κs. search needs) (λ c. rw (← c .before .before .u16-at .ensures, c .before .match .keys1, c .u16-at2 .ensures))
+    (λ c. rw (← c .before .before .before .u16-at .ensures, c .before .before .match .keys2, c .before .u32-at .ensures, c .u64-at .ensures))
+    (λ c. rw (← c .before .before .before .u16-at .ensures, c .before .before .match .keys3, c .before .u32-at2 .ensures, c .u64-at2 .ensures))
     (λ c. rw (← c .before .before .u16-at .ensures, c .before .match .keys4, c .u16-at3 .ensures)) returns-5)

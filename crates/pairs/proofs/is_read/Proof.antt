@@ -7,7 +7,8 @@ use Rattle.rules.specs.Levels.{isRead}
 use Rattle.rules.specs.Reads.{readsFrom}
 use Rattle.table.specs.Table.{historyOf}
 use Rattle.pairs.proofs.Pairs.{byte-in, byte-from, reads-of, read-zero}
-use Rattle.pairs.proofs.Walk.{chain-has, Walk, walk-start, walk-next, walk-hit, walk-end}
+use Rattle.table.proofs.Chain.{chain-has}
+use Rattle.pairs.proofs.Walk.{Walk, walk-start, walk-next, walk-hit, walk-end}
 use Rattle.pairs.proofs.is_read.Statement.{statement}
 use Rattle.pairs.proofs.is_read.Tie as tie
 

@@ -1,5 +1,5 @@
-use Rattle.base.proofs.Fill.{appended-then}
-use Rattle.putting.proofs.Putting.{fields-say, room, room-first, room-then, room-number}
+use Rattle.base.proofs.Fill.{appended-then, room-in, room-first, room-then}
+use Rattle.putting.proofs.Putting.{fields-say, room-as, room-number}
 use borrow.Author.Needs.{needs}
 use Rattle.putting.proofs.put_fields.Statement.{statement}
 use Rattle.putting.proofs.put_fields.Tie as tie
@@ -7,20 +7,20 @@ use Rattle.putting.proofs.put_fields.Tie as tie
 put-number-requires : tie.Need-put-number-requires
 put-number-requires c κs =
     let start = c .before .before in
-    room-number _ _ (room-first _ _ (room (start .args .out .now) (start .args .at) (fields-say _ _ _ _) (start .pre)))
+    room-number _ _ (room-first _ _ (room-as (start .args .out .now) (start .args .at) (fields-say _ _ _ _) (start .pre)))
 
 put-number-requires-2 : tie.Need-put-number-requires-2
 put-number-requires-2 c κs =
     let first = c .before .before .before in
     let start = first .before .before .before in
-    room-number _ _ (room-first _ _ (room-then (first .put-number .ensures) (room (start .args .out .now) (start .args .at) (fields-say _ _ _ _) (start .pre))))
+    room-number _ _ (room-first _ _ (room-then (first .put-number .ensures) (room-as (start .args .out .now) (start .args .at) (fields-say _ _ _ _) (start .pre))))
 
 put-pair-requires : tie.Need-put-pair-requires
 put-pair-requires c κs =
     let second = c .before .before .before in
     let first = second .before .before .before .before in
     let start = first .before .before .before in
-    room-then (second .put-number2 .ensures) (room-then (first .put-number .ensures) (room (start .args .out .now) (start .args .at) (fields-say _ _ _ _) (start .pre))) .fits
+    room-in (room-then (second .put-number2 .ensures) (room-then (first .put-number .ensures) (room-as (start .args .out .now) (start .args .at) (fields-say _ _ _ _) (start .pre))))
 
 returns : tie.Need-returns
 returns c =

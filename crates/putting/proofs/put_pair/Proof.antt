@@ -1,6 +1,6 @@
 use mathlib.Core.Path.{refl}
-use Rattle.base.proofs.Fill.{appended-then}
-use Rattle.putting.proofs.Putting.{room, room-first, room-then, room-number}
+use Rattle.base.proofs.Fill.{appended-then, room-first, room-then}
+use Rattle.putting.proofs.Putting.{room-as, room-number}
 use borrow.Author.Needs.{needs}
 use Rattle.putting.proofs.put_pair.Statement.{statement}
 use Rattle.putting.proofs.put_pair.Tie as tie
@@ -8,13 +8,13 @@ use Rattle.putting.proofs.put_pair.Tie as tie
 put-number-requires : tie.Need-put-number-requires
 put-number-requires c κs =
     let start = c .before .before in
-    room-number _ _ (room-first _ _ (room (start .args .out .now) (start .args .at) refl (start .pre)))
+    room-number _ _ (room-first _ _ (room-as (start .args .out .now) (start .args .at) refl (start .pre)))
 
 put-number-requires-2 : tie.Need-put-number-requires-2
 put-number-requires-2 c κs =
     let first = c .before .before .before in
     let start = first .before .before .before in
-    room-number _ _ (room-then (first .put-number .ensures) (room (start .args .out .now) (start .args .at) refl (start .pre)))
+    room-number _ _ (room-then (first .put-number .ensures) (room-as (start .args .out .now) (start .args .at) refl (start .pre)))
 
 returns : tie.Need-returns
 returns c =

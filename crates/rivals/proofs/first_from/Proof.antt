@@ -6,7 +6,7 @@ use Rattle.base.specs.Base.{pick}
 use Rattle.rules.specs.Reads.{readsFrom}
 use Rattle.table.specs.Table.{historyOf}
 use Rattle.pairs.proofs.Pairs.{byte-in, byte-from, reads-of}
-use Rattle.pairs.proofs.Walk.{chain-has}
+use Rattle.table.proofs.Chain.{chain-has}
 use Rattle.rivals.specs.Rivals.{firstFrom}
 use Rattle.rivals.proofs.Seen.{Firsts, firsts-start, firsts-next, firsts-end}
 use Rattle.rivals.proofs.first_from.Statement.{statement}

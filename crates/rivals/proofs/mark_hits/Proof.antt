@@ -5,7 +5,7 @@ use Rattle.table.specs.Table.{historyOf}
 use Rattle.bits.specs.Bits.{bitOf, either}
 use Rattle.pairs.proofs.Marking.{cell-on, mark-start, mark-end}
 use Rattle.pairs.proofs.Pairs.{byte-in, byte-source, byte-row}
-use Rattle.pairs.proofs.Walk.{chain-last, chain-prev, chain-has}
+use Rattle.table.proofs.Chain.{chain-last, chain-prev, chain-has}
 use Rattle.rivals.specs.Rivals.{hitBit, hitBits}
 use Rattle.rivals.proofs.Rivals.{Marks, marks-start, marks-next, marks-less, marks-on, marks-external, marks-fits}
 use Rattle.rivals.proofs.mark_hits.Statement.{statement}

@@ -1,7 +1,7 @@
 use mathlib.Core.Path.{_≡_, refl, sym, _∙_}
 use native.Mathlib.Omega.{arith}
 use Rattle.table.specs.Table.{historyOf}
-use Rattle.pairs.proofs.Walk.{chain-has}
+use Rattle.table.proofs.Chain.{chain-has}
 use Rattle.rivals.proofs.Hits.{Tries, tries-start, tries-next, tries-hit, tries-end, Hunt, hunt-start, hunt-next, hunt-hit, hunt-end}
 use Rattle.rivals.proofs.next_hit.Statement.{statement}
 use Rattle.rivals.proofs.next_hit.Tie as tie

@@ -1,15 +1,18 @@
--- The steps as events, one by one.
+-- The steps as events, one by one, and how long each is.
 use Prim.Native.Nat.{ℕ, _+_, _-_, _*_, _<_, _≤_}
-use mathlib.Core.Path.{_≡_, sym, _∙_}
+use mathlib.Core.Path.{_≡_, refl, sym, _∙_}
+use mathlib.Core.Bool.{false, true≢false}
 use mathlib.Core.List.{List, [], _∷_}
 use native.Mathlib.Omega.{arith}
 use lib.ListN.{length}
 use borrow.Author.Tests.{lt-ltb, le-ltb}
 use Rattle.base.proofs.Searches.{listed-step, listed-end}
 use Rattle.base.proofs.Tests.{pick-on, pick-off}
+use Rattle.rules.specs.Numbers.{bytes}
 use Rattle.rules.specs.declared.Event.{Event}
-use Rattle.rules.specs.declared.Event.the-variants.{Other}
-use Rattle.writing.specs.Steps.{stepCount, stepOf, stepAt, stepsFrom}
+use Rattle.rules.specs.declared.Event.the-variants.{Open, Read, Write, Close, End, Note, Other}
+use Rattle.writing.specs.Steps.{stepCount, stepOf, stepAt, stepsFrom, fieldBytes, stepBytes}
+use Rattle.writing.specs.Writing.{isNoStep}
 
 -- ── the step at `at` ──
 
@@ -33,3 +36,16 @@ steps-step s k l = listed-step (λ i. stepAt s (16 * i) ∷ []) k (stepCount s) 
 pub steps-end : (s : List ℕ) (k : ℕ) → stepCount s ≤ k → stepsFrom s k ≡ []
 unfolding stepsFrom
 steps-end s k l = listed-end (λ i. stepAt s (16 * i) ∷ []) k (stepCount s) l
+
+-- ── as bytes ──
+
+-- a step has sixteen
+pub step-length : (e : Event) → isNoStep e ≡ false → length (stepBytes e) ≡ 16
+unfolding isNoStep stepBytes fieldBytes bytes
+step-length (Open s) n = refl
+step-length (Read x v) n = refl
+step-length (Write x v) n = refl
+step-length (Close c) n = refl
+step-length (End m) n = absurd (true≢false n)
+step-length Note n = absurd (true≢false n)
+step-length Other n = absurd (true≢false n)

@@ -1,0 +1,22 @@
+-- What a host has of two calls, and of a trace that is written again.
+use Prim.Native.Nat.{ℕ, _≤_}
+use mathlib.Core.Path.{_≡_}
+use mathlib.Core.List.{List, []}
+use lib.ListN.{length}
+use Rattle.rules.specs.Numbers.{over}
+use Rattle.rules.specs.History.{History}
+use Rattle.demand1.specs.Rows.{ReadInto}
+use Rattle.writing.specs.Filling.{answering, said}
+use Rattle.writing.specs.declared.Filled.{Filled}
+use Rattle.written.specs.Declined.{stepsLength}
+use Rattle.hosts.specs.declared.Answers.{Answers}
+
+-- the answers of both calls, and what the two buffers then hold
+pub record Coincides (r : Answers) (B B' : List ℕ) : Type 0 where
+  pub answer : r .first ≡ r .second
+  pub buffer : B ≡ B'
+
+-- "a trace without notes, read and written again, gives its own bytes": of the trace s, buffers that held x and o, the answer r and what o then became (B),
+-- where both have room
+pub record OwnBytes (s x o : List ℕ) (r : Filled) (B : List ℕ) : Type 0 where
+  pub own : (h : History) → ReadInto s h [] → stepsLength h ≤ length x → length s ≤ length o → (said r ≡ answering (length s)) × (B ≡ over s o)

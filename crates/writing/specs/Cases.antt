@@ -1,0 +1,203 @@
+-- Request One's cases: every refusal with its place, every two neighbours in the order of checks broken at once, the limits by their states, a wrap, buffers
+-- one byte short and exactly fitting, and P1, P12 and case 16 made from steps, turned into steps and written again. As in document 01's tables: a table and
+-- one statement each.
+use Prim.Native.Nat.{ℕ, _+_, _-_}
+use mathlib.Core.Path.{_≡_, refl}
+use mathlib.Core.Bool.{true}
+use mathlib.Core.List.{List, [], _∷_, _++_, map}
+use lib.ListN.{length, getD, take}
+use Rattle.base.specs.Base.{listed, joined}
+use Rattle.rules.specs.History.{History}
+use Rattle.rules.specs.Traces.{whole, trace, opens, closes, ends, note, T, r, w, room}
+use Rattle.rules.specs.Cases.{Case, table}
+use Rattle.rules.specs.Edges.{as-they-should}
+use Rattle.rules.specs.declared.Event.{Event}
+use Rattle.rules.specs.declared.Event.the-variants.{Open, Read, Write, Close}
+use Rattle.writing.specs.Filling.{Fill, fill, refusing, answering, into}
+use Rattle.writing.specs.Steps.{stepOf, stepAt, stepsFrom, fieldBytes, stepBytes}
+use Rattle.writing.specs.Writing.{isNoStep, writeRows, writeNo, endNo, follow, itemOf, recordsOf, wrote, written}
+use Rattle.writing.specs.Listing.{opStep, opStepOf, closeStep, txSteps, historySteps, stepsRead, stepped}
+use Rattle.writing.specs.Rewriting.{again, rewritten}
+
+-- ── in words ──
+
+-- steps as bytes; any sixteen
+abbrev steps : List Event → List ℕ
+steps = joined stepBytes
+
+abbrev step : ℕ → ℕ → ℕ → ℕ → List ℕ
+step = fieldBytes
+
+-- the bytes of document 01's case that stands behind k others
+abbrev caseBytes : ℕ → List ℕ
+caseBytes k = getD (map (λ (c : Case). c .bytes) table) k []
+
+-- P1, P12 and case 16 as steps
+abbrev P12 : List Event
+P12 =
+    Open 1 ∷ Write 1 5 ∷ Close 1 ∷ Open 2 ∷ Read 1 5 ∷ Write 2 7 ∷ Close 1 ∷ Open 3 ∷ Read 2 7 ∷ Read 1 0 ∷ Close 1 ∷ []
+
+abbrev case16 : List Event
+case16 =
+    Open 1 ∷ Write 1 11 ∷ Write 2 21 ∷ Close 1 ∷ Open 2 ∷ Write 1 12 ∷ Write 2 22 ∷ Close 1 ∷ Open 3 ∷ Read 1 12 ∷ Read 2 21 ∷ Close 1 ∷ []
+
+-- refused, with a buffer of n bytes; filled with l
+abbrev refusedIn : ℕ → ℕ → ℕ → Fill
+refusedIn n m at = fill (refusing m at) (room n)
+
+abbrev filledIn : ℕ → List ℕ → Fill
+filledIn n l = fill (answering (length l)) (l ++ room (n - length l))
+
+-- ── writing ──
+
+-- steps, a starting serial, the length of the buffer, and what comes of them
+pub record Wrote : Type 0 where
+  pub steps : List ℕ
+  pub serial : ℕ
+  pub room : ℕ
+  pub out : Fill
+
+abbrev writes : List ℕ → ℕ → ℕ → Fill → Wrote
+writes s n o x = record { steps = s; serial = n; room = o; out = x }
+
+-- with 200 bytes, from serial 0 on
+abbrev refuses : List ℕ → ℕ → ℕ → Wrote
+refuses s m at = writes s 0 200 (refusedIn 200 m at)
+
+abbrev pub writeTable : List Wrote
+writeTable =
+    -- P1, P12 and case 16: the bytes of document 01's table
+    writes [] 0 200 (filledIn 200 (caseBytes 0))
+    ∷ writes (steps P12) 0 200 (filledIn 200 (caseBytes 11))
+    ∷ writes (steps case16) 0 200 (filledIn 200 (caseBytes 15))
+    -- "after 4,294,967,295 comes 0"
+    ∷ writes (steps (Open 7 ∷ Close 0 ∷ [])) 4294967295 40 (filledIn 40 (trace 4294967295 (opens 7 ∷ closes 0 ∷ ends 1 ∷ [])))
+    -- "fields that a kind does not use are not looked at"
+    ∷ writes (step 1 3 9 9 ++ step 2 9 4 0 ++ step 3 9 4 5 ++ step 4 1 9 9) 8 100 (filledIn 100 (trace 8 (opens 3 ∷ r 4 0 ∷ w 4 5 ∷ closes 1 ∷ ends 1 ∷ [])))
+    -- 6: kinds 0, 5, 6, 7 and 257; a rest of 1 and of 15 bytes
+    ∷ refuses (step 0 0 0 0) 6 1
+    ∷ refuses (steps (Open 1 ∷ Close 1 ∷ []) ++ step 5 1 0 0) 6 3
+    ∷ refuses (steps (Open 1 ∷ []) ++ step 6 0 0 0) 6 2
+    ∷ refuses (step 7 0 0 0) 6 1
+    ∷ refuses (step 257 0 0 0) 6 1
+    ∷ refuses (steps (Open 1 ∷ Close 1 ∷ []) ++ (1 ∷ [])) 6 3
+    ∷ refuses (take 15 (steps (Open 1 ∷ []))) 6 1
+    -- 6, then 7: a rest that begins as an open, inside a transaction; an end there. It is its turn that counts
+    ∷ refuses (steps (Open 1 ∷ []) ++ take 15 (steps (Open 2 ∷ []))) 6 2
+    ∷ refuses (steps (Open 1 ∷ []) ++ step 5 1 0 0) 6 2
+    ∷ refuses (steps (Read 1 0 ∷ []) ++ step 5 1 0 0) 7 1
+    -- 7: open inside; read, write and close outside; the end inside, with the number of steps plus one
+    ∷ refuses (steps (Open 1 ∷ Open 2 ∷ [])) 7 2
+    ∷ refuses (steps (Read 1 0 ∷ [])) 7 1
+    ∷ refuses (steps (Open 1 ∷ Close 1 ∷ Write 1 5 ∷ [])) 7 3
+    ∷ refuses (steps (Close 1 ∷ [])) 7 1
+    ∷ refuses (steps (Open 1 ∷ Write 1 5 ∷ [])) 7 3
+    -- 7, then 8: a write of 0 and a close with status 2, outside
+    ∷ refuses (steps (Write 1 0 ∷ [])) 7 1
+    ∷ refuses (steps (Close 2 ∷ [])) 7 1
+    -- 8: a written 0; statuses 2 and 256
+    ∷ refuses (steps (Open 1 ∷ Write 1 0 ∷ [])) 8 2
+    ∷ refuses (steps (Open 1 ∷ Close 2 ∷ [])) 8 2
+    ∷ refuses (steps (Open 1 ∷ Close 256 ∷ [])) 8 2
+    -- 10: a repeated write, in one transaction and after an aborted one; another key or another value is none
+    ∷ refuses (steps (Open 1 ∷ Write 1 5 ∷ Write 1 5 ∷ [])) 10 3
+    ∷ refuses (steps (Open 1 ∷ Write 1 5 ∷ Close 0 ∷ Open 1 ∷ Write 1 5 ∷ [])) 10 5
+    ∷ writes (steps (Open 1 ∷ Write 1 5 ∷ Write 2 5 ∷ Write 1 6 ∷ Close 1 ∷ [])) 0 100 (filledIn 100 (whole 1 (T 1 (w 1 5 ∷ w 2 5 ∷ w 1 6 ∷ []))))
+    -- each of them, then 16: a bad step and the end inside, without a buffer
+    ∷ writes (steps (Open 1 ∷ Write 1 5 ∷ Write 1 5 ∷ [])) 0 0 (refusedIn 0 10 3)
+    ∷ writes (steps (Open 1 ∷ [])) 0 0 (refusedIn 0 7 2)
+    -- 16 one byte short, and exactly fitting
+    ∷ writes [] 0 9 (refusedIn 9 16 10)
+    ∷ writes [] 0 10 (filledIn 10 (caseBytes 0))
+    ∷ writes (steps case16) 0 186 (refusedIn 186 16 187)
+    ∷ writes (steps case16) 0 187 (filledIn 187 (caseBytes 15))
+    ∷ []
+
+abbrev pub nowWritten : Wrote → Wrote
+nowWritten c = writes (c .steps) (c .serial) (c .room) (written (c .steps) (c .serial) (room (c .room)))
+
+-- this statement carries along what it unfolds
+unfoldable pub as-written : map nowWritten writeTable ≡ writeTable
+unfolding as-they-should into stepOf stepAt stepsFrom fieldBytes stepBytes isNoStep writeRows writeNo endNo follow itemOf recordsOf wrote written opStep opStepOf closeStep txSteps historySteps stepsRead stepped again rewritten
+as-written = refl
+
+-- ── the limits: 127 transactions and 1,024 operations, in histories that have come so far ──
+
+-- n transactions closed, or one open with n operations, which write the values 1 to n to the key 1
+abbrev closedSoFar : ℕ → History
+closedSoFar n = record { txs = listed 1 (n + 1) (λ i. record { session = i; status = 1 } ∷ []); ops = [] }
+
+abbrev openSoFar : ℕ → History
+openSoFar n =
+    record {
+      txs = record { session = 1; status = 3 } ∷ [];
+      ops = listed 1 (n + 1) (λ i. record { tx = 1; isWrite = true; key = 1; value = i } ∷ []);
+    }
+
+-- a history, the step that comes, and the number of the row that refuses it, 0 for none
+pub record Bound : Type 0 where
+  pub history : History
+  pub step : Event
+  pub no : ℕ
+
+abbrev bound : History → Event → ℕ → Bound
+bound h e n = record { history = h; step = e; no = n }
+
+abbrev pub bounds : List Bound
+bounds =
+    bound (closedSoFar 126) (Open 9) 0
+    ∷ bound (closedSoFar 127) (Open 9) 9
+    ∷ bound (openSoFar 1023) (Read 1 5000) 0
+    ∷ bound (openSoFar 1024) (Read 1 5000) 9
+    -- 8, then 9; 9, then 10
+    ∷ bound (openSoFar 1024) (Write 1 0) 8
+    ∷ bound (openSoFar 1024) (Write 1 1024) 9
+    ∷ bound (openSoFar 1023) (Write 1 1023) 10
+    ∷ []
+
+abbrev pub nowBound : Bound → Bound
+nowBound c = bound (c .history) (c .step) (writeNo (c .history) (c .step))
+
+pub as-bound : map nowBound bounds ≡ bounds
+unfolding as-written
+as-bound = refl
+
+-- ── a trace turned into steps, and written again ──
+
+-- a trace, the length of the buffer, the steps, and what it is written as with 200 bytes for its steps and 200 for the trace
+pub record Listed : Type 0 where
+  pub bytes : List ℕ
+  pub room : ℕ
+  pub out : Fill
+  pub again : Fill
+
+abbrev lists : List ℕ → ℕ → Fill → Fill → Listed
+lists s o x y = record { bytes = s; room = o; out = x; again = y }
+
+abbrev pub listTable : List Listed
+listTable =
+    -- P1, P12 and case 16: their own bytes
+    lists (caseBytes 0) 0 (filledIn 0 []) (filledIn 200 (caseBytes 0))
+    ∷ lists (caseBytes 11) 200 (filledIn 200 (steps P12)) (filledIn 200 (caseBytes 11))
+    ∷ lists (caseBytes 15) 200 (filledIn 200 (steps case16)) (filledIn 200 (caseBytes 15))
+    -- a first serial, and its wrap
+    ∷ lists (trace 4294967294 (T 7 (r 4 0 ∷ []) ++ (ends 1 ∷ []))) 48 (filledIn 48 (steps (Open 7 ∷ Read 4 0 ∷ Close 1 ∷ [])))
+    (filledIn 200 (trace 4294967294 (T 7 (r 4 0 ∷ []) ++ (ends 1 ∷ []))))
+    -- notes are left out, and the serials follow the first
+    ∷ lists (trace 5 (note (7 ∷ []) ∷ opens 1 ∷ note [] ∷ closes 0 ∷ ends 1 ∷ [])) 40 (filledIn 40 (steps (Open 1 ∷ Close 0 ∷ [])))
+    (filledIn 200 (trace 5 (opens 1 ∷ closes 0 ∷ ends 1 ∷ [])))
+    -- 2 to 11, with the trace's own places
+    ∷ lists [] 200 (refusedIn 200 3 0) (refusedIn 200 3 0)
+    ∷ lists (trace 0 (opens 1 ∷ ends 1 ∷ [])) 0 (refusedIn 0 7 10) (refusedIn 200 7 10)
+    ∷ lists (caseBytes 0 ++ (7 ∷ [])) 200 (refusedIn 200 11 10) (refusedIn 200 11 10)
+    -- 16 one byte short, and exactly fitting
+    ∷ lists (caseBytes 15) 191 (refusedIn 191 16 192) (filledIn 200 (caseBytes 15))
+    ∷ lists (caseBytes 15) 192 (filledIn 192 (steps case16)) (filledIn 200 (caseBytes 15))
+    ∷ []
+
+abbrev pub nowListed : Listed → Listed
+nowListed c = lists (c .bytes) (c .room) (stepped (c .bytes) (room (c .room))) (rewritten (c .bytes) (room 200) (room 200))
+
+pub as-listed : map nowListed listTable ≡ listTable
+unfolding as-written
+as-listed = refl

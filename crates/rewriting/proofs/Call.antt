@@ -1,14 +1,11 @@
 -- The whole call: a trace whose steps are refused, and one whose steps were listed.
 use Prim.Native.Nat.{ℕ, _≤_}
-use mathlib.Core.Path.{_≡_, refl, ap, _∙_}
+use mathlib.Core.Path.{_≡_, refl, ap}
 use mathlib.Core.Bool.{false≢true}
 use mathlib.Core.List.{List}
 use native.Mathlib.Omega.{arith}
-use lib.Dec.{ltb}
-use lib.ListN.{length, take, drop, length-append}
+use lib.ListN.{length, take}
 use Rattle.base.specs.Base.{pick}
-use Rattle.base.proofs.Tests.{ifso, pick-on, pick-off}
-use Rattle.rules.specs.Numbers.{over}
 use Rattle.rules.specs.Records.{serialAt}
 use Rattle.rules.specs.Reading.{Reading, refused, read, reading, Stretch}
 use Rattle.rules.specs.History.{History}
@@ -17,29 +14,18 @@ use Rattle.demand1.proofs.Events.{passes-framed}
 use Rattle.demand1.proofs.Readings.{reads-iff}
 use Rattle.writing.specs.declared.Filled.{Filled}
 use Rattle.writing.specs.declared.Filled.the-variants.{Refused, Length}
-use Rattle.writing.specs.Filling.{refusing, answering, said, Work, refusal, content, Fill, fill, into}
+use Rattle.writing.specs.Filling.{refusing, answering, said, Fill, fill, into}
 use Rattle.writing.specs.Writing.{written}
 use Rattle.writing.specs.Listing.{stepsRead, stepped}
 use Rattle.writing.specs.Rewriting.{again, rewritten}
 use Rattle.rewriting.specs.Rewriting.{Rewrote}
+use Rattle.rewriting.proofs.Within.{stepped-within}
 
 -- ── what an answer with a length says ──
 
 -- it is no refusal
 no-refusal : {n m p : ℕ} {b o : List ℕ} → fill (answering n) b ≡ fill (refusing m p) o → ⊥
 no-refusal e = false≢true (ap (λ (x : Fill). x .answer .isRefused) e)
-
--- so many bytes are in the buffer
-within : (w : Work) (o : List ℕ) {n : ℕ} {b : List ℕ} → fill (answering n) b ≡ into w o → n ≤ length b
-unfolding into over
-within (refusal m p) o e = absurd (no-refusal e)
-within (content l) o {n} {b} e =
-    ifso (ltb (length o) (length l)) (λ t. absurd (no-refusal (e ∙ pick-on _ _ _ t)))
-    (λ f.
-    let d : fill (answering n) b ≡ fill (answering (length l)) (over l o) = e ∙ pick-off _ _ _ f in
-    let i : n ≡ length l = ap (λ (x : Fill). x .answer .length) d in
-    let j : b ≡ over l o = ap (λ (x : Fill). x .buffer) d in
-    rw j (omega (arith, length-append l (drop (length l) o))))
 
 -- the trace was read
 pub data IsRead (x : Reading) : Type 0 where
@@ -83,8 +69,7 @@ module _ (r : Filled) (s x x₂ : List ℕ) (e : fill (said r) x₂ ≡ stepped 
     serial-there = read-record s (was-read (reading s) x listed)
 
     pub front-there : n ≤ length x₂
-    unfolding stepped
-    front-there = within (stepsRead (reading s)) x listed
+    front-there = stepped-within (answering n) x₂ s x listed
 
     pub written-again : {a : Filled} {out out₂ : List ℕ} → fill (said a) out₂ ≡ written (take n x₂) (serialAt s 0) out → Rewrote a s x x₂ out out₂
     unfolding rewritten again pick

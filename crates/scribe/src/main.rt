@@ -1,0 +1,70 @@
+// Answers many requests in one run. Standard input has items: what is asked, 1 byte (`s`, `l` or `r`); the room for the answer and the length of what is
+// given, 2 bytes little-endian each; and what is given. Each answer, or the line of a refusal, stands behind its length, 2 bytes little-endian.
+ghost use Prim.Native.Nat.{_≤_};
+ghost use lib.ListN.{length};
+ghost use Rattle.writing.specs.Filling.{said};
+use telling::Head;
+use writing::Filled;
+
+fn main() {
+    answer_all();
+}
+
+// A proved loop has to end, and nothing says that the input does: so it counts down, from a number that no run uses up.
+fn answer_all() {
+    let mut turns = u64::MAX;
+    while turns > 0 && answer_next() {
+        turns -= 1;
+    }
+}
+
+// One item. False where the input has ended, or asks for anything else.
+fn answer_next() -> bool {
+    let mut head = [0u8; 5];
+    if io::read_full(0, &mut head) < 5 {
+        return false;
+    }
+    let room = frame::u16_at(&head, 1) as usize;
+    let n = frame::u16_at(&head, 3) as usize;
+    let mut given = [0u8; 65535];
+    let mut out = [0u8; 65535];
+    lend(head[0], n, room, &mut given, &mut out)
+}
+
+// The next n bytes are given, and the first `room` bytes of a buffer lent.
+fn lend(asked: u8, n: usize, room: usize, given: &mut [u8], out: &mut [u8]) -> bool
+    requires { ⌜ (n ≤ length (now given)) × (room ≤ length (now out)) ⌝ }
+{
+    answer_item(asked, &mut given[..n], &mut out[..room])
+}
+
+// Where the input ends early, what there is of it is taken.
+fn answer_item(asked: u8, given: &mut [u8], out: &mut [u8]) -> bool {
+    let n = io::read_full(0, given);
+    answer(asked, &given[..n], out)
+}
+
+fn answer(asked: u8, given: &[u8], out: &mut [u8]) -> bool {
+    match asked {
+        b's' => {
+            let filled = telling::write_given(given, out);
+            telling::print_answer(Head::Length, filled, out)
+        }
+        b'l' => {
+            let filled = list_given(given, out);
+            telling::print_answer(Head::Length, filled, out)
+        }
+        b'r' => {
+            let filled = telling::rewrite_given(given, out);
+            telling::print_answer(Head::Length, filled, out)
+        }
+        _ => false,
+    }
+}
+
+// A trace, whose steps are answered.
+fn list_given(trace: &[u8], out: &mut [u8]) -> Filled
+    ensures { λ r. ⌜ said r .length ≤ length (now (out .exit)) ⌝ }
+{
+    lister::list_steps(trace, out)
+}

@@ -227,6 +227,13 @@ listed-same f g e =
     (λ j k h. listed-end f j e k ∙ sym (listed-end g j e k))
     (λ j l ih h. listed-step f j e l ∙ rw (h j (omega arith) l, ih (λ i a b. h i (omega arith) b)) (sym (listed-step g j e l)))
 
+-- a listing in two parts
+pub listed-split : {A : Type 0} (f : ℕ → List A) (m e j : ℕ) → j ≤ m → m ≤ e → listed j e f ≡ listed j m f ++ listed m e f
+listed-split f m e =
+    downward (λ j. j ≤ m → m ≤ e → listed j e f ≡ listed j m f ++ listed m e f) m
+    (λ j g a b. let i : j ≡ m = omega arith in rw (i, listed-end f m m (omega arith)))
+    (λ j l ih a b. listed-step f j e (omega arith) ∙ rw (ih (omega arith) b, listed-step f j m l) (sym (append-assoc (f j) (listed (j + 1) m f) (listed m e f))))
+
 -- one number more
 pub listed-more : {A : Type 0} (f : ℕ → List A) (e j : ℕ) → j ≤ e → listed j (e + 1) f ≡ listed j e f ++ f e
 listed-more f e =

@@ -1,5 +1,5 @@
 -- Answers that are what the definition gives a lent buffer.
-use Prim.Native.Nat.{ℕ, _<_}
+use Prim.Native.Nat.{ℕ, _<_, _≤_}
 use mathlib.Core.Path.{_≡_, refl, sym}
 use mathlib.Core.List.{List}
 use native.Mathlib.Omega.{arith}
@@ -18,17 +18,22 @@ pub into-refused : (n p : ℕ) (out : List ℕ) → fill (said (Refused n p)) ou
 unfolding said into
 into-refused n p out = refl
 
--- l does not fit; l was put
+-- l does not fit; it does
+pub into-short : (l o : List ℕ) → length o < length l → into (content l) o ≡ fill (refusing 16 (length l)) o
+unfolding into
+into-short l o h = pick-on (ltb (length o) (length l)) (fill (refusing 16 (length l)) o) (fill (answering (length l)) (over l o)) (lt-ltb (length o) (length l) h)
+
+pub into-fits : (l o : List ℕ) → length l ≤ length o → into (content l) o ≡ fill (answering (length l)) (over l o)
+unfolding into
+into-fits l o h = pick-off (ltb (length o) (length l)) (fill (refusing 16 (length l)) o) (fill (answering (length l)) (over l o)) (le-ltb (length o) (length l) h)
+
+-- so it was refused; so it was put
 module _ (l : List ℕ) {out : List ℕ} where
   pub too-short : {n : ℕ} → n ≡ length l → length out < n → fill (said (Refused 16 n)) out ≡ into (content l) out
-  unfolding said into
-  too-short e h =
-      rw e
-      (sym (pick-on (ltb (length out) (length l)) (fill (refusing 16 (length l)) out) (fill (answering (length l)) (over l out)) (lt-ltb (length out) (length l) (omega arith))))
+  unfolding said
+  too-short e h = rw e (sym (into-short l out (omega arith)))
 
   pub filled : {b : List ℕ} {r : ℕ} → Appended out 0 b r l → fill (said (Length r)) b ≡ into (content l) out
-  unfolding said into
+  unfolding said
   filled {b} {r} x =
-      let e : r ≡ length l = omega (arith, x .end) in
-      rw (e, appended-over x)
-      (sym (pick-off (ltb (length out) (length l)) (fill (refusing 16 (length l)) out) (fill (answering (length l)) (over l out)) (le-ltb (length out) (length l) (omega (arith, x .room)))))
+      let e : r ≡ length l = omega (arith, x .end) in rw (e, appended-over x) (sym (into-fits l out (omega (arith, x .room))))

@@ -92,10 +92,7 @@ pub taken-none : (h : History) (e : Event) → Taken h e → writeNo h e ≡ 0
 unfolding writeNo writeRows
 taken-none h e t = let f = to-rows h t in sym (fit-past (isNoStep e) 6 (stepRows h (current h) e) (f .0) (sym (clear-rows h (current h) e (f .1))))
 
--- an event that is a step and that rows 7 to 10 do not refuse is taken
-pub taken-read : (h : History) (e : Event) → isNoStep e ≡ false → firstFit (stepRows h (current h) e) ≡ 0 → Taken h e
-taken-read h e n z = of-rows h e n (rows-clear h (current h) e z)
-
+-- .. nor rows 7 to 10 by themselves
 pub taken-rows : (h : History) (e : Event) → Taken h e → firstFit (stepRows h (current h) e) ≡ 0
 taken-rows h e t = clear-rows h (current h) e (to-rows h t .1)
 

@@ -12,12 +12,12 @@ use Rattle.demand1.proofs.Refusals.{number-positive}
 use Rattle.writing.specs.Filling.{refusing, answering, content, fill, into}
 use Rattle.writing.specs.Steps.{stepAt, stepsFrom, stepsIn}
 use Rattle.writing.specs.Writing.{writeNo, bad, good, follow, traceOf, wrote, written}
+use Rattle.writing.proofs.Filling.{into-short, into-fits}
 use Rattle.writing.proofs.Followed.{follow-bad, follow-inside, follow-end}
 use Rattle.writing.proofs.Lengths.{trace-length}
 use Rattle.written.specs.Declined.{traceLength, WriteDeclines, bad-step, ends-inside, trace-short}
 use Rattle.written.proofs.Checks.{step-refused}
 use Rattle.written.proofs.Comes.{steps-here, steps-over, comes-follow}
-use Rattle.written.proofs.Fills.{into-short, into-fits}
 
 module _ (s : List ℕ) (n : ℕ) (o : List ℕ) where
   -- ── the definition's cases ──

@@ -1,7 +1,7 @@
 -- 1,279 steps are enough: no sequence of that many is written, so what stands behind them is not looked at.
 use Prim.Native.Nat.{ℕ, _+_, _-_, _*_, _<_, _≤_}
 use mathlib.Core.Path.{_≡_, refl, ap, sym, _∙_}
-use mathlib.Core.List.{List, [], _∷_, _++_, append-assoc}
+use mathlib.Core.List.{List, [], _∷_, _++_}
 use mathlib.Core.Logic.{⊎-elim}
 use native.Mathlib.Omega.{arith}
 use lib.ListN.{length, take, length-append}
@@ -9,7 +9,7 @@ use lib.Seq.{length-take-le}
 use borrow.Author.Tests.{le-ltb}
 use Rattle.base.specs.Base.{listed}
 use Rattle.base.proofs.Tests.{split}
-use Rattle.base.proofs.Searches.{downward, listed-step, listed-end, listed-same, singles-length}
+use Rattle.base.proofs.Searches.{listed-same, listed-split, singles-length}
 use Rattle.rules.specs.History.{History, current, empty}
 use Rattle.rules.specs.Reading.{entered}
 use Rattle.rules.specs.declared.Event.{Event}
@@ -35,13 +35,6 @@ refused-early {es} h k (e ∷ rest) more g l =
     follow-on h k e (rest ++ more) t
     ∙ refused-early (entered h (current h) e) (k + 1) rest more (grown-step e g t) (omega (arith, length-append es (e ∷ []))) ∙ sym (follow-on h k e rest t))
     (split 0 (writeNo h e))
-
--- a listing in two parts
-listed-split : {A : Type 0} (f : ℕ → List A) (m e j : ℕ) → j ≤ m → m ≤ e → listed j e f ≡ listed j m f ++ listed m e f
-listed-split f m e =
-    downward (λ j. j ≤ m → m ≤ e → listed j e f ≡ listed j m f ++ listed m e f) m
-    (λ j g a b. let i : j ≡ m = omega arith in rw (i, listed-end f m m (omega arith)))
-    (λ j l ih a b. listed-step f j e (omega arith) ∙ rw (ih (omega arith) b, listed-step f j m l) (sym (append-assoc (f j) (listed (j + 1) m f) (listed m e f))))
 
 module _ (s : List ℕ) (n : ℕ) (long : 16 * n ≤ length s) where
   abbrev front : List ℕ

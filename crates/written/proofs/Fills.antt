@@ -1,28 +1,15 @@
 -- A definition that comes out as the conditions say keeps the promise of a call that fills a buffer; and the promise leaves one outcome.
-use Prim.Native.Nat.{ℕ, _<_, _≤_}
+use Prim.Native.Nat.{ℕ}
 use mathlib.Core.Path.{_≡_, refl, ap, sym, _∙_}
 use mathlib.Core.Bool.{true, true≢false, false≢true}
 use mathlib.Core.List.{List}
 use mathlib.Core.Logic.{_⊎_, inl, inr, ⊎-elim, _↔_}
-use lib.Dec.{ltb}
 use lib.ListN.{length}
-use borrow.Author.Tests.{lt-ltb, le-ltb}
-use Rattle.base.proofs.Tests.{pick-on, pick-off}
 use Rattle.rules.specs.Numbers.{over}
-use Rattle.writing.specs.Filling.{Said, refusing, answering, said, content, Fill, fill, into}
+use Rattle.writing.specs.Filling.{Said, refusing, answering, said, content, Fill, fill}
 use Rattle.writing.specs.declared.Filled.{Filled}
 use Rattle.writing.specs.declared.Filled.the-variants.{Refused, Length}
 use Rattle.written.specs.Fills.{FilledWith, Fills}
-
--- ── what is put, or too long ──
-
-pub into-short : (l o : List ℕ) → length o < length l → into (content l) o ≡ fill (refusing 16 (length l)) o
-unfolding into
-into-short l o h = pick-on (ltb (length o) (length l)) (fill (refusing 16 (length l)) o) (fill (answering (length l)) (over l o)) (lt-ltb (length o) (length l) h)
-
-pub into-fits : (l o : List ℕ) → length l ≤ length o → into (content l) o ≡ fill (answering (length l)) (over l o)
-unfolding into
-into-fits l o h = pick-off (ltb (length o) (length l)) (fill (refusing 16 (length l)) o) (fill (answering (length l)) (over l o)) (le-ltb (length o) (length l) h)
 
 -- ── the promise is kept ──
 

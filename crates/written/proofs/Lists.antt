@@ -20,6 +20,7 @@ use Rattle.writing.specs.Listing.{historySteps, stepsRead, stepped}
 use Rattle.writing.specs.Rewriting.{again, rewritten}
 use Rattle.writing.specs.declared.Filled.{Filled}
 use Rattle.writing.proofs.Grown.{Grown, grown-none}
+use Rattle.writing.proofs.Filling.{into-short, into-fits}
 use Rattle.writing.proofs.Followed.{followed, grown-follow, follow-end}
 use Rattle.writing.proofs.Told.{told}
 use Rattle.writing.proofs.Listed.{read-grown, listing-length}
@@ -32,7 +33,7 @@ use Rattle.written.proofs.Bytes.{steps-bytes}
 use Rattle.written.proofs.Unused.{known-steps, unused-steps}
 use Rattle.written.proofs.Comes.{steps-over, comes-follow, Ends, at-step, inside, outside, ends}
 use Rattle.written.proofs.Declined.{written-good}
-use Rattle.written.proofs.Fills.{into-short, into-fits, Comes-out, declining, putting, declines-iff, fills, fills-one}
+use Rattle.written.proofs.Fills.{Comes-out, declining, putting, declines-iff, fills, fills-one}
 use Rattle.written.proofs.Retold.{own-bytes, slim-read}
 
 -- the bytes of a history's steps

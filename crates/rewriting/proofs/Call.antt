@@ -54,10 +54,9 @@ module _ (r : Filled) (s x x₂ : List ℕ) (e : fill (said r) x₂ ≡ stepped 
   steps-are : x₂ ≡ stepped s x .buffer
   steps-are = ap (λ (y : Fill). y .buffer) e
 
-  module _ (m p : ℕ) (q : r ≡ Refused m p) where
-    pub handed-on : (out : List ℕ) → Rewrote (Refused m p) s x x₂ out out
-    unfolding said rewritten again pick
-    handed-on out = record { is = rw (← e, q); steps = steps-are }
+  pub handed-on : (m p : ℕ) → r ≡ Refused m p → (out : List ℕ) → Rewrote (Refused m p) s x x₂ out out
+  unfolding said rewritten again pick
+  handed-on m p q out = record { is = rw (← e, q); steps = steps-are }
 
   module _ {n : ℕ} (q : r ≡ Length n) where
     listed : fill (answering n) x₂ ≡ stepped s x

@@ -6,9 +6,6 @@ use writing::Filled;
 
 // ── what is given ──
 
-// The bytes of the longest trace that steps make: 127 opens and closes, 19 for both, 1,024 operations, 20 each, and the end, 10.
-pub const LONGEST: usize = 22903;
-
 // A starting serial, 4 bytes, and the steps behind it. Where there are fewer bytes than a serial has, too few are left: 3, at the first byte.
 pub fn write_given(given: &[u8], out: &mut [u8]) -> Filled
     ensures { λ r. ⌜ said r .length ≤ length (now (out .exit)) ⌝ }
@@ -30,7 +27,10 @@ pub fn rewrite_given(trace: &[u8], out: &mut [u8]) -> Filled
 
 // ── the answer ──
 
-// Where the answer goes: alone, or behind its length, 2 bytes little-endian.
+// The bytes of the longest trace that steps make: 127 opens and closes, 19 for both, 1,024 operations, 20 each, and the end, 10.
+pub const LONGEST: usize = 22903;
+
+// What stands before an answer: nothing, or its length, 2 bytes little-endian.
 pub enum Head {
     None,
     Length,

@@ -136,6 +136,10 @@ refused-is {s} (bytes-behind {st} short r p k l) = resumed s short r _ (λ g _. 
 read-is : {s : List ℕ} {h : History} {notes : List Stretch} → ReadInto s h notes → reading s ≡ read h notes
 read-is {s} (to-the-end {st} short r p k e) = resumed s short r _ (λ g _. walk-end s st g p k ∙ finished-read s st p k e)
 
+-- a trace that is read has a record
+pub has-record : {s : List ℕ} {h : History} {notes : List Stretch} → ReadInto s h notes → 8 ≤ length s
+has-record {s} (to-the-end {st} l r p k e) = omega (arith, after-within s st p .0, behind-at s st)
+
 -- ── the theorems ──
 
 module _ (s : List ℕ) where

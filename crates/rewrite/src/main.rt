@@ -6,6 +6,6 @@ fn main() {
     let mut bytes = [0u8; 32769];
     let n = io::read_full(0, &mut bytes);
     let mut out = [0u8; telling::LONGEST];
-    let answer = telling::rewrite_given(&bytes[..n], &mut out);
+    let answer = rewriting::rewrite_whole(&bytes[..n], &mut out);
     telling::print_answer(Head::None, answer, &out);
 }

@@ -3,23 +3,20 @@ use Prim.Native.Nat.{ℕ, _≤_}
 use mathlib.Core.Path.{_≡_, refl, ap}
 use mathlib.Core.Bool.{false≢true}
 use mathlib.Core.List.{List}
-use native.Mathlib.Omega.{arith}
 use lib.ListN.{length, take}
 use Rattle.base.specs.Base.{pick}
 use Rattle.rules.specs.Records.{serialAt}
 use Rattle.rules.specs.Reading.{Reading, refused, read, reading, Stretch}
 use Rattle.rules.specs.History.{History}
-use Rattle.demand1.specs.Rows.{ReadInto, to-the-end}
-use Rattle.demand1.proofs.Events.{passes-framed}
-use Rattle.demand1.proofs.Readings.{reads-iff}
+use Rattle.demand1.proofs.Readings.{has-record, reads-iff}
 use Rattle.writing.specs.declared.Filled.{Filled}
 use Rattle.writing.specs.declared.Filled.the-variants.{Refused, Length}
 use Rattle.writing.specs.Filling.{refusing, answering, said, Fill, fill, into}
 use Rattle.writing.specs.Writing.{written}
 use Rattle.writing.specs.Listing.{stepsRead, stepped}
 use Rattle.writing.specs.Rewriting.{again, rewritten}
+use Rattle.writing.proofs.Within.{stepped-within}
 use Rattle.rewriting.specs.Rewriting.{Rewrote}
-use Rattle.rewriting.proofs.Within.{stepped-within}
 
 -- ── what an answer with a length says ──
 
@@ -36,10 +33,7 @@ unfolding stepsRead into
 was-read (refused m p) o e = absurd (no-refusal e)
 was-read (read h notes) o e = is-read h notes refl
 
--- a trace that is read has a record
-has-record : {s : List ℕ} {h : History} {notes : List Stretch} → ReadInto s h notes → 8 ≤ length s
-has-record (to-the-end l r p k e) = omega (arith, passes-framed p .sized .low, e)
-
+-- so it has a record
 read-record : (s : List ℕ) → IsRead (reading s) → 8 ≤ length s
 read-record s (is-read h notes e) = has-record (reads-iff s h notes .0 e)
 

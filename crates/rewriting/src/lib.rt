@@ -4,8 +4,9 @@ ghost use Prim.Native.Nat.{_≤_};
 ghost use lib.ListN.{length, take};
 ghost use Rattle.rules.specs.Records.{serialAt};
 ghost use Rattle.writing.specs.Filling.{fill, said};
-ghost use Rattle.writing.specs.Writing.{written};
-ghost use Rattle.rewriting.specs.Rewriting.{Rewrote};
+ghost use Rattle.writing.specs.Writing.{written, writtenGiven};
+ghost use Rattle.writing.specs.Rewriting.{rewrittenWhole};
+ghost use Rattle.rewriting.specs.Rewriting.{Rewrote, Gives};
 use writing::Filled;
 
 // The first n bytes of these steps, with the trace's first serial.
@@ -27,4 +28,25 @@ pub fn rewrite_trace(trace: &[u8], steps: &mut [u8], out: &mut [u8]) -> Filled
         Filled::Refused(no, place) => Filled::Refused(no, place),
         Filled::Length(n) => write_front(trace, steps, n, out),
     }
+}
+
+// ── whole inputs, as the programs get them ──
+
+// A starting serial, 4 bytes, and the steps behind it. Where there are fewer bytes than a serial has, too few are left: 3, at the first byte.
+pub fn write_given(given: &[u8], out: &mut [u8]) -> Filled
+    ensures { λ r. ⌜ Gives r (now (out .exit)) (writtenGiven (now (given .entry)) (now (out .entry))) ⌝ }
+{
+    if given.len() < 4 {
+        return Filled::Refused(3, 0);
+    }
+    let serial = frame::u32_at(given, 0);
+    maker::write_trace(&given[4..], serial, out)
+}
+
+// A trace. The steps in between always have room: at most 127 opens, as many closes and 1,024 operations, 16 bytes each.
+pub fn rewrite_whole(trace: &[u8], out: &mut [u8]) -> Filled
+    ensures { λ r. ⌜ Gives r (now (out .exit)) (rewrittenWhole (now (trace .entry)) (now (out .entry))) ⌝ }
+{
+    let mut steps = [0u8; 20448];
+    rewrite_trace(trace, &mut steps, out)
 }

@@ -47,7 +47,7 @@ fn answer_item(asked: u8, given: &mut [u8], out: &mut [u8]) -> bool {
 fn answer(asked: u8, given: &[u8], out: &mut [u8]) -> bool {
     match asked {
         b's' => {
-            let filled = telling::write_given(given, out);
+            let filled = rewriting::write_given(given, out);
             telling::print_answer(Head::Length, filled, out)
         }
         b'l' => {
@@ -55,7 +55,7 @@ fn answer(asked: u8, given: &[u8], out: &mut [u8]) -> bool {
             telling::print_answer(Head::Length, filled, out)
         }
         b'r' => {
-            let filled = telling::rewrite_given(given, out);
+            let filled = rewriting::rewrite_whole(given, out);
             telling::print_answer(Head::Length, filled, out)
         }
         _ => false,

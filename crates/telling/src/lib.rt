@@ -1,31 +1,8 @@
-// What the programs share that write traces: what they are given, and how they tell an answer.
+// What the programs share that write traces: how they tell an answer. No contract can say what is written to a file descriptor.
 ghost use Prim.Native.Nat.{_≤_};
 ghost use lib.ListN.{length};
 ghost use Rattle.writing.specs.Filling.{said};
 use writing::Filled;
-
-// ── what is given ──
-
-// A starting serial, 4 bytes, and the steps behind it. Where there are fewer bytes than a serial has, too few are left: 3, at the first byte.
-pub fn write_given(given: &[u8], out: &mut [u8]) -> Filled
-    ensures { λ r. ⌜ said r .length ≤ length (now (out .exit)) ⌝ }
-{
-    if given.len() < 4 {
-        return Filled::Refused(3, 0);
-    }
-    let serial = frame::u32_at(given, 0);
-    maker::write_trace(&given[4..], serial, out)
-}
-
-// A trace. The steps in between always have room: at most 127 opens, as many closes and 1,024 operations, 16 bytes each.
-pub fn rewrite_given(trace: &[u8], out: &mut [u8]) -> Filled
-    ensures { λ r. ⌜ said r .length ≤ length (now (out .exit)) ⌝ }
-{
-    let mut steps = [0u8; 20448];
-    rewriting::rewrite_trace(trace, &mut steps, out)
-}
-
-// ── the answer ──
 
 // The bytes of the longest trace that steps make: 127 opens and closes, 19 for both, 1,024 operations, 20 each, and the end, 10.
 pub const LONGEST: usize = 22903;

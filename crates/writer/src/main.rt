@@ -6,6 +6,6 @@ fn main() {
     let mut given = [0u8; 20468];
     let n = io::read_full(0, &mut given);
     let mut out = [0u8; telling::LONGEST];
-    let answer = telling::write_given(&given[..n], &mut out);
+    let answer = rewriting::write_given(&given[..n], &mut out);
     telling::print_answer(Head::None, answer, &out);
 }

@@ -6,3 +6,4 @@ pub mod Followed
 pub mod Lengths
 pub mod Told
 pub mod Listed
+pub mod Within

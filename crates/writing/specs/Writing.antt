@@ -3,13 +3,15 @@ use Prim.Native.Nat.{ℕ, _+_}
 use mathlib.Core.Bool.{Bool, true, false}
 use mathlib.Core.List.{List, [], _∷_, _++_, map}
 use lib.Dec.{ltb}
+use lib.ListN.{length, drop}
 use Rattle.base.specs.Base.{pick, Row, row, firstFit}
+use Rattle.rules.specs.Numbers.{le}
 use Rattle.rules.specs.History.{History, txCount, current, empty}
 use Rattle.rules.specs.Reading.{stepRows, entered}
 use Rattle.rules.specs.Traces.{Item, item, opens, r, w, closes, ends, trace}
 use Rattle.rules.specs.declared.Event.{Event}
 use Rattle.rules.specs.declared.Event.the-variants.{Open, Read, Write, Close, End, Note, Other}
-use Rattle.writing.specs.Filling.{Work, refusal, content, Fill, into}
+use Rattle.writing.specs.Filling.{Work, refusal, content, Fill, fill, refusing, into}
 use Rattle.writing.specs.Steps.{stepsIn}
 
 -- ── the order of checks ──
@@ -74,3 +76,7 @@ wrote n es (good h) = content (traceOf n es h)
 -- the steps s, the starting serial n and a lent buffer that holds `out`
 unfoldable pub written : List ℕ → ℕ → List ℕ → Fill
 written s n out = into (wrote n (stepsIn s) (follow empty 1 (stepsIn s))) out
+
+-- the starting serial, 4 bytes, and the steps behind it, in one. Where there are fewer bytes than a serial has, too few are left: 3, at the first byte
+unfoldable pub writtenGiven : List ℕ → List ℕ → Fill
+writtenGiven g out = pick (ltb (length g) 4) (fill (refusing 3 0) out) (written (drop 4 g) (le 4 g 0) out)

@@ -1,5 +1,5 @@
 use borrow.Author.Needs.{needs}
-use Rattle.rewriting.proofs.Within.{stepped-within}
+use Rattle.writing.proofs.Within.{stepped-within}
 use Rattle.scribe.proofs.list_given.Statement.{statement}
 use Rattle.scribe.proofs.list_given.Tie as tie
 

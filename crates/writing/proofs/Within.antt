@@ -8,12 +8,12 @@ use lib.Dec.{ltb}
 use lib.ListN.{length, take, drop, length-append}
 use Rattle.base.specs.Base.{pick}
 use Rattle.base.proofs.Tests.{ifso}
-use Rattle.rules.specs.Numbers.{over}
+use Rattle.rules.specs.Numbers.{le, over}
 use Rattle.rules.specs.Records.{serialAt}
-use Rattle.writing.specs.Filling.{Said, Work, refusal, content, Fill, fill, into}
-use Rattle.writing.specs.Writing.{written}
+use Rattle.writing.specs.Filling.{Said, refusing, Work, refusal, content, Fill, fill, into}
+use Rattle.writing.specs.Writing.{written, writtenGiven}
 use Rattle.writing.specs.Listing.{stepped}
 use Rattle.writing.specs.Rewriting.{again, rewritten}
 
 -- what a call comes to
 abbrev Within : Fill → Type 0
@@ -48,3 +48,10 @@ module _ (a : Said) (b : List ℕ) where
       ifso (stepped s x .answer .isRefused)
       (λ t. let d : fill a b ≡ fill (stepped s x .answer) o = rw t at e in omega (arith, ap (λ (y : Fill). y .answer .length) d, refused-none _ x t))
       (λ f. written-within (take (stepped s x .answer .length) (stepped s x .buffer)) (serialAt s 0) o (rw f at e))
+
+  pub given-within : (g o : List ℕ) → fill a b ≡ writtenGiven g o → a .length ≤ length b
+  unfolding writtenGiven pick
+  given-within g o e =
+      ifso (ltb (length g) 4)
+      (λ t. let d : fill a b ≡ fill (refusing 3 0) o = rw t at e in omega (arith, ap (λ (y : Fill). y .answer .length) d))
+      (λ f. written-within (drop 4 g) (le 4 g 0) o (rw f at e))

@@ -6,6 +6,7 @@ use mathlib.Core.Path.{_≡_, refl}
 use mathlib.Core.List.{List, [], _∷_, _++_, map}
 use lib.ListN.{length, getD, take}
 use Rattle.base.specs.Base.{joined}
+use Rattle.rules.specs.Numbers.{bytes}
 use Rattle.rules.specs.History.{History}
 use Rattle.rules.specs.Traces.{whole, trace, opens, closes, ends, note, T, r, w, room}
 use Rattle.rules.specs.Cases.{Case, table}
@@ -14,9 +15,9 @@ use Rattle.rules.specs.declared.Event.{Event}
 use Rattle.rules.specs.declared.Event.the-variants.{Open, Read, Write, Close}
 use Rattle.writing.specs.Filling.{Fill, fill, refusing, answering, into}
 use Rattle.writing.specs.Steps.{stepOf, stepAt, stepsFrom, fieldBytes, stepBytes}
-use Rattle.writing.specs.Writing.{isNoStep, writeRows, writeNo, endNo, follow, itemOf, recordsOf, wrote, written}
+use Rattle.writing.specs.Writing.{isNoStep, writeRows, writeNo, endNo, follow, itemOf, recordsOf, wrote, written, writtenGiven}
 use Rattle.writing.specs.Listing.{opStep, opStepOf, closeStep, txSteps, historySteps, stepsRead, stepped}
-use Rattle.writing.specs.Rewriting.{again, rewritten}
+use Rattle.writing.specs.Rewriting.{again, rewritten, rewrittenRead, rewrittenWhole}
 
 -- ── in words ──
 
@@ -117,7 +118,7 @@ nowWritten c = writes (c .steps) (c .serial) (c .room) (written (c .steps) (c .s
 
 -- this statement carries along what it unfolds
 unfoldable pub as-written : map nowWritten writeTable ≡ writeTable
-unfolding as-they-should into stepOf stepAt stepsFrom fieldBytes stepBytes isNoStep writeRows writeNo endNo follow itemOf recordsOf wrote written opStep opStepOf closeStep txSteps historySteps stepsRead stepped again rewritten
+unfolding as-they-should into stepOf stepAt stepsFrom fieldBytes stepBytes isNoStep writeRows writeNo endNo follow itemOf recordsOf wrote written opStep opStepOf closeStep txSteps historySteps stepsRead stepped again rewritten rewrittenRead rewrittenWhole writtenGiven
 as-written = refl
 
 -- ── the limits: 127 transactions and 1,024 operations, in histories that have come so far ──
@@ -196,3 +197,37 @@ nowListed c = lists (c .bytes) (c .room) (stepped (c .bytes) (room (c .room))) (
 pub as-listed : map nowListed listTable ≡ listTable
 unfolding as-written
 as-listed = refl
+
+-- the same, where the steps' buffer is not lent
+abbrev pub nowWhole : Listed → Listed
+nowWhole c = lists (c .bytes) (c .room) (c .out) (rewrittenWhole (c .bytes) (room 200))
+
+pub as-whole : map nowWhole listTable ≡ listTable
+unfolding as-written
+as-whole = refl
+
+-- ── a serial and steps in one ──
+
+pub record Given : Type 0 where
+  pub bytes : List ℕ
+  pub out : Fill
+
+abbrev gives : List ℕ → Fill → Given
+gives g x = record { bytes = g; out = x }
+
+abbrev pub givenTable : List Given
+givenTable =
+    -- no serial: 3, at the first byte
+    gives [] (refusedIn 200 3 0)
+    ∷ gives (0 ∷ 0 ∷ 0 ∷ []) (refusedIn 200 3 0)
+    ∷ gives (bytes 4 7) (filledIn 200 (trace 7 (ends 0 ∷ [])))
+    ∷ gives (bytes 4 4294967295 ++ steps (Open 7 ∷ Close 0 ∷ [])) (filledIn 200 (trace 4294967295 (opens 7 ∷ closes 0 ∷ ends 1 ∷ [])))
+    ∷ gives (bytes 4 0 ++ (1 ∷ [])) (refusedIn 200 6 1)
+    ∷ []
+
+abbrev pub nowGiven : Given → Given
+nowGiven c = gives (c .bytes) (writtenGiven (c .bytes) (room 200))
+
+pub as-given : map nowGiven givenTable ≡ givenTable
+unfolding as-written
+as-given = refl

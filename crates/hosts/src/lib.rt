@@ -7,7 +7,7 @@ ghost use Rattle.hosts.specs.Hosts.{Coincides, OwnBytes};
 use writing::Filled;
 
 // What is written reads back as the steps say; a refusal is given only on its row.
-pub fn wrote(steps: &[u8], serial: u32, out: &mut [u8]) -> Filled
+pub fn promised_trace(steps: &[u8], serial: u32, out: &mut [u8]) -> Filled
     ensures { λ r. ⌜ Writes (now (steps .entry)) serial (now (out .entry)) r (now (out .exit)) ⌝ }
 {
     maker::write_trace(steps, serial, out)
@@ -20,7 +20,7 @@ pub struct Answers {
 }
 
 // Two calls on the same steps, with one starting serial and buffers of the same content, coincide.
-pub fn wrote_twice(steps: &[u8], serial: u32, out: &mut [u8], out2: &mut [u8]) -> Answers
+pub fn written_twice(steps: &[u8], serial: u32, out: &mut [u8], out2: &mut [u8]) -> Answers
     ensures { λ r. ⌜ ((now (out .entry) ≡ now (out2 .entry)) → Coincides r (now (out .exit)) (now (out2 .exit))) ⌝ }
 {
     let first = maker::write_trace(steps, serial, out);
@@ -32,14 +32,14 @@ pub fn wrote_twice(steps: &[u8], serial: u32, out: &mut [u8], out2: &mut [u8]) -
 }
 
 // The steps of a trace are followed into the trace's history.
-pub fn listed(trace: &[u8], out: &mut [u8]) -> Filled
+pub fn promised_steps(trace: &[u8], out: &mut [u8]) -> Filled
     ensures { λ r. ⌜ Lists (now (trace .entry)) (now (out .entry)) r (now (out .exit)) ⌝ }
 {
     lister::list_steps(trace, out)
 }
 
 // A trace without notes comes out with its own bytes.
-pub fn rewrote(trace: &[u8], steps: &mut [u8], out: &mut [u8]) -> Filled
+pub fn own_bytes(trace: &[u8], steps: &mut [u8], out: &mut [u8]) -> Filled
     ensures { λ r. ⌜ OwnBytes (now (trace .entry)) (now (steps .entry)) (now (out .entry)) r (now (out .exit)) ⌝ }
 {
     rewriting::rewrite_trace(trace, steps, out)

@@ -6,13 +6,14 @@ use native.Mathlib.Omega.{arith}
 use lib.Dec.{ltb}
 use lib.ListN.{length, take, drop, length-drop}
 use borrow.Author.Tests.{lt-ltb, le-ltb}
-use lib.Seq.{take-all, take-append-seam}
+use lib.Seq.{take-all}
 use Rattle.base.specs.Base.{pick, joined}
 use Rattle.base.proofs.Tests.{pick-on, pick-off}
 use Rattle.rules.specs.Numbers.{le, over}
 use Rattle.rules.specs.History.{History}
 use Rattle.rules.specs.Reading.{Reading, Stretch, refused, read, reading}
 use Rattle.demand1.proofs.Lawful.{lawful-history}
+use Rattle.rules.proofs.Numbers.{over-front}
 use Rattle.demand1.proofs.Readings.{reads-iff}
 use Rattle.writing.specs.Filling.{refusing, answering, said, fill, into}
 use Rattle.writing.specs.Steps.{stepBytes}
@@ -26,30 +27,25 @@ use Rattle.writing.proofs.Listed.{listing-length}
 use Rattle.writing.proofs.Within.{written-within, rewritten-within}
 use Rattle.rewriting.specs.Rewriting.{Rewrote, Gives}
 
--- what was put at the front
-front : (l x : List ℕ) → take (length l) (over l x) ≡ l
-unfolding over
-front l x = take-append-seam l (drop (length l) x)
-
 -- 16 bytes a step, of at most 2 * 127 + 1,024
-listed-whole : (s x : List ℕ) (h : History) (notes : List Stretch) → reading s ≡ read h notes → 20448 ≤ length x
+listed-read : (s x : List ℕ) (h : History) (notes : List Stretch) → reading s ≡ read h notes → 20448 ≤ length x
     → stepped s x ≡ fill (answering (length (joined stepBytes (historySteps h)))) (over (joined stepBytes (historySteps h)) x)
 unfolding stepped stepsRead
-listed-whole s x h notes e l =
+listed-read s x h notes e l =
     let few = lawful-history (reads-iff s h notes .0 e) in
     rw e (into-fits (joined stepBytes (historySteps h)) x (omega (arith, listing-length s h notes e, few .few-txs, few .few-ops)))
 
-listed-none : (s x : List ℕ) (n p : ℕ) → reading s ≡ refused n p → stepped s x ≡ fill (refusing n p) x
+listed-refused : (s x : List ℕ) (n p : ℕ) → reading s ≡ refused n p → stepped s x ≡ fill (refusing n p) x
 unfolding stepped stepsRead into
-listed-none s x n p e = rw e
+listed-refused s x n p e = rw e
 
 whole : (s x out : List ℕ) → 20448 ≤ length x → rewritten s x out ≡ rewrittenWhole s out
 unfolding rewritten again rewrittenWhole rewrittenRead pick
 whole s x out l = by (reading s) refl
   where
     by : (r : Reading) → reading s ≡ r → rewritten s x out ≡ rewrittenWhole s out
-    by (refused n p) e = rw (listed-none s x n p e, e)
-    by (read h notes) e = rw (listed-whole s x h notes e l, front (joined stepBytes (historySteps h)) x, e)
+    by (refused n p) e = rw (listed-refused s x n p e, e)
+    by (read h notes) e = rw (listed-read s x h notes e l, over-front (joined stepBytes (historySteps h)) x, e)
 
 pub gives-whole : {r : Filled} (s x x₂ out out₂ : List ℕ) → 20448 ≤ length x → Rewrote r s x x₂ out out₂ → Gives r out₂ (rewrittenWhole s out)
 gives-whole {r} s x x₂ out out₂ l w = record { is = w .is ∙ whole s x out l; within = rewritten-within (said r) out₂ s x out (w .is) }

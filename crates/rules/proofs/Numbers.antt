@@ -5,7 +5,7 @@ use mathlib.Core.List.{List, [], _∷_, _++_, append-assoc, append-nil}
 use native.Mathlib.Omega.{arith}
 use native.Mathlib.Numerals.{add-one, unary-clauses}
 use lib.ListN.{length, getD, take, drop}
-use lib.Seq.{getD-append-add, getD-take, take-suc, append-snoc}
+use lib.Seq.{getD-append-add, getD-take, take-suc, take-append-seam, append-snoc}
 use Rattle.base.proofs.Fill.{Appended}
 use Rattle.rules.specs.Numbers.{le, bytes, over}
 
@@ -68,3 +68,8 @@ spelt-on s b at w i xs l e =
 pub appended-over : {o b : List ℕ} {n : ℕ} {xs : List ℕ} → Appended o 0 b n xs → b ≡ over xs o
 unfolding over
 appended-over {o} {b} {n} {xs} x = let e : n ≡ length xs = omega (arith, x .end) in x .is ∙ ap (λ (m : ℕ). xs ++ drop m o) e
+
+-- it is the front
+pub over-front : (l o : List ℕ) → take (length l) (over l o) ≡ l
+unfolding over
+over-front l o = take-append-seam l (drop (length l) o)

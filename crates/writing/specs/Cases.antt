@@ -51,29 +51,29 @@ filledIn n l = fill (answering (length l)) (l ++ room (n - length l))
 -- ── writing ──
 
 -- steps, a starting serial, the length of the buffer, and what comes of them
-pub record Wrote : Type 0 where
+pub record WriteCase : Type 0 where
   pub steps : List ℕ
   pub serial : ℕ
   pub room : ℕ
   pub out : Fill
 
-abbrev writes : List ℕ → ℕ → ℕ → Fill → Wrote
-writes s n o x = record { steps = s; serial = n; room = o; out = x }
+abbrev writeCase : List ℕ → ℕ → ℕ → Fill → WriteCase
+writeCase s n o x = record { steps = s; serial = n; room = o; out = x }
 
 -- with 200 bytes, from serial 0 on
-abbrev refuses : List ℕ → ℕ → ℕ → Wrote
-refuses s m at = writes s 0 200 (refusedIn 200 m at)
+abbrev refuses : List ℕ → ℕ → ℕ → WriteCase
+refuses s m at = writeCase s 0 200 (refusedIn 200 m at)
 
-abbrev pub writeTable : List Wrote
+abbrev pub writeTable : List WriteCase
 writeTable =
     -- P1, P12 and case 16: the bytes of document 01's table
-    writes [] 0 200 (filledIn 200 (caseBytes 0))
-    ∷ writes (steps P12) 0 200 (filledIn 200 (caseBytes 11))
-    ∷ writes (steps case16) 0 200 (filledIn 200 (caseBytes 15))
+    writeCase [] 0 200 (filledIn 200 (caseBytes 0))
+    ∷ writeCase (steps P12) 0 200 (filledIn 200 (caseBytes 11))
+    ∷ writeCase (steps case16) 0 200 (filledIn 200 (caseBytes 15))
     -- "after 4,294,967,295 comes 0"
-    ∷ writes (steps (Open 7 ∷ Close 0 ∷ [])) 4294967295 40 (filledIn 40 (trace 4294967295 (opens 7 ∷ closes 0 ∷ ends 1 ∷ [])))
+    ∷ writeCase (steps (Open 7 ∷ Close 0 ∷ [])) 4294967295 40 (filledIn 40 (trace 4294967295 (opens 7 ∷ closes 0 ∷ ends 1 ∷ [])))
     -- "fields that a kind does not use are not looked at"
-    ∷ writes (step 1 3 9 9 ++ step 2 9 4 0 ++ step 3 9 4 5 ++ step 4 1 9 9) 8 100 (filledIn 100 (trace 8 (opens 3 ∷ r 4 0 ∷ w 4 5 ∷ closes 1 ∷ ends 1 ∷ [])))
+    ∷ writeCase (step 1 3 9 9 ++ step 2 9 4 0 ++ step 3 9 4 5 ++ step 4 1 9 9) 8 100 (filledIn 100 (trace 8 (opens 3 ∷ r 4 0 ∷ w 4 5 ∷ closes 1 ∷ ends 1 ∷ [])))
     -- 6: kinds 0, 5, 6, 7 and 257; a rest of 1 and of 15 bytes
     ∷ refuses (step 0 0 0 0) 6 1
     ∷ refuses (steps (Open 1 ∷ Close 1 ∷ []) ++ step 5 1 0 0) 6 3
@@ -102,19 +102,19 @@ writeTable =
     -- 10: a repeated write, in one transaction and after an aborted one; another key or another value is none
     ∷ refuses (steps (Open 1 ∷ Write 1 5 ∷ Write 1 5 ∷ [])) 10 3
     ∷ refuses (steps (Open 1 ∷ Write 1 5 ∷ Close 0 ∷ Open 1 ∷ Write 1 5 ∷ [])) 10 5
-    ∷ writes (steps (Open 1 ∷ Write 1 5 ∷ Write 2 5 ∷ Write 1 6 ∷ Close 1 ∷ [])) 0 100 (filledIn 100 (whole 1 (T 1 (w 1 5 ∷ w 2 5 ∷ w 1 6 ∷ []))))
+    ∷ writeCase (steps (Open 1 ∷ Write 1 5 ∷ Write 2 5 ∷ Write 1 6 ∷ Close 1 ∷ [])) 0 100 (filledIn 100 (whole 1 (T 1 (w 1 5 ∷ w 2 5 ∷ w 1 6 ∷ []))))
     -- each of them, then 16: a bad step and the end inside, without a buffer
-    ∷ writes (steps (Open 1 ∷ Write 1 5 ∷ Write 1 5 ∷ [])) 0 0 (refusedIn 0 10 3)
-    ∷ writes (steps (Open 1 ∷ [])) 0 0 (refusedIn 0 7 2)
+    ∷ writeCase (steps (Open 1 ∷ Write 1 5 ∷ Write 1 5 ∷ [])) 0 0 (refusedIn 0 10 3)
+    ∷ writeCase (steps (Open 1 ∷ [])) 0 0 (refusedIn 0 7 2)
     -- 16 one byte short, and exactly fitting
-    ∷ writes [] 0 9 (refusedIn 9 16 10)
-    ∷ writes [] 0 10 (filledIn 10 (caseBytes 0))
-    ∷ writes (steps case16) 0 186 (refusedIn 186 16 187)
-    ∷ writes (steps case16) 0 187 (filledIn 187 (caseBytes 15))
+    ∷ writeCase [] 0 9 (refusedIn 9 16 10)
+    ∷ writeCase [] 0 10 (filledIn 10 (caseBytes 0))
+    ∷ writeCase (steps case16) 0 186 (refusedIn 186 16 187)
+    ∷ writeCase (steps case16) 0 187 (filledIn 187 (caseBytes 15))
     ∷ []
 
-abbrev pub nowWritten : Wrote → Wrote
-nowWritten c = writes (c .steps) (c .serial) (c .room) (written (c .steps) (c .serial) (room (c .room)))
+abbrev pub nowWritten : WriteCase → WriteCase
+nowWritten c = writeCase (c .steps) (c .serial) (c .room) (written (c .steps) (c .serial) (room (c .room)))
 
 -- this statement carries along what it unfolds
 unfoldable pub as-written : map nowWritten writeTable ≡ writeTable
@@ -131,28 +131,28 @@ abbrev openSoFar : ℕ → History
 openSoFar n = openState n .history
 
 -- a history, the step that comes, and the number of the row that refuses it, 0 for none
-pub record Bound : Type 0 where
+pub record BoundCase : Type 0 where
   pub history : History
   pub step : Event
   pub no : ℕ
 
-abbrev bound : History → Event → ℕ → Bound
-bound h e n = record { history = h; step = e; no = n }
+abbrev boundCase : History → Event → ℕ → BoundCase
+boundCase h e n = record { history = h; step = e; no = n }
 
-abbrev pub bounds : List Bound
+abbrev pub bounds : List BoundCase
 bounds =
-    bound (closedSoFar 126) (Open 9) 0
-    ∷ bound (closedSoFar 127) (Open 9) 9
-    ∷ bound (openSoFar 1023) (Read 1 5000) 0
-    ∷ bound (openSoFar 1024) (Read 1 5000) 9
+    boundCase (closedSoFar 126) (Open 9) 0
+    ∷ boundCase (closedSoFar 127) (Open 9) 9
+    ∷ boundCase (openSoFar 1023) (Read 1 5000) 0
+    ∷ boundCase (openSoFar 1024) (Read 1 5000) 9
     -- 8, then 9; 9, then 10
-    ∷ bound (openSoFar 1024) (Write 1 0) 8
-    ∷ bound (openSoFar 1024) (Write 1 1024) 9
-    ∷ bound (openSoFar 1023) (Write 1 1023) 10
+    ∷ boundCase (openSoFar 1024) (Write 1 0) 8
+    ∷ boundCase (openSoFar 1024) (Write 1 1024) 9
+    ∷ boundCase (openSoFar 1023) (Write 1 1023) 10
     ∷ []
 
-abbrev pub nowBound : Bound → Bound
-nowBound c = bound (c .history) (c .step) (writeNo (c .history) (c .step))
+abbrev pub nowBound : BoundCase → BoundCase
+nowBound c = boundCase (c .history) (c .step) (writeNo (c .history) (c .step))
 
 pub as-bound : map nowBound bounds ≡ bounds
 unfolding as-written
@@ -161,46 +161,46 @@ as-bound = refl
 -- ── a trace turned into steps, and written again ──
 
 -- a trace, the length of the buffer, the steps, and what it is written as with 200 bytes for its steps and 200 for the trace
-pub record Listed : Type 0 where
+pub record ListCase : Type 0 where
   pub bytes : List ℕ
   pub room : ℕ
   pub out : Fill
   pub again : Fill
 
-abbrev lists : List ℕ → ℕ → Fill → Fill → Listed
-lists s o x y = record { bytes = s; room = o; out = x; again = y }
+abbrev listCase : List ℕ → ℕ → Fill → Fill → ListCase
+listCase s o x y = record { bytes = s; room = o; out = x; again = y }
 
-abbrev pub listTable : List Listed
+abbrev pub listTable : List ListCase
 listTable =
     -- P1, P12 and case 16: their own bytes
-    lists (caseBytes 0) 0 (filledIn 0 []) (filledIn 200 (caseBytes 0))
-    ∷ lists (caseBytes 11) 200 (filledIn 200 (steps P12)) (filledIn 200 (caseBytes 11))
-    ∷ lists (caseBytes 15) 200 (filledIn 200 (steps case16)) (filledIn 200 (caseBytes 15))
+    listCase (caseBytes 0) 0 (filledIn 0 []) (filledIn 200 (caseBytes 0))
+    ∷ listCase (caseBytes 11) 200 (filledIn 200 (steps P12)) (filledIn 200 (caseBytes 11))
+    ∷ listCase (caseBytes 15) 200 (filledIn 200 (steps case16)) (filledIn 200 (caseBytes 15))
     -- a first serial, and its wrap
-    ∷ lists (trace 4294967294 (T 7 (r 4 0 ∷ []) ++ (ends 1 ∷ []))) 48 (filledIn 48 (steps (Open 7 ∷ Read 4 0 ∷ Close 1 ∷ [])))
+    ∷ listCase (trace 4294967294 (T 7 (r 4 0 ∷ []) ++ (ends 1 ∷ []))) 48 (filledIn 48 (steps (Open 7 ∷ Read 4 0 ∷ Close 1 ∷ [])))
     (filledIn 200 (trace 4294967294 (T 7 (r 4 0 ∷ []) ++ (ends 1 ∷ []))))
     -- notes are left out, and the serials follow the first
-    ∷ lists (trace 5 (note (7 ∷ []) ∷ opens 1 ∷ note [] ∷ closes 0 ∷ ends 1 ∷ [])) 40 (filledIn 40 (steps (Open 1 ∷ Close 0 ∷ [])))
+    ∷ listCase (trace 5 (note (7 ∷ []) ∷ opens 1 ∷ note [] ∷ closes 0 ∷ ends 1 ∷ [])) 40 (filledIn 40 (steps (Open 1 ∷ Close 0 ∷ [])))
     (filledIn 200 (trace 5 (opens 1 ∷ closes 0 ∷ ends 1 ∷ [])))
     -- 2 to 11, with the trace's own places
-    ∷ lists [] 200 (refusedIn 200 3 0) (refusedIn 200 3 0)
-    ∷ lists (trace 0 (opens 1 ∷ ends 1 ∷ [])) 0 (refusedIn 0 7 10) (refusedIn 200 7 10)
-    ∷ lists (caseBytes 0 ++ (7 ∷ [])) 200 (refusedIn 200 11 10) (refusedIn 200 11 10)
+    ∷ listCase [] 200 (refusedIn 200 3 0) (refusedIn 200 3 0)
+    ∷ listCase (trace 0 (opens 1 ∷ ends 1 ∷ [])) 0 (refusedIn 0 7 10) (refusedIn 200 7 10)
+    ∷ listCase (caseBytes 0 ++ (7 ∷ [])) 200 (refusedIn 200 11 10) (refusedIn 200 11 10)
     -- 16 one byte short, and exactly fitting
-    ∷ lists (caseBytes 15) 191 (refusedIn 191 16 192) (filledIn 200 (caseBytes 15))
-    ∷ lists (caseBytes 15) 192 (filledIn 192 (steps case16)) (filledIn 200 (caseBytes 15))
+    ∷ listCase (caseBytes 15) 191 (refusedIn 191 16 192) (filledIn 200 (caseBytes 15))
+    ∷ listCase (caseBytes 15) 192 (filledIn 192 (steps case16)) (filledIn 200 (caseBytes 15))
     ∷ []
 
-abbrev pub nowListed : Listed → Listed
-nowListed c = lists (c .bytes) (c .room) (stepped (c .bytes) (room (c .room))) (rewritten (c .bytes) (room 200) (room 200))
+abbrev pub nowListed : ListCase → ListCase
+nowListed c = listCase (c .bytes) (c .room) (stepped (c .bytes) (room (c .room))) (rewritten (c .bytes) (room 200) (room 200))
 
 pub as-listed : map nowListed listTable ≡ listTable
 unfolding as-written
 as-listed = refl
 
 -- the same, where the steps' buffer is not lent
-abbrev pub nowWhole : Listed → Listed
-nowWhole c = lists (c .bytes) (c .room) (c .out) (rewrittenWhole (c .bytes) (room 200))
+abbrev pub nowWhole : ListCase → ListCase
+nowWhole c = listCase (c .bytes) (c .room) (c .out) (rewrittenWhole (c .bytes) (room 200))
 
 pub as-whole : map nowWhole listTable ≡ listTable
 unfolding as-written
@@ -208,25 +208,25 @@ as-whole = refl
 
 -- ── a serial and steps in one ──
 
-pub record Given : Type 0 where
+pub record GivenCase : Type 0 where
   pub bytes : List ℕ
   pub out : Fill
 
-abbrev gives : List ℕ → Fill → Given
-gives g x = record { bytes = g; out = x }
+abbrev givenCase : List ℕ → Fill → GivenCase
+givenCase g x = record { bytes = g; out = x }
 
-abbrev pub givenTable : List Given
+abbrev pub givenTable : List GivenCase
 givenTable =
     -- no serial: 3, at the first byte
-    gives [] (refusedIn 200 3 0)
-    ∷ gives (0 ∷ 0 ∷ 0 ∷ []) (refusedIn 200 3 0)
-    ∷ gives (bytes 4 7) (filledIn 200 (trace 7 (ends 0 ∷ [])))
-    ∷ gives (bytes 4 4294967295 ++ steps (Open 7 ∷ Close 0 ∷ [])) (filledIn 200 (trace 4294967295 (opens 7 ∷ closes 0 ∷ ends 1 ∷ [])))
-    ∷ gives (bytes 4 0 ++ (1 ∷ [])) (refusedIn 200 6 1)
+    givenCase [] (refusedIn 200 3 0)
+    ∷ givenCase (0 ∷ 0 ∷ 0 ∷ []) (refusedIn 200 3 0)
+    ∷ givenCase (bytes 4 7) (filledIn 200 (trace 7 (ends 0 ∷ [])))
+    ∷ givenCase (bytes 4 4294967295 ++ steps (Open 7 ∷ Close 0 ∷ [])) (filledIn 200 (trace 4294967295 (opens 7 ∷ closes 0 ∷ ends 1 ∷ [])))
+    ∷ givenCase (bytes 4 0 ++ (1 ∷ [])) (refusedIn 200 6 1)
     ∷ []
 
-abbrev pub nowGiven : Given → Given
-nowGiven c = gives (c .bytes) (writtenGiven (c .bytes) (room 200))
+abbrev pub nowGiven : GivenCase → GivenCase
+nowGiven c = givenCase (c .bytes) (writtenGiven (c .bytes) (room 200))
 
 pub as-given : map nowGiven givenTable ≡ givenTable
 unfolding as-written

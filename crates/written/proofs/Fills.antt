@@ -16,15 +16,15 @@ use Rattle.written.specs.Fills.{FilledWith, Fills}
 -- the outcome x of a call with a buffer that holds o: each refusal of D is its own
 module _ (D : ℕ → ℕ → Type 0) (P : List ℕ → Type 0) (o : List ℕ) (x : Fill) (declined-is : (m p : ℕ) → D m p → x ≡ fill (refusing m p) o) where
   -- a refusal, or something that P says
-  pub data Comes-out : Type 0 where
-    declining : (m p : ℕ) → D m p → Comes-out
-    putting : (l : List ℕ) → P l → x ≡ fill (answering (length l)) (over l o) → Comes-out
+  pub data CameOut : Type 0 where
+    declining : (m p : ℕ) → D m p → CameOut
+    putting : (l : List ℕ) → P l → x ≡ fill (answering (length l)) (over l o) → CameOut
 
-  module _ (out : Comes-out) where
+  module _ (out : CameOut) where
     pub declines-iff : (m p : ℕ) → (x .answer ≡ refusing m p) ↔ D m p
     declines-iff m p = (λ e. by out e, λ d. ap (λ (y : Fill). y .answer) (declined-is m p d))
       where
-        by : Comes-out → x .answer ≡ refusing m p → D m p
+        by : CameOut → x .answer ≡ refusing m p → D m p
         by (declining a b d) e =
             let z : refusing a b ≡ refusing m p = sym (ap (λ (y : Fill). y .answer) (declined-is a b d)) ∙ e in
             rw (← ap (λ (y : Said). y .no) z, ← ap (λ (y : Said). y .place) z) d
@@ -45,11 +45,11 @@ module _ (D : ℕ → ℕ → Type 0) (P : List ℕ → Type 0) (o : List ℕ) (
         buffer : c ≡ x .buffer
         buffer = ap (λ (y : Fill). y .buffer) e
 
-        by-refusal : Comes-out → said r .isRefused ≡ true → c ≡ o
+        by-refusal : CameOut → said r .isRefused ≡ true → c ≡ o
         by-refusal (declining m p d) t = buffer ∙ ap (λ (y : Fill). y .buffer) (declined-is m p d)
         by-refusal (putting l g i) t = absurd (true≢false (sym t ∙ ap (λ (y : Said). y .isRefused) answer ∙ ap (λ (y : Fill). y .answer .isRefused) i))
 
-        by-length : (m : ℕ) → Comes-out → said r ≡ answering m → FilledWith P o c m
+        by-length : (m : ℕ) → CameOut → said r ≡ answering m → FilledWith P o c m
         by-length m (declining a p d) q =
             absurd (true≢false (sym (ap (λ (y : Fill). y .answer .isRefused) (declined-is a p d)) ∙ sym (ap (λ (y : Said). y .isRefused) answer) ∙ ap (λ (y : Said). y .isRefused) q))
         by-length m (putting l g i) q =

@@ -4,14 +4,14 @@ use mathlib.Core.Path.{_≡_, refl, ap, sym, _∙_}
 use mathlib.Core.List.{List, [], append-nil}
 use mathlib.Core.Logic.{⊎-elim, _↔_}
 use native.Mathlib.Omega.{arith}
-use lib.ListN.{length, take, drop}
-use lib.Seq.{take-append-seam}
+use lib.ListN.{length}
 use Rattle.base.specs.Base.{pick, joined}
 use Rattle.base.proofs.Tests.{split}
 use Rattle.rules.specs.Numbers.{over}
 use Rattle.rules.specs.History.{History, txCount, opCount, current, empty}
 use Rattle.rules.specs.Reading.{Stretch, Reading, refused, read, reading}
 use Rattle.demand1.specs.Rows.{serial, ReadInto}
+use Rattle.rules.proofs.Numbers.{over-front}
 use Rattle.demand1.proofs.Readings.{refuses-iff, reads-iff, one-outcome}
 use Rattle.writing.specs.Filling.{refusing, answering, said, content, fill, into}
 use Rattle.writing.specs.Steps.{stepsIn, stepBytes}
@@ -33,7 +33,7 @@ use Rattle.written.proofs.Bytes.{steps-bytes}
 use Rattle.written.proofs.Unused.{known-steps, unused-steps}
 use Rattle.written.proofs.Comes.{steps-over, comes-follow, Ends, at-step, inside, outside, ends}
 use Rattle.written.proofs.Declined.{written-good}
-use Rattle.written.proofs.Fills.{Comes-out, declining, putting, declines-iff, fills, fills-one}
+use Rattle.written.proofs.Fills.{CameOut, declining, putting, declines-iff, fills, fills-one}
 use Rattle.written.proofs.Retold.{own-bytes, slim-read}
 
 -- the bytes of a history's steps
@@ -135,7 +135,7 @@ module _ (s o : List ℕ) where
 
   module _ (b : AllBytes s) where
     abbrev Out : Type 0
-    Out = Comes-out (ListDeclines s (length o)) (StepsOf s) o (stepped s o) declined-is
+    Out = CameOut (ListDeclines s (length o)) (StepsOf s) o (stepped s o) declined-is
 
     out : Out
     out = by (reading s) refl
@@ -166,14 +166,9 @@ written-again s b {h} r o =
     written-good (listing h) (serial s 0) o (listing-good s b r)
     ∙ ap (λ (x : List ℕ). into (content x) o) (ap (λ es. traceOf (serial s 0) es h) (listing-back s b r) ∙ own-bytes s b r)
 
--- what was put at the front
-front : (l x : List ℕ) → take (length l) (over l x) ≡ l
-unfolding over
-front l x = take-append-seam l (drop (length l) x)
-
 -- "a trace without notes, read and written again, gives its own bytes": where both buffers have room
 pub own-again : (s : List ℕ) → AllBytes s → {h : History} → ReadInto s h [] → (x o : List ℕ) → stepsLength h ≤ length x → length s ≤ length o
     → rewritten s x o ≡ fill (answering (length s)) (over s o)
 unfolding rewritten again pick
 own-again s b {h} r x o l m =
-    rw (listed-fits s x r l, front (listing h) x) (written-again s b r o ∙ into-fits s o m)
+    rw (listed-fits s x r l, over-front (listing h) x) (written-again s b r o ∙ into-fits s o m)

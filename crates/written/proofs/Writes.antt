@@ -28,7 +28,7 @@ use Rattle.written.proofs.Bytes.{records-bytes}
 use Rattle.written.proofs.Retold.{own-bytes}
 use Rattle.written.proofs.Declined.{written-fits, declined-is}
 use Rattle.written.proofs.Comes.{Ends, at-step, inside, outside, ends}
-use Rattle.written.proofs.Fills.{Comes-out, declining, putting, declines-iff, fills, fills-one}
+use Rattle.written.proofs.Fills.{CameOut, declining, putting, declines-iff, fills, fills-one}
 
 -- ── what is written is read ──
 
@@ -69,7 +69,7 @@ module _ (s : List ℕ) (b : AllBytes s) (n : ℕ) (low : n < 2 ^ 32) (h : Histo
 
 module _ (s : List ℕ) (b : AllBytes s) (n : ℕ) (low : n < 2 ^ 32) (o : List ℕ) where
   abbrev Out : Type 0
-  Out = Comes-out (WriteDeclines s (length o)) (TraceOf s n) o (written s n o) (declined-is s n o)
+  Out = CameOut (WriteDeclines s (length o)) (TraceOf s n) o (written s n o) (declined-is s n o)
 
   out : Out
   out = by (ends s) refl

@@ -30,7 +30,7 @@ module _ (s : List ℕ) (k : ℕ) (h : History) where
   by-bytes f g = ⊎-elim f g (split (length s) (16 * k + 16))
 
   -- row 6
-  is-other : OtherKind s k → event ≡ Other
+  pub is-other : OtherKind s k → event ≡ Other
   is-other (too-few-bytes l) = rest-step s (16 * k) l
   is-other (below-1 l) = by-bytes (rest-step s (16 * k)) (λ g. other-kind s (16 * k) g (λ a b. omega arith))
   is-other (above-4 l) = by-bytes (rest-step s (16 * k)) (λ g. other-kind s (16 * k) g (λ a b. omega arith))

@@ -10,6 +10,7 @@ pub mod StepKinds
 pub mod StepBytes
 pub mod Checks
 pub mod Comes
+pub mod Fields
 pub mod Fills
 pub mod Declined
 pub mod Bytes

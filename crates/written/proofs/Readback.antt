@@ -71,7 +71,7 @@ module _ (n : ℕ) (low : n < 2 ^ 32) (b : List ℕ) where
 
   -- the record of e comes next
   module _ (es : List Event) (e : Event) (back : List ℕ) (w : Narrow e) (is : b ≡ recordsOf n es ++ (recordOf (serialFrom n (length es)) (itemOf e) ++ back)) where
-    framed : Framed b (length (recordsOf n es))
+    pub framed : Framed b (length (recordsOf n es))
     framed = rw is (event-framed (recordsOf n es) (serialFrom n (length es)) back w)
 
     pub event-here : eventAt b (length (recordsOf n es)) ≡ e
@@ -80,7 +80,7 @@ module _ (n : ℕ) (low : n < 2 ^ 32) (b : List ℕ) where
     pub serial-here : serial b (length (recordsOf n es)) ≡ serialFrom n (length es)
     serial-here = rw is (record-serial (recordsOf n es) (serialFrom n (length es)) (itemOf e) back (serial-below n (length es) low))
 
-    kind-here : itemOf e .kind < 65536 → kind b (length (recordsOf n es)) ≡ itemOf e .kind
+    pub kind-here : itemOf e .kind < 65536 → kind b (length (recordsOf n es)) ≡ itemOf e .kind
     kind-here l = rw is (record-kind (recordsOf n es) (serialFrom n (length es)) (itemOf e) back l)
 
     pub ends-here : behind b (length (recordsOf n es)) ≡ length (recordsOf n (es ++ (e ∷ [])))

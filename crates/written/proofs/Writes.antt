@@ -9,20 +9,22 @@ use lib.Seq.{getD-append-seam}
 use Rattle.base.proofs.Tests.{split}
 use Rattle.base.proofs.Searches.{singles-length, singles-at}
 use Rattle.rules.specs.History.{History, txCount, empty}
+use Rattle.rules.specs.declared.Event.{Event}
 use Rattle.rules.specs.declared.Event.the-variants.{End, Other}
 use Rattle.demand1.specs.Rows.{serial, numberOf}
 use Rattle.writing.specs.Filling.{refusing, said, fill}
 use Rattle.writing.specs.Steps.{stepAt, stepCount, stepsFrom, stepsIn}
-use Rattle.writing.specs.Writing.{Followed, good, follow, traceOf, written}
+use Rattle.writing.specs.Writing.{Followed, good, follow, itemOf, recordsOf, traceOf, written}
 use Rattle.writing.specs.declared.Filled.{Filled}
 use Rattle.writing.proofs.Grown.{Grown, grown-none, counts}
 use Rattle.writing.proofs.Followed.{followed}
 use Rattle.written.specs.Declined.{traceLength, WriteDeclines, bad-step, ends-inside, trace-short}
-use Rattle.written.specs.Writes.{AllBytes, recordAt, TraceOf, Writes}
+use Rattle.written.specs.Writes.{AllBytes, recordAt, IsStepRecord, IsEndRecord, TraceOf, Writes}
 use Rattle.written.proofs.Records.{narrow-end}
 use Rattle.written.proofs.Slim.{slim-steps}
 use Rattle.written.proofs.Readback.{read-back}
-use Rattle.written.proofs.Serials.{EachNarrow, record-serials, record-events, records-end, grown-narrow, narrow-last}
+use Rattle.written.proofs.Serials.{EachNarrow, record-serials, record-events, record-kinds, records-framed, records-end, grown-narrow, narrow-last}
+use Rattle.written.proofs.Fields.{step-fields, end-fields}
 use Rattle.written.proofs.Says.{says, says-one}
 use Rattle.written.proofs.Bytes.{records-bytes}
 use Rattle.written.proofs.Retold.{own-bytes}
@@ -47,6 +49,28 @@ module _ (s : List ℕ) (b : AllBytes s) (n : ℕ) (low : n < 2 ^ 32) (h : Histo
   all : EachNarrow (stepsIn s ++ (End (txCount h) ∷ []))
   all = narrow-last (stepsIn s) (End (txCount h)) (grown-narrow grown (slim-steps s b)) (narrow-end {n = txCount h} (omega (arith, counts grown .few-txs)))
 
+  more : length (stepsIn s ++ (End (txCount h) ∷ [])) ≡ length (stepsIn s) + 1
+  more = length-append (stepsIn s) (End (txCount h) ∷ [])
+
+  -- the record of a step, and the end
+  step-record : (k : ℕ) → k < stepCount s → IsStepRecord (traceOf n (stepsIn s) h) (recordAt (traceOf n (stepsIn s) h) k) s k
+  step-record k l =
+      let x : List Event = stepsIn s ++ (End (txCount h) ∷ []) in
+      let m : k < length x = omega (arith, more, count) in
+      let g : getD x k Other ≡ stepAt s (16 * k) = List·getD-append (stepsIn s) (End (txCount h) ∷ []) Other k (omega (arith, count)) ∙ step-is k l in
+      step-fields (recordsOf n x) (recordAt (recordsOf n x) k) (records-framed n low x all k m) s k h (rw g at (all k m)) (record-kinds n low x all k m ∙ ap (λ (e : Event). itemOf e .kind) g)
+      (record-events n low x all k m ∙ g)
+
+  ended : IsEndRecord (traceOf n (stepsIn s) h) (recordAt (traceOf n (stepsIn s) h) (length (stepsIn s))) (txCount h)
+  unfolding itemOf
+  ended =
+      let x : List Event = stepsIn s ++ (End (txCount h) ∷ []) in
+      let k : ℕ = length (stepsIn s) in
+      let m : k < length x = omega (arith, more) in
+      let g : getD x k Other ≡ End (txCount h) = getD-append-seam (stepsIn s) (End (txCount h)) [] Other in
+      end-fields (recordsOf n x) (recordAt (recordsOf n x) k) (records-framed n low x all k m) (txCount h) (record-kinds n low x all k m ∙ ap (λ (e : Event). itemOf e .kind) g)
+      (record-events n low x all k m ∙ g)
+
   pub trace-of : TraceOf s n (traceOf n (stepsIn s) h)
   trace-of =
       record {
@@ -55,15 +79,10 @@ module _ (s : List ℕ) (b : AllBytes s) (n : ℕ) (low : n < 2 ^ 32) (h : Histo
         reads = read-back n low (stepsIn s) h f (slim-steps s b);
         says = says grown (followed empty 1 (stepsIn s) grown-none f .1);
         serials = λ k l. record-serials n low (stepsIn s ++ (End (txCount h) ∷ [])) all k (omega (arith, more, count));
-        step-records = λ k l. record-events n low (stepsIn s ++ (End (txCount h) ∷ [])) all k (omega (arith, more, count))
-            ∙ List·getD-append (stepsIn s) (End (txCount h) ∷ []) Other k (omega (arith, count)) ∙ step-is k l;
-        end-record = rw (← count)
-            (record-events n low (stepsIn s ++ (End (txCount h) ∷ [])) all (length (stepsIn s)) (omega (arith, more)) ∙ getD-append-seam (stepsIn s) (End (txCount h)) [] Other);
+        step-records = step-record;
+        end-record = rw (← count) ended;
         no-more = rw (← count, ← more) (records-end n low (stepsIn s ++ (End (txCount h) ∷ [])) all);
       }
-    where
-      more : length (stepsIn s ++ (End (txCount h) ∷ [])) ≡ length (stepsIn s) + 1
-      more = length-append (stepsIn s) (End (txCount h) ∷ [])
 
 -- ── the promise ──
 

@@ -12,7 +12,7 @@ use Rattle.written.specs.Declined.{stepsLength}
 use Rattle.hosts.specs.declared.Answers.{Answers}
 
 -- the answers of both calls, and what the two buffers then hold
-pub record Coincides (r : Answers) (B B' : List ℕ) : Type 0 where
+pub record SameAnswers (r : Answers) (B B' : List ℕ) : Type 0 where
   pub answer : r .first ≡ r .second
   pub buffer : B ≡ B'
 

@@ -1,14 +1,14 @@
 // Whoever calls the writer has what document 02 promises. These functions know nothing of `maker::write_trace`, `lister::list_steps` and
 // `rewriting::rewrite_trace` but their contracts: were one of those weaker, they would not be proved.
 ghost use mathlib.Core.Path.{_≡_};
-ghost use Rattle.written.specs.Writes.{Writes};
-ghost use Rattle.written.specs.Lists.{Lists};
-ghost use Rattle.hosts.specs.Hosts.{Coincides, OwnBytes};
+ghost use Rattle.written.specs.Writes.{WritesTrace};
+ghost use Rattle.written.specs.Lists.{ListsSteps};
+ghost use Rattle.hosts.specs.Hosts.{SameAnswers, OwnBytes};
 use writing::Filled;
 
 // What is written reads back as the steps say; a refusal is given only on its row.
 pub fn promised_trace(steps: &[u8], serial: u32, out: &mut [u8]) -> Filled
-    ensures { λ r. ⌜ Writes (now (steps .entry)) serial (now (out .entry)) r (now (out .exit)) ⌝ }
+    ensures { λ r. ⌜ WritesTrace (now (steps .entry)) serial (now (out .entry)) r (now (out .exit)) ⌝ }
 {
     maker::write_trace(steps, serial, out)
 }
@@ -21,7 +21,7 @@ pub struct Answers {
 
 // Two calls on the same steps, with one starting serial and buffers of the same content, coincide.
 pub fn written_twice(steps: &[u8], serial: u32, out: &mut [u8], out2: &mut [u8]) -> Answers
-    ensures { λ r. ⌜ ((now (out .entry) ≡ now (out2 .entry)) → Coincides r (now (out .exit)) (now (out2 .exit))) ⌝ }
+    ensures { λ r. ⌜ ((now (out .entry) ≡ now (out2 .entry)) → SameAnswers r (now (out .exit)) (now (out2 .exit))) ⌝ }
 {
     let first = maker::write_trace(steps, serial, out);
     let second = maker::write_trace(steps, serial, out2);
@@ -33,7 +33,7 @@ pub fn written_twice(steps: &[u8], serial: u32, out: &mut [u8], out2: &mut [u8])
 
 // The steps of a trace are followed into the trace's history.
 pub fn promised_steps(trace: &[u8], out: &mut [u8]) -> Filled
-    ensures { λ r. ⌜ Lists (now (trace .entry)) (now (out .entry)) r (now (out .exit)) ⌝ }
+    ensures { λ r. ⌜ ListsSteps (now (trace .entry)) (now (out .entry)) r (now (out .exit)) ⌝ }
 {
     lister::list_steps(trace, out)
 }

@@ -17,7 +17,7 @@ use Rattle.trace.specs.declared.Out.the-variants.{Good, Bad}
 use Rattle.trace.specs.Trace.{TraceRead}
 use Rattle.trace.proofs.Answers.{read-bad, read-good}
 use Rattle.writing.specs.declared.Filled.the-variants.{Refused}
-use Rattle.writing.specs.Filling.{Said, said, content, fill, into}
+use Rattle.writing.specs.Filling.{Said, said, content, fillOf, into}
 use Rattle.writing.specs.Listing.{stepsRead, stepped}
 use Rattle.writing.proofs.Filling.{into-refused}
 use Rattle.writing.proofs.Listed.{listing-length}
@@ -41,7 +41,7 @@ listable s {h} {notes} e =
     }
 
 module _ {s g g₀ : List ℕ} {r : Out} {k : ℕ} (x : TraceRead r g g₀ s k) where
-  pub call-refused : (n p : ℕ) → r ≡ Bad n p → (out : List ℕ) → fill (said (Refused n p)) out ≡ stepped s out
+  pub call-refused : (n p : ℕ) → r ≡ Bad n p → (out : List ℕ) → fillOf (said (Refused n p)) out ≡ stepped s out
   unfolding stepped stepsRead
   call-refused n p q out = rw (read-bad x q) (into-refused n p out)
 
@@ -49,6 +49,6 @@ module _ {s g g₀ : List ℕ} {r : Out} {k : ℕ} (x : TraceRead r g g₀ s k) 
     pub call-listable : Listable (historyOf g)
     call-listable = listable s (read-good x q .is)
 
-    pub call-read : {v : Said} (out : List ℕ) {out2 : List ℕ} → fill v out2 ≡ into (content (allBytes (historyOf g))) out → fill v out2 ≡ stepped s out
+    pub call-read : {v : Said} (out : List ℕ) {out2 : List ℕ} → fillOf v out2 ≡ into (content (allBytes (historyOf g))) out → fillOf v out2 ≡ stepped s out
     unfolding stepped stepsRead
     call-read out d = rw (read-good x q .is) d

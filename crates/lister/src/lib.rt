@@ -7,7 +7,7 @@ ghost use mathlib.Core.Bool.{false};
 ghost use Rattle.base.proofs.Fill.{Appended, Room};
 ghost use Rattle.rules.specs.History.{op, opCount, isOpen};
 ghost use Rattle.table.specs.Table.{historyOf, Held, HasTx, HasOp};
-ghost use Rattle.writing.specs.Filling.{said, fill, content, into};
+ghost use Rattle.writing.specs.Filling.{said, fillOf, content, into};
 ghost use Rattle.writing.specs.Steps.{stepBytes};
 ghost use Rattle.writing.specs.Writing.{isNoStep};
 ghost use Rattle.writing.specs.Listing.{opStep, stepped};
@@ -90,7 +90,7 @@ fn put_txs(h: &[u64], out: &mut [u8], at: usize) -> usize
 // A trace that was read.
 fn list_history(h: &[u64], out: &mut [u8]) -> Filled
     requires { ⌜ Held (now h) × Listable (historyOf (now h)) ⌝ }
-    ensures { λ r. ⌜ fill (said r) (now (out .exit)) ≡ into (content (allBytes (historyOf (now (h .entry))))) (now (out .entry)) ⌝ }
+    ensures { λ r. ⌜ fillOf (said r) (now (out .exit)) ≡ into (content (allBytes (historyOf (now (h .entry))))) (now (out .entry)) ⌝ }
 {
     let n = 16 * (2 * table::txs(h) + table::ops(h));
     if out.len() < n {
@@ -103,7 +103,7 @@ fn list_history(h: &[u64], out: &mut [u8]) -> Filled
 // Puts the steps of a trace into a lent buffer: "2 to 11, then 16". What the answer means, and what the buffer then holds, is what the definition gives
 // these bytes and this buffer.
 pub fn list_steps(trace: &[u8], out: &mut [u8]) -> Filled
-    ensures { λ r. ⌜ fill (said r) (now (out .exit)) ≡ stepped (now (trace .entry)) (now (out .entry)) ⌝ }
+    ensures { λ r. ⌜ fillOf (said r) (now (out .exit)) ≡ stepped (now (trace .entry)) (now (out .entry)) ⌝ }
 {
     let mut h = [0u64; WORDS];
     let read = trace::read_trace(trace, 0, &mut h);

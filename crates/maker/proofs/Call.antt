@@ -6,7 +6,7 @@ use lib.ListN.{length}
 use Rattle.base.proofs.Fill.{Appended}
 use Rattle.rules.specs.History.{History, txCount, opCount, empty}
 use Rattle.writing.specs.declared.Filled.the-variants.{Refused, Length}
-use Rattle.writing.specs.Filling.{said, fill}
+use Rattle.writing.specs.Filling.{said, fillOf}
 use Rattle.writing.specs.Steps.{stepsIn}
 use Rattle.writing.specs.Writing.{bad, good, follow, traceOf, wrote, written}
 use Rattle.writing.proofs.Filling.{into-refused, too-short, filled}
@@ -26,7 +26,7 @@ module _ {r : Course} {g s : List ℕ} (x : FollowedInto r g s) where
   followed-good q = record { is = x .is ∙ rw q; held = x .held }
 
 module _ (s : List ℕ) (n : ℕ) (out : List ℕ) where
-  pub written-bad : {m p : ℕ} → follow empty 1 (stepsIn s) ≡ bad m p → fill (said (Refused m p)) out ≡ written s n out
+  pub written-bad : {m p : ℕ} → follow empty 1 (stepsIn s) ≡ bad m p → fillOf (said (Refused m p)) out ≡ written s n out
   unfolding written wrote
   written-bad {m} {p} e = rw e (into-refused m p out)
 
@@ -35,7 +35,7 @@ module _ (s : List ℕ) (n : ℕ) (out : List ℕ) where
     needed-is : needed ≡ length (traceOf n (stepsIn s) g)
     needed-is = q ∙ sym (trace-length n (stepsIn s) 1 g e)
 
-    pub written-short : length out < needed → fill (said (Refused 16 needed)) out ≡ written s n out
+    pub written-short : length out < needed → fillOf (said (Refused 16 needed)) out ≡ written s n out
     unfolding written wrote
     written-short l = rw e (too-short (traceOf n (stepsIn s) g) needed-is l)
 
@@ -43,6 +43,6 @@ module _ (s : List ℕ) (n : ℕ) (out : List ℕ) where
     written-fits l = rw needed-is at l
 
   pub written-put : {g : History} → follow empty 1 (stepsIn s) ≡ good g → {b : List ℕ} {r : ℕ} → Appended out 0 b r (traceOf n (stepsIn s) g)
-      → fill (said (Length r)) b ≡ written s n out
+      → fillOf (said (Length r)) b ≡ written s n out
   unfolding written wrote
   written-put {g} e x = rw e (filled (traceOf n (stepsIn s) g) x)

@@ -5,7 +5,7 @@ ghost use lib.ListN.{length};
 ghost use Rattle.base.proofs.Fill.{Appended};
 ghost use Rattle.rules.specs.History.{txCount, opCount};
 ghost use Rattle.table.specs.Table.{tableWords, historyOf, Held};
-ghost use Rattle.writing.specs.Filling.{fill, said};
+ghost use Rattle.writing.specs.Filling.{fillOf, said};
 ghost use Rattle.writing.specs.Steps.{stepCount, stepOf, stepAt, stepsIn};
 ghost use Rattle.writing.specs.Writing.{isNoStep, traceOf, written};
 ghost use Rattle.maker.specs.Maker.{numberIn, Entered, Ended, FollowedInto, Makes};
@@ -157,7 +157,7 @@ fn put_trace(s: &[u8], serial: u32, h: &[u64], out: &mut [u8]) -> usize
 // "16, output buffer too short, place the bytes needed, after all others"
 fn put_whole(s: &[u8], serial: u32, h: &[u64], out: &mut [u8]) -> Filled
     requires { ⌜ Makes (now h) (now s) ⌝ }
-    ensures { λ r. ⌜ fill (said r) (now (out .exit)) ≡ written (now (s .entry)) serial (now (out .entry)) ⌝ }
+    ensures { λ r. ⌜ fillOf (said r) (now (out .exit)) ≡ written (now (s .entry)) serial (now (out .entry)) ⌝ }
 {
     let needed = trace_length(h);
     if out.len() < needed {
@@ -174,7 +174,7 @@ const WORDS: usize = 2306;
 // Fills the buffer with the trace of these steps, whose first serial is given. "Nothing is written on refusal"; what the answer means, and what the
 // buffer then holds, is what the definition gives these bytes, this serial and this buffer.
 pub fn write_trace(steps: &[u8], serial: u32, out: &mut [u8]) -> Filled
-    ensures { λ r. ⌜ fill (said r) (now (out .exit)) ≡ written (now (steps .entry)) serial (now (out .entry)) ⌝ }
+    ensures { λ r. ⌜ fillOf (said r) (now (out .exit)) ≡ written (now (steps .entry)) serial (now (out .entry)) ⌝ }
 {
     let mut h = [0u64; WORDS];
     let course = follow_steps(steps, &mut h);

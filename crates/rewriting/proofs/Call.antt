@@ -11,7 +11,7 @@ use Rattle.rules.specs.History.{History}
 use Rattle.demand1.proofs.Readings.{has-record, reads-iff}
 use Rattle.writing.specs.declared.Filled.{Filled}
 use Rattle.writing.specs.declared.Filled.the-variants.{Refused, Length}
-use Rattle.writing.specs.Filling.{refusing, answering, said, Fill, fill, into}
+use Rattle.writing.specs.Filling.{refusing, answering, said, Fill, fillOf, into}
 use Rattle.writing.specs.Writing.{written}
 use Rattle.writing.specs.Listing.{stepsRead, stepped}
 use Rattle.writing.specs.Rewriting.{again, rewritten}
@@ -21,14 +21,14 @@ use Rattle.rewriting.specs.Rewriting.{Rewrote}
 -- ── what an answer with a length says ──
 
 -- it is no refusal
-no-refusal : {n m p : ℕ} {b o : List ℕ} → fill (answering n) b ≡ fill (refusing m p) o → ⊥
+no-refusal : {n m p : ℕ} {b o : List ℕ} → fillOf (answering n) b ≡ fillOf (refusing m p) o → ⊥
 no-refusal e = false≢true (ap (λ (x : Fill). x .answer .isRefused) e)
 
 -- the trace was read
 pub data IsRead (x : Reading) : Type 0 where
   is-read : (h : History) (notes : List Stretch) → x ≡ read h notes → IsRead x
 
-was-read : (x : Reading) (o : List ℕ) {n : ℕ} {b : List ℕ} → fill (answering n) b ≡ into (stepsRead x) o → IsRead x
+was-read : (x : Reading) (o : List ℕ) {n : ℕ} {b : List ℕ} → fillOf (answering n) b ≡ into (stepsRead x) o → IsRead x
 unfolding stepsRead into
 was-read (refused m p) o e = absurd (no-refusal e)
 was-read (read h notes) o e = is-read h notes refl
@@ -44,7 +44,7 @@ first-serial f s out e d = rw (← e) d
 
 -- ── the answer r to turning the trace s into steps, which made x₂ of the buffer x ──
 
-module _ (r : Filled) (s x x₂ : List ℕ) (e : fill (said r) x₂ ≡ stepped s x) where
+module _ (r : Filled) (s x x₂ : List ℕ) (e : fillOf (said r) x₂ ≡ stepped s x) where
   steps-are : x₂ ≡ stepped s x .buffer
   steps-are = ap (λ (y : Fill). y .buffer) e
 
@@ -53,7 +53,7 @@ module _ (r : Filled) (s x x₂ : List ℕ) (e : fill (said r) x₂ ≡ stepped 
   handed-on m p q out = record { is = rw (← e, q); steps = steps-are }
 
   module _ {n : ℕ} (q : r ≡ Length n) where
-    listed : fill (answering n) x₂ ≡ stepped s x
+    listed : fillOf (answering n) x₂ ≡ stepped s x
     unfolding said
     listed = rw q at e
 
@@ -64,6 +64,6 @@ module _ (r : Filled) (s x x₂ : List ℕ) (e : fill (said r) x₂ ≡ stepped 
     pub front-there : n ≤ length x₂
     front-there = stepped-within (answering n) x₂ s x listed
 
-    pub written-again : {a : Filled} {out out₂ : List ℕ} → fill (said a) out₂ ≡ written (take n x₂) (serialAt s 0) out → Rewrote a s x x₂ out out₂
+    pub written-again : {a : Filled} {out out₂ : List ℕ} → fillOf (said a) out₂ ≡ written (take n x₂) (serialAt s 0) out → Rewrote a s x x₂ out out₂
     unfolding rewritten again pick
     written-again d = record { is = rw (← listed) d; steps = steps-are }

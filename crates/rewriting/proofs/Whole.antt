@@ -15,7 +15,7 @@ use Rattle.rules.specs.Reading.{Reading, Stretch, refused, read, reading}
 use Rattle.demand1.proofs.Lawful.{lawful-history}
 use Rattle.rules.proofs.Numbers.{over-front}
 use Rattle.demand1.proofs.Readings.{reads-iff}
-use Rattle.writing.specs.Filling.{refusing, answering, said, fill, into}
+use Rattle.writing.specs.Filling.{refusing, answering, said, fillOf, into}
 use Rattle.writing.specs.Steps.{stepBytes}
 use Rattle.writing.specs.Writing.{written, writtenGiven}
 use Rattle.writing.specs.Listing.{historySteps, stepsRead, stepped}
@@ -29,13 +29,13 @@ use Rattle.rewriting.specs.Rewriting.{Rewrote, Gives}
 
 -- 16 bytes a step, of at most 2 * 127 + 1,024
 listed-read : (s x : List ℕ) (h : History) (notes : List Stretch) → reading s ≡ read h notes → 20448 ≤ length x
-    → stepped s x ≡ fill (answering (length (joined stepBytes (historySteps h)))) (over (joined stepBytes (historySteps h)) x)
+    → stepped s x ≡ fillOf (answering (length (joined stepBytes (historySteps h)))) (over (joined stepBytes (historySteps h)) x)
 unfolding stepped stepsRead
 listed-read s x h notes e l =
     let few = lawful-history (reads-iff s h notes .0 e) in
     rw e (into-fits (joined stepBytes (historySteps h)) x (omega (arith, listing-length s h notes e, few .few-txs, few .few-ops)))
 
-listed-refused : (s x : List ℕ) (n p : ℕ) → reading s ≡ refused n p → stepped s x ≡ fill (refusing n p) x
+listed-refused : (s x : List ℕ) (n p : ℕ) → reading s ≡ refused n p → stepped s x ≡ fillOf (refusing n p) x
 unfolding stepped stepsRead into
 listed-refused s x n p e = rw e
 
@@ -55,18 +55,18 @@ gives-whole {r} s x x₂ out out₂ l w = record { is = w .is ∙ whole s x out 
 pub gives-none : (g out : List ℕ) → length g < 4 → Gives (Refused 3 0) out (writtenGiven g out)
 unfolding said writtenGiven
 gives-none g out l =
-    record { is = sym (pick-on (ltb (length g) 4) (fill (refusing 3 0) out) (written (drop 4 g) (le 4 g 0) out) (lt-ltb (length g) 4 l)); within = omega arith }
+    record { is = sym (pick-on (ltb (length g) 4) (fillOf (refusing 3 0) out) (written (drop 4 g) (le 4 g 0) out) (lt-ltb (length g) 4 l)); within = omega arith }
 
 -- the part of the input past the serial
 pub past-serial : (g : List ℕ) → take (length g - 4) (drop 4 g) ≡ drop 4 g
 past-serial g = take-all (length g - 4) (drop 4 g) (omega (arith, length-drop 4 g))
 
-pub gives-given : {r : Filled} (g out out₂ : List ℕ) {k : ℕ} → 4 ≤ length g → k ≡ le 4 g 0 → fill (said r) out₂ ≡ written (take (length g - 4) (drop 4 g)) k out
+pub gives-given : {r : Filled} (g out out₂ : List ℕ) {k : ℕ} → 4 ≤ length g → k ≡ le 4 g 0 → fillOf (said r) out₂ ≡ written (take (length g - 4) (drop 4 g)) k out
     → Gives r out₂ (writtenGiven g out)
 unfolding writtenGiven
 gives-given {r} g out out₂ {k} l e d =
-    let i : fill (said r) out₂ ≡ written (drop 4 g) (le 4 g 0) out = rw (← e, ← past-serial g) d in
+    let i : fillOf (said r) out₂ ≡ written (drop 4 g) (le 4 g 0) out = rw (← e, ← past-serial g) d in
     record {
-      is = i ∙ sym (pick-off (ltb (length g) 4) (fill (refusing 3 0) out) (written (drop 4 g) (le 4 g 0) out) (le-ltb (length g) 4 l));
+      is = i ∙ sym (pick-off (ltb (length g) 4) (fillOf (refusing 3 0) out) (written (drop 4 g) (le 4 g 0) out) (le-ltb (length g) 4 l));
       within = written-within (said r) out₂ (drop 4 g) (le 4 g 0) out i;
     }

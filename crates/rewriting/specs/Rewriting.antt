@@ -4,16 +4,16 @@ use mathlib.Core.Path.{_≡_}
 use mathlib.Core.List.{List}
 use lib.ListN.{length}
 use Rattle.writing.specs.declared.Filled.{Filled}
-use Rattle.writing.specs.Filling.{said, Fill, fill}
+use Rattle.writing.specs.Filling.{said, Fill, fillOf}
 use Rattle.writing.specs.Listing.{stepped}
 use Rattle.writing.specs.Rewriting.{rewritten}
 
 -- the answer r to the trace s, which made x₂ of the buffer x for the steps and out₂ of the buffer `out` for the trace
 pub record Rewrote (r : Filled) (s x x₂ out out₂ : List ℕ) : Type 0 where
-  pub is : fill (said r) out₂ ≡ rewritten s x out
+  pub is : fillOf (said r) out₂ ≡ rewritten s x out
   pub steps : x₂ ≡ stepped s x .buffer
 
 -- the answer r, which made out₂ of the buffer, is x; the length that it says lies within the buffer
 pub record Gives (r : Filled) (out₂ : List ℕ) (x : Fill) : Type 0 where
-  pub is : fill (said r) out₂ ≡ x
+  pub is : fillOf (said r) out₂ ≡ x
   pub within : said r .length ≤ length out₂

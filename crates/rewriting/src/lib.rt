@@ -3,7 +3,7 @@ ghost use mathlib.Core.Path.{_≡_};
 ghost use Prim.Native.Nat.{_≤_};
 ghost use lib.ListN.{length, take};
 ghost use Rattle.rules.specs.Records.{serialAt};
-ghost use Rattle.writing.specs.Filling.{fill, said};
+ghost use Rattle.writing.specs.Filling.{fillOf, said};
 ghost use Rattle.writing.specs.Writing.{written, writtenGiven};
 ghost use Rattle.writing.specs.Rewriting.{rewrittenWhole};
 ghost use Rattle.rewriting.specs.Rewriting.{Rewrote, Gives};
@@ -12,7 +12,7 @@ use writing::Filled;
 // The first n bytes of these steps, with the trace's first serial.
 fn write_front(trace: &[u8], steps: &[u8], n: usize, out: &mut [u8]) -> Filled
     requires { ⌜ (8 ≤ length (now trace)) × (n ≤ length (now steps)) ⌝ }
-    ensures { λ r. ⌜ fill (said r) (now (out .exit)) ≡ written (take n (now (steps .entry))) (serialAt (now (trace .entry)) 0) (now (out .entry)) ⌝ }
+    ensures { λ r. ⌜ fillOf (said r) (now (out .exit)) ≡ written (take n (now (steps .entry))) (serialAt (now (trace .entry)) 0) (now (out .entry)) ⌝ }
 {
     let serial = frame::u32_at(trace, 4);
     maker::write_trace(&steps[..n], serial, out)

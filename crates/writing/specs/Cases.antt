@@ -13,7 +13,7 @@ use Rattle.rules.specs.Cases.{Case, table}
 use Rattle.rules.specs.Edges.{closedState, openState, as-they-should}
 use Rattle.rules.specs.declared.Event.{Event}
 use Rattle.rules.specs.declared.Event.the-variants.{Open, Read, Write, Close}
-use Rattle.writing.specs.Filling.{Fill, fill, refusing, answering, into}
+use Rattle.writing.specs.Filling.{Fill, fillOf, refusing, answering, into}
 use Rattle.writing.specs.Steps.{stepOf, stepAt, stepsFrom, fieldBytes, stepBytes}
 use Rattle.writing.specs.Writing.{isNoStep, writeRows, writeNo, endNo, follow, itemOf, recordsOf, wrote, written, writtenGiven}
 use Rattle.writing.specs.Listing.{opStep, opStepOf, closeStep, txSteps, historySteps, stepsRead, stepped}
@@ -43,10 +43,10 @@ case16 =
 
 -- refused, with a buffer of n bytes; filled with l
 abbrev refusedIn : ℕ → ℕ → ℕ → Fill
-refusedIn n m at = fill (refusing m at) (room n)
+refusedIn n m at = fillOf (refusing m at) (room n)
 
 abbrev filledIn : ℕ → List ℕ → Fill
-filledIn n l = fill (answering (length l)) (l ++ room (n - length l))
+filledIn n l = fillOf (answering (length l)) (l ++ room (n - length l))
 
 -- ── writing ──
 

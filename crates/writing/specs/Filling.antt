@@ -37,11 +37,11 @@ pub record Fill : Type 0 where
   pub answer : Said
   pub buffer : List ℕ
 
-abbrev pub fill : Said → List ℕ → Fill
-fill a b = record { answer = a; buffer = b }
+abbrev pub fillOf : Said → List ℕ → Fill
+fillOf a b = record { answer = a; buffer = b }
 
 -- "Refusals: 16, output buffer too short, place the bytes needed, after all others." A refusal changes no byte, and bytes behind what is written do not change
 unfoldable pub into : Work → List ℕ → Fill
-into (refusal n p) out = fill (refusing n p) out
+into (refusal n p) out = fillOf (refusing n p) out
 into (content l) out =
-    pick (ltb (length out) (length l)) (fill (refusing 16 (length l)) out) (fill (answering (length l)) (over l out))
+    pick (ltb (length out) (length l)) (fillOf (refusing 16 (length l)) out) (fillOf (answering (length l)) (over l out))

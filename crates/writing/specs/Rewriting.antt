@@ -5,14 +5,14 @@ use lib.ListN.{take}
 use Rattle.base.specs.Base.{pick, joined}
 use Rattle.rules.specs.Records.{serialAt}
 use Rattle.rules.specs.Reading.{Reading, refused, read, reading}
-use Rattle.writing.specs.Filling.{Fill, fill, refusing}
+use Rattle.writing.specs.Filling.{Fill, fillOf, refusing}
 use Rattle.writing.specs.Steps.{stepBytes}
 use Rattle.writing.specs.Writing.{written}
 use Rattle.writing.specs.Listing.{historySteps, stepped}
 
 -- what came of the steps of the trace s is written again with the trace's first serial, or its refusal handed on
 unfoldable pub again : List ℕ → Fill → List ℕ → Fill
-again s x out = pick (x .answer .isRefused) (fill (x .answer) out) (written (take (x .answer .length) (x .buffer)) (serialAt s 0) out)
+again s x out = pick (x .answer .isRefused) (fillOf (x .answer) out) (written (take (x .answer .length) (x .buffer)) (serialAt s 0) out)
 
 -- the trace s, a lent buffer for its steps that holds x, and one for the trace that holds `out`
 unfoldable pub rewritten : List ℕ → List ℕ → List ℕ → Fill
@@ -20,7 +20,7 @@ rewritten s x out = again s (stepped s x) out
 
 -- .. where the steps have room
 unfoldable pub rewrittenRead : List ℕ → Reading → List ℕ → Fill
-rewrittenRead s (refused n p) out = fill (refusing n p) out
+rewrittenRead s (refused n p) out = fillOf (refusing n p) out
 rewrittenRead s (read h notes) out = written (joined stepBytes (historySteps h)) (serialAt s 0) out
 
 unfoldable pub rewrittenWhole : List ℕ → List ℕ → Fill

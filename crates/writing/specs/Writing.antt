@@ -11,7 +11,7 @@ use Rattle.rules.specs.Reading.{stepRows, entered}
 use Rattle.rules.specs.Traces.{Item, item, opens, r, w, closes, ends, trace}
 use Rattle.rules.specs.declared.Event.{Event}
 use Rattle.rules.specs.declared.Event.the-variants.{Open, Read, Write, Close, End, Note, Other}
-use Rattle.writing.specs.Filling.{Work, refusal, content, Fill, fill, refusing, into}
+use Rattle.writing.specs.Filling.{Work, refusal, content, Fill, fillOf, refusing, into}
 use Rattle.writing.specs.Steps.{stepsIn}
 
 -- ── the order of checks ──
@@ -79,4 +79,4 @@ written s n out = into (wrote n (stepsIn s) (follow empty 1 (stepsIn s))) out
 
 -- the starting serial, 4 bytes, and the steps behind it, in one. Where there are fewer bytes than a serial has, too few are left: 3, at the first byte
 unfoldable pub writtenGiven : List ℕ → List ℕ → Fill
-writtenGiven g out = pick (ltb (length g) 4) (fill (refusing 3 0) out) (written (drop 4 g) (le 4 g 0) out)
+writtenGiven g out = pick (ltb (length g) 4) (fillOf (refusing 3 0) out) (written (drop 4 g) (le 4 g 0) out)

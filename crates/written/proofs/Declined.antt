@@ -9,7 +9,7 @@ use Rattle.rules.specs.History.{History, empty}
 use Rattle.demand1.specs.Rows.{numberOf}
 use Rattle.demand1.proofs.Histories.{inside-current, outside-current}
 use Rattle.demand1.proofs.Refusals.{number-positive}
-use Rattle.writing.specs.Filling.{refusing, answering, content, fill, into}
+use Rattle.writing.specs.Filling.{refusing, answering, content, fillOf, into}
 use Rattle.writing.specs.Steps.{stepAt, stepsFrom, stepsIn}
 use Rattle.writing.specs.Writing.{writeNo, bad, good, follow, traceOf, wrote, written}
 use Rattle.writing.proofs.Filling.{into-short, into-fits}
@@ -22,7 +22,7 @@ use Rattle.written.proofs.Comes.{steps-here, steps-over, comes-follow}
 module _ (s : List ℕ) (n : ℕ) (o : List ℕ) where
   -- ── the definition's cases ──
 
-  pub written-bad : {m p : ℕ} → follow empty 1 (stepsIn s) ≡ bad m p → written s n o ≡ fill (refusing m p) o
+  pub written-bad : {m p : ℕ} → follow empty 1 (stepsIn s) ≡ bad m p → written s n o ≡ fillOf (refusing m p) o
   unfolding written wrote into
   written-bad e = rw e
 
@@ -33,18 +33,18 @@ module _ (s : List ℕ) (n : ℕ) (o : List ℕ) where
   long : {h : History} → follow empty 1 (stepsIn s) ≡ good h → length (traceOf n (stepsIn s) h) ≡ traceLength h
   long {h} e = trace-length n (stepsIn s) 1 h e
 
-  pub written-short : {h : History} → follow empty 1 (stepsIn s) ≡ good h → length o < traceLength h → written s n o ≡ fill (refusing 16 (traceLength h)) o
+  pub written-short : {h : History} → follow empty 1 (stepsIn s) ≡ good h → length o < traceLength h → written s n o ≡ fillOf (refusing 16 (traceLength h)) o
   written-short {h} e l =
-      written-good e ∙ into-short (traceOf n (stepsIn s) h) o (omega (arith, long e)) ∙ ap (λ (x : ℕ). fill (refusing 16 x) o) (long e)
+      written-good e ∙ into-short (traceOf n (stepsIn s) h) o (omega (arith, long e)) ∙ ap (λ (x : ℕ). fillOf (refusing 16 x) o) (long e)
 
   pub written-fits : {h : History} → follow empty 1 (stepsIn s) ≡ good h → traceLength h ≤ length o
-      → written s n o ≡ fill (answering (length (traceOf n (stepsIn s) h))) (over (traceOf n (stepsIn s) h) o)
+      → written s n o ≡ fillOf (answering (length (traceOf n (stepsIn s) h))) (over (traceOf n (stepsIn s) h) o)
   written-fits {h} e l = written-good e ∙ into-fits (traceOf n (stepsIn s) h) o (omega (arith, long e))
 
   -- ── the document's ──
 
   -- each refusal is the definition's
-  pub declined-is : (m p : ℕ) → WriteDeclines s (length o) m p → written s n o ≡ fill (refusing m p) o
+  pub declined-is : (m p : ℕ) → WriteDeclines s (length o) m p → written s n o ≡ fillOf (refusing m p) o
   declined-is m p (bad-step {k} {h} {c} x l f) = written-bad (comes-follow s x ∙ ap (follow h (k + 1)) (steps-here s k h l) ∙ refused)
     where
       no : writeNo h (stepAt s (16 * k)) ≡ numberOf c

@@ -6,7 +6,7 @@ use mathlib.Core.List.{List}
 use mathlib.Core.Logic.{_⊎_, inl, inr, ⊎-elim, _↔_}
 use lib.ListN.{length}
 use Rattle.rules.specs.Numbers.{over}
-use Rattle.writing.specs.Filling.{Said, refusing, answering, said, content, Fill, fill}
+use Rattle.writing.specs.Filling.{Said, refusing, answering, said, content, Fill, fillOf}
 use Rattle.writing.specs.declared.Filled.{Filled}
 use Rattle.writing.specs.declared.Filled.the-variants.{Refused, Length}
 use Rattle.written.specs.Fills.{FilledWith, Fills}
@@ -14,11 +14,11 @@ use Rattle.written.specs.Fills.{FilledWith, Fills}
 -- ── the promise is kept ──
 
 -- the outcome x of a call with a buffer that holds o: each refusal of D is its own
-module _ (D : ℕ → ℕ → Type 0) (P : List ℕ → Type 0) (o : List ℕ) (x : Fill) (declined-is : (m p : ℕ) → D m p → x ≡ fill (refusing m p) o) where
+module _ (D : ℕ → ℕ → Type 0) (P : List ℕ → Type 0) (o : List ℕ) (x : Fill) (declined-is : (m p : ℕ) → D m p → x ≡ fillOf (refusing m p) o) where
   -- a refusal, or something that P says
   pub data CameOut : Type 0 where
     declining : (m p : ℕ) → D m p → CameOut
-    putting : (l : List ℕ) → P l → x ≡ fill (answering (length l)) (over l o) → CameOut
+    putting : (l : List ℕ) → P l → x ≡ fillOf (answering (length l)) (over l o) → CameOut
 
   module _ (out : CameOut) where
     pub declines-iff : (m p : ℕ) → (x .answer ≡ refusing m p) ↔ D m p
@@ -31,7 +31,7 @@ module _ (D : ℕ → ℕ → Type 0) (P : List ℕ → Type 0) (o : List ℕ) (
         by (putting l g i) e = absurd (false≢true (sym (ap (λ (y : Fill). y .answer .isRefused) i) ∙ ap (λ (y : Said). y .isRefused) e))
 
     -- any answer and content that the contract admits
-    pub fills : (r : Filled) (c : List ℕ) → fill (said r) c ≡ x → Fills D P o r c
+    pub fills : (r : Filled) (c : List ℕ) → fillOf (said r) c ≡ x → Fills D P o r c
     fills r c e =
         record {
           refused = λ m p. (λ q. declines-iff m p .0 (sym answer ∙ q), λ d. answer ∙ declines-iff m p .1 d);

@@ -13,7 +13,7 @@ use Rattle.rules.specs.Reading.{Stretch, Reading, refused, read, reading}
 use Rattle.demand1.specs.Rows.{serial, ReadInto}
 use Rattle.rules.proofs.Numbers.{over-front}
 use Rattle.demand1.proofs.Readings.{refuses-iff, reads-iff, one-outcome}
-use Rattle.writing.specs.Filling.{refusing, answering, said, content, fill, into}
+use Rattle.writing.specs.Filling.{refusing, answering, said, content, fillOf, into}
 use Rattle.writing.specs.Steps.{stepsIn, stepBytes}
 use Rattle.writing.specs.Writing.{Followed, good, follow, traceOf, written}
 use Rattle.writing.specs.Listing.{historySteps, stepsRead, stepped}
@@ -27,7 +27,7 @@ use Rattle.writing.proofs.Listed.{read-grown, listing-length}
 use Rattle.written.specs.Steps.{Comes, at-start, one-more}
 use Rattle.written.specs.Declined.{stepsLength, ListDeclines, trace-refused, steps-short}
 use Rattle.written.specs.Writes.{AllBytes}
-use Rattle.written.specs.Lists.{StepsOf, Lists}
+use Rattle.written.specs.Lists.{StepsOf, ListsSteps}
 use Rattle.written.proofs.StepBytes.{steps-back}
 use Rattle.written.proofs.Bytes.{steps-bytes}
 use Rattle.written.proofs.Unused.{known-steps, unused-steps}
@@ -109,7 +109,7 @@ steps-one {s} x y a b =
 -- ── the definition's cases ──
 
 module _ (s o : List ℕ) where
-  listed-refused : {n p : ℕ} → reading s ≡ refused n p → stepped s o ≡ fill (refusing n p) o
+  listed-refused : {n p : ℕ} → reading s ≡ refused n p → stepped s o ≡ fillOf (refusing n p) o
   unfolding stepped stepsRead into
   listed-refused e = rw e
 
@@ -117,19 +117,19 @@ module _ (s o : List ℕ) where
   unfolding stepped stepsRead
   listed-read e = rw e
 
-  listed-short : {h : History} {notes : List Stretch} → ReadInto s h notes → length o < stepsLength h → stepped s o ≡ fill (refusing 16 (stepsLength h)) o
+  listed-short : {h : History} {notes : List Stretch} → ReadInto s h notes → length o < stepsLength h → stepped s o ≡ fillOf (refusing 16 (stepsLength h)) o
   listed-short {h} {notes} r l =
       let e = reads-iff s h notes .1 r in
       let n = listing-length s h notes e in
-      listed-read e ∙ into-short (listing h) o (omega arith) ∙ ap (λ (x : ℕ). fill (refusing 16 x) o) n
+      listed-read e ∙ into-short (listing h) o (omega arith) ∙ ap (λ (x : ℕ). fillOf (refusing 16 x) o) n
 
-  listed-fits : {h : History} {notes : List Stretch} → ReadInto s h notes → stepsLength h ≤ length o → stepped s o ≡ fill (answering (length (listing h))) (over (listing h) o)
+  listed-fits : {h : History} {notes : List Stretch} → ReadInto s h notes → stepsLength h ≤ length o → stepped s o ≡ fillOf (answering (length (listing h))) (over (listing h) o)
   listed-fits {h} {notes} r l =
       let e = reads-iff s h notes .1 r in
       let n = listing-length s h notes e in
       listed-read e ∙ into-fits (listing h) o (omega arith)
 
-  declined-is : (m p : ℕ) → ListDeclines s (length o) m p → stepped s o ≡ fill (refusing m p) o
+  declined-is : (m p : ℕ) → ListDeclines s (length o) m p → stepped s o ≡ fillOf (refusing m p) o
   declined-is m p (trace-refused {n} {at} x) = listed-refused (refuses-iff s n at .1 x)
   declined-is m p (steps-short r l) = listed-short r l
 
@@ -151,11 +151,11 @@ module _ (s o : List ℕ) where
     list-declines-iff = declines-iff (ListDeclines s (length o)) (StepsOf s) o (stepped s o) declined-is out
 
     -- any answer and content that the contract admits
-    pub lists : (r : Filled) (c : List ℕ) → fill (said r) c ≡ stepped s o → Lists s o r c
+    pub lists : (r : Filled) (c : List ℕ) → fillOf (said r) c ≡ stepped s o → ListsSteps s o r c
     lists = fills (ListDeclines s (length o)) (StepsOf s) o (stepped s o) declined-is out
 
 -- any two outcomes that the promise admits coincide
-pub lists-one : {s o : List ℕ} {r q : Filled} {c d : List ℕ} → Lists s o r c → Lists s o q d → (said r ≡ said q) × (c ≡ d)
+pub lists-one : {s o : List ℕ} {r q : Filled} {c d : List ℕ} → ListsSteps s o r c → ListsSteps s o q d → (said r ≡ said q) × (c ≡ d)
 lists-one x y = fills-one steps-one x y
 
 -- ── written again ──
@@ -168,7 +168,7 @@ written-again s b {h} r o =
 
 -- "a trace without notes, read and written again, gives its own bytes": where both buffers have room
 pub own-again : (s : List ℕ) → AllBytes s → {h : History} → ReadInto s h [] → (x o : List ℕ) → stepsLength h ≤ length x → length s ≤ length o
-    → rewritten s x o ≡ fill (answering (length s)) (over s o)
+    → rewritten s x o ≡ fillOf (answering (length s)) (over s o)
 unfolding rewritten again pick
 own-again s b {h} r x o l m =
     rw (listed-fits s x r l, over-front (listing h) x) (written-again s b r o ∙ into-fits s o m)

@@ -12,14 +12,14 @@ use Rattle.rules.specs.History.{History, txCount, empty}
 use Rattle.rules.specs.declared.Event.{Event}
 use Rattle.rules.specs.declared.Event.the-variants.{End, Other}
 use Rattle.demand1.specs.Rows.{serial, numberOf}
-use Rattle.writing.specs.Filling.{refusing, said, fill}
+use Rattle.writing.specs.Filling.{refusing, said, fillOf}
 use Rattle.writing.specs.Steps.{stepAt, stepCount, stepsFrom, stepsIn}
 use Rattle.writing.specs.Writing.{Followed, good, follow, itemOf, recordsOf, traceOf, written}
 use Rattle.writing.specs.declared.Filled.{Filled}
 use Rattle.writing.proofs.Grown.{Grown, grown-none, counts}
 use Rattle.writing.proofs.Followed.{followed}
 use Rattle.written.specs.Declined.{traceLength, WriteDeclines, bad-step, ends-inside, trace-short}
-use Rattle.written.specs.Writes.{AllBytes, recordAt, IsStepRecord, IsEndRecord, TraceOf, Writes}
+use Rattle.written.specs.Writes.{AllBytes, recordAt, IsStepRecord, IsEndRecord, TraceOf, WritesTrace}
 use Rattle.written.proofs.Records.{narrow-end}
 use Rattle.written.proofs.Slim.{slim-steps}
 use Rattle.written.proofs.Readback.{read-back}
@@ -105,7 +105,7 @@ module _ (s : List ℕ) (b : AllBytes s) (n : ℕ) (low : n < 2 ^ 32) (o : List 
   write-declines-iff = declines-iff (WriteDeclines s (length o)) (TraceOf s n) o (written s n o) (declined-is s n o) out
 
   -- any answer and content that the contract admits
-  pub writes : (r : Filled) (c : List ℕ) → fill (said r) c ≡ written s n o → Writes s n o r c
+  pub writes : (r : Filled) (c : List ℕ) → fillOf (said r) c ≡ written s n o → WritesTrace s n o r c
   writes = fills (WriteDeclines s (length o)) (TraceOf s n) o (written s n o) (declined-is s n o) out
 
 -- ── one outcome ──
@@ -119,5 +119,5 @@ trace-one {s} {n} x y a b =
     sym (own-bytes x (a .is-bytes) (a .reads)) ∙ rw (first, h) (own-bytes y (b .is-bytes) (b .reads))
 
 -- any two outcomes that the promise admits coincide
-pub writes-one : {s : List ℕ} {n : ℕ} {o : List ℕ} {r q : Filled} {c d : List ℕ} → Writes s n o r c → Writes s n o q d → (said r ≡ said q) × (c ≡ d)
+pub writes-one : {s : List ℕ} {n : ℕ} {o : List ℕ} {r q : Filled} {c d : List ℕ} → WritesTrace s n o r c → WritesTrace s n o q d → (said r ≡ said q) × (c ≡ d)
 writes-one x y = fills-one trace-one x y

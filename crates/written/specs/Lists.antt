@@ -30,5 +30,5 @@ pub record StepsOf (s : List ℕ) (x : List ℕ) : Type 0 where
   pub long : length x ≡ stepsLength history
 
 -- what is promised of turning the trace s into steps, in a buffer that held o
-abbrev pub Lists : List ℕ → List ℕ → Filled → List ℕ → Type 0
-Lists s o = Fills (ListDeclines s (length o)) (StepsOf s) o
+abbrev pub ListsSteps : List ℕ → List ℕ → Filled → List ℕ → Type 0
+ListsSteps s o = Fills (ListDeclines s (length o)) (StepsOf s) o

@@ -48,5 +48,5 @@ pub record TraceOf (s : List ℕ) (n : ℕ) (b : List ℕ) : Type 0 where
   pub no-more : recordAt b (stepCount s + 1) ≡ length b
 
 -- what is promised of writing the steps s, with serials from n on, into a buffer that held o
-abbrev pub Writes : List ℕ → ℕ → List ℕ → Filled → List ℕ → Type 0
-Writes s n o = Fills (WriteDeclines s (length o)) (TraceOf s n) o
+abbrev pub WritesTrace : List ℕ → ℕ → List ℕ → Filled → List ℕ → Type 0
+WritesTrace s n o = Fills (WriteDeclines s (length o)) (TraceOf s n) o

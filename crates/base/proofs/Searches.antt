@@ -8,8 +8,10 @@ use native.Mathlib.Omega.{arith}
 use native.Mathlib.Nat.{mul-suc, add-comm}
 use lib.ListN.{length, getD, length-append, List·getD-append}
 use lib.Seq.{getD-append-add}
+use lib.Dec.{eqb}
+use borrow.Author.Tests.{eqb-true, eq-eqb, ne-eqb}
 use Rattle.base.specs.Base.{_or_, pick, someOf, firstOf, countOf, listOf, some, first, count, listed, those, joined}
-use Rattle.base.proofs.Tests.{known, clash, is-false, pick-of, ifso, split}
+use Rattle.base.proofs.Tests.{known, clash, is-false, or-cases, or-right, or-off, pick-of, ifso, split}
 
 left : (j e : ℕ) → j < e → e - j ≡ suc (e - (j + 1))
 left j e h = omega arith
@@ -218,6 +220,33 @@ count-less p q x e j a l px qx h =
     omega (arith, count-hit p j e k (rw i px), count-miss q j e k (rw i qx), count-same p q e (j + 1) (λ c u v. h c v (λ z. omega arith))))
     (split j x))
     j a
+
+-- q passes what p does: it counts no less; and more, where it passes an x that p does not
+pub count-under : (p q : ℕ → Bool) (e j : ℕ) → ((i : ℕ) → j ≤ i → i < e → p i ≡ true → q i ≡ true) → count j e p ≤ count j e q
+count-under p q e =
+    downward (λ j. ((i : ℕ) → j ≤ i → i < e → p i ≡ true → q i ≡ true) → count j e p ≤ count j e q) e
+    (λ j g h. omega (arith, count-end p j e g))
+    (λ j l ih h.
+    let r = ih (λ i a b. h i (omega arith) b) in
+    ⊎-elim (λ (t : p j ≡ true). omega (arith, r, count-hit p j e l t, count-hit q j e l (h j (omega arith) l t)))
+    (λ (t : p j ≡ false).
+    ifso (q j) (λ (u : q j ≡ true). omega (arith, r, count-miss p j e l t, count-hit q j e l u))
+    (λ (u : q j ≡ false). omega (arith, r, count-miss p j e l t, count-miss q j e l u)))
+    (known (p j)))
+
+pub count-more : (p q : ℕ → Bool) (x e j : ℕ) → j ≤ x → x < e → ((i : ℕ) → j ≤ i → i < e → p i ≡ true → q i ≡ true) → p x ≡ false → q x ≡ true
+    → count j e p < count j e q
+count-more p q x e j a l h px qx =
+    omega (
+      arith,
+      count-less with-x p x e j a l (or-right (p x) (eqb x x) (eq-eqb x x refl)) px
+          (λ i u d. or-off (p i) (eqb i x) (ne-eqb i x d)),
+      count-under with-x q e j
+          (λ i u v t. ⊎-elim (h i u v) (λ z. rw (eqb-true i x z) qx) (or-cases (p i) (eqb i x) t)),
+    )
+  where
+    with-x : ℕ → Bool
+    with-x i = p i or eqb i x
 
 -- ── lists ──
 

@@ -21,17 +21,17 @@ case b x y z = record { bytes = b; rc = x; ra = y; tcc = z }
 abbrev pub all : List ℕ → Outcome → Case
 all b x = case b x x x
 
-abbrev refusesWith : ℕ → ℕ → Outcome
+abbrev pub refusesWith : ℕ → ℕ → Outcome
 refusesWith = refusesIn 16 16 16
 
-abbrev acceptsWith : List ℕ → Outcome
+abbrev pub acceptsWith : List ℕ → Outcome
 acceptsWith = acceptsIn 16 16 16
 
-abbrev rejectsWith : List ℕ → List ℕ → Outcome
+abbrev pub rejectsWith : List ℕ → List ℕ → Outcome
 rejectsWith = rejectsIn 16 16 16
 
 -- 1 before 2 and 2 before 1, both for rivals
-abbrev swapped : List ℕ
+abbrev pub swapped : List ℕ
 swapped = pair 1 2 8 ++ pair 2 1 8
 
 abbrev pub table : List Case

@@ -7,9 +7,10 @@ use mathlib.Core.List.{List, [], _∷_, _++_, map}
 use lib.ListN.{length}
 use Rattle.base.specs.Base.{_and_, _or_, pick, someOf, firstOf, countOf, listOf, some, first, count, listed, those, last, joined, numbered, nth, firstFit}
 use Rattle.theory.specs.Leads.{via, isListed}
+use Rattle.theory.specs.Reached.{reach}
 use Rattle.theory.specs.Order.{mem, misses, ready, isUnplaced, unplaced, next, fill, rest}
 use Rattle.rules.specs.Numbers.{le, bytes, over}
-use Rattle.rules.specs.History.{tx, op, committed, isOpen, current, writesValue, writeOf, opened, closed, withOp}
+use Rattle.rules.specs.History.{tx, op, isOpen, current, writesValue, writeOf, saysCommitted, isUnanswered, takesFrom, vouches, committed, opened, closed, withOp}
 use Rattle.rules.specs.Records.{eventOf, eventAt, breaks, isUnknown, isMisfit, frameRows}
 use Rattle.rules.specs.Reading.{State, misplaced, unlawful, excess, repeats, stepRows, entered, isEnd, textAt, refusalNo, after, finished, walk, reading}
 use Rattle.rules.specs.Reads.{writesAt, wroteBetween, originOf, sourceOf, kindBy, kindOf, isJudged, isFinding, isExternal, readsFrom}
@@ -86,16 +87,17 @@ edgeTable =
     ∷ refusesAt (raw 9 1 0 (room 3)) 4 0
     ∷ refusesAt (raw 7 5 0 (0 ∷ [])) 4 0
     ∷ refusesAt (raw 6 4 0 []) 4 0
-    -- 7, then 8: a write of 0 outside, a close with status 2 outside, a wrong end number inside
+    -- 7, then 8: a write of 0 outside, a close with status 3 outside, a wrong end number inside
     ∷ refusesAt (trace 0 (w 1 0 ∷ [])) 7 0
-    ∷ refusesAt (trace 0 (closes 2 ∷ [])) 7 0
+    ∷ refusesAt (trace 0 (closes 3 ∷ [])) 7 0
     ∷ refusesAt (trace 0 (opens 1 ∷ ends 5 ∷ [])) 7 10
     -- 7: open inside, read outside
     ∷ refusesAt (trace 0 (opens 1 ∷ opens 2 ∷ [])) 7 10
     ∷ refusesAt (trace 0 (r 1 0 ∷ [])) 7 0
-    -- 8: a written 0, status 2, a wrong end number
+    -- 8: a written 0, status 3, where status 2 passes, a wrong end number
     ∷ refusesAt (trace 0 (opens 1 ∷ w 1 0 ∷ [])) 8 10
-    ∷ refusesAt (trace 0 (opens 1 ∷ closes 2 ∷ [])) 8 10
+    ∷ refusesAt (trace 0 (opens 1 ∷ closes 3 ∷ [])) 8 10
+    ∷ acceptsAt 3 (whole 1 (block 1 2 [])) (0 ∷ [])
     ∷ refusesAt (whole 1 []) 8 0
     -- 10: a repeated write, in one transaction, and after an aborted one; another key or another value is none
     ∷ refusesAt (trace 0 (opens 1 ∷ w 1 5 ∷ w 1 5 ∷ [])) 10 30
@@ -146,7 +148,7 @@ edgeFound c = edge (c .bytes) (c .level) (c .f) (c .p) (c .o) (judged (c .bytes)
 
 -- The line names all that an outcome or a note is computed with. To unfold this statement is to unfold them: the other statements, here and in Cases, do so
 unfoldable pub as-they-should : map edgeFound edgeTable ≡ edgeTable
-unfolding le bytes over raw recordOf trace tx op committed isOpen current writesValue writeOf opened closed withOp eventOf eventAt breaks isUnknown isMisfit frameRows misplaced unlawful excess repeats stepRows entered isEnd textAt refusalNo after finished walk reading writesAt wroteBetween originOf sourceOf kindBy kindOf isJudged isFinding isExternal readsFrom isStart isSession isRead basic leads writesKey sees settles isRival forced reasons findings findingBytes pairsOf pairs pairBytes order findingList pairList isEmpty isAccepted acceptance rejection judgedRead isLevel judged via isListed mem misses ready isUnplaced unplaced next fill rest _and_ _or_ pick someOf firstOf countOf listOf some first count listed those last joined numbered nth firstFit isNote notedRead noted
+unfolding le bytes over raw recordOf trace tx op isOpen current writesValue writeOf saysCommitted isUnanswered takesFrom vouches committed opened closed withOp eventOf eventAt breaks isUnknown isMisfit frameRows misplaced unlawful excess repeats stepRows entered isEnd textAt refusalNo after finished walk reading writesAt wroteBetween originOf sourceOf kindBy kindOf isJudged isFinding isExternal readsFrom isStart isSession isRead basic leads writesKey sees settles isRival forced reasons findings findingBytes pairsOf pairs pairBytes order findingList pairList isEmpty isAccepted acceptance rejection judgedRead isLevel judged via isListed reach mem misses ready isUnplaced unplaced next fill rest _and_ _or_ pick someOf firstOf countOf listOf some first count listed those last joined numbered nth firstFit isNote notedRead noted
 as-they-should = refl
 
 -- ── notes ──

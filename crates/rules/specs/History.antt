@@ -1,12 +1,13 @@
 -- What a trace says: its transactions, numbered 1, 2, .. as they open, and its reads and writes, numbered 1, 2, .. over the whole trace.
 use Prim.Native.Nat.{ℕ, _+_}
-use mathlib.Core.Bool.{Bool, false}
+use mathlib.Core.Bool.{Bool, false, not}
 use mathlib.Core.List.{List, [], _∷_, _++_}
 use lib.ListN.{length, getD}
 use lib.Dec.{eqb}
-use Rattle.base.specs.Base.{_and_, pick, last, numbered}
+use Rattle.base.specs.Base.{_and_, pick, some, last, numbered}
+use Rattle.theory.specs.Reached.{reach}
 
--- status 1: committed; 0: aborted; 3: open still
+-- status 1: committed; 0: aborted; 2: "unanswered"; 3: open still
 pub record Tx : Type 0 where
   pub session : ℕ
   pub status : ℕ
@@ -49,10 +50,6 @@ opCount h = length (h .ops)
 abbrev pub size : History → ℕ
 size h = txCount h + 1
 
--- what counts as committed: status 1
-unfoldable pub committed : History → ℕ → Bool
-committed h t = eqb (tx h t .status) 1
-
 -- transaction t has been opened and not closed
 unfoldable pub isOpen : History → ℕ → Bool
 isOpen h t = eqb (tx h t .status) 3
@@ -68,6 +65,28 @@ writesValue h x v i = eqb (op h i .value) v and op h i .isWrite and eqb (op h i 
 
 unfoldable pub writeOf : History → ℕ → ℕ → ℕ
 writeOf h x v = last (writesValue h x v) (opCount h + 1)
+
+-- ── who counts as committed: document 02, "commits nobody answered" ──
+
+-- its close says that it committed; "Status 2 now means unanswered."
+unfoldable pub saysCommitted : History → ℕ → Bool
+saysCommitted h t = eqb (tx h t .status) 1
+
+unfoldable pub isUnanswered : History → ℕ → Bool
+isUnanswered h t = eqb (tx h t .status) 2
+
+-- operation i is a read in a of a key and value that u wrote, whatever kind of read it is
+unfoldable pub takesFrom : History → ℕ → ℕ → ℕ → Bool
+takesFrom h a u i = not (op h i .isWrite) and eqb (op h i .tx) a and eqb (op h (writeOf h (op h i .key) (op h i .value)) .tx) u
+
+-- a is "other than" u, which is unanswered, and "reads one of its values"
+unfoldable pub vouches : History → ℕ → ℕ → Bool
+vouches h a u = isUnanswered h u and not (eqb a u) and some 1 (opCount h + 1) (takesFrom h a u)
+
+-- "Such a transaction counts as committed exactly if a transaction counted as committed, other than itself, reads one of its values; the smallest such
+-- set is meant. All others count as aborted."
+unfoldable pub committed : History → ℕ → Bool
+committed h t = reach (saysCommitted h) (vouches h) (size h) (size h) t
 
 -- ── how a history grows ──
 

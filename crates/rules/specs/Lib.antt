@@ -9,3 +9,4 @@ pub mod Notes
 pub mod Traces
 pub mod Edges
 pub mod Cases
+pub mod Unanswered

@@ -22,12 +22,12 @@ misplaced t (End n) = ltb 0 t
 misplaced t Note = false
 misplaced t Other = false
 
--- row 8: "written value 0; status above 1; end number wrong"
+-- row 8: "written value 0; status above 1; end number wrong", and of the status: "8 now begins at status 3"
 unfoldable pub unlawful : History → Event → Bool
 unlawful h (Open s) = false
 unlawful h (Read x v) = false
 unlawful h (Write x v) = eqb v 0
-unlawful h (Close c) = ltb 1 c
+unlawful h (Close c) = ltb 2 c
 unlawful h (End n) = not (eqb n (txCount h))
 unlawful h Note = false
 unlawful h Other = false

@@ -44,12 +44,15 @@ ends n = item 5 (bytes 2 n)
 abbrev pub note : List ℕ → Item
 note p = item 6 p
 
--- a transaction of session s with status c; a committed one
+-- a transaction of session s with status c; a committed one, an unanswered one
 abbrev pub block : ℕ → ℕ → List Item → List Item
 block s c l = opens s ∷ (l ++ (closes c ∷ []))
 
 abbrev pub T : ℕ → List Item → List Item
 T s l = block s 1 l
+
+abbrev pub U : ℕ → List Item → List Item
+U s l = block s 2 l
 
 -- n transactions and the end, with serials from 0
 abbrev pub whole : ℕ → List Item → List ℕ

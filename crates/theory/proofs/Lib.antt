@@ -1,4 +1,5 @@
 pub mod Leads
+pub mod Reached
 pub mod Places
 pub mod Order
 pub mod Same

@@ -16,7 +16,7 @@ use Rattle.base.proofs.Tests.{clash, ifso, split, and-left, and-right, and-on, 
 use Rattle.base.proofs.Chains.{last-less}
 use Rattle.base.proofs.Numbered.{numbered-length, numbered-same, numbered-more}
 use Rattle.rules.specs.History.{History, Tx, Op, tx, op, txCount, opCount, empty, opened, closed, withOp}
-use Rattle.table.specs.Table.{tableWords, txAt, opAt, opOf, historyOf, lastAt, prevAt, headAt, linkAt, ofTx, lastBelow, lastOf, prevOf, bucketOf, inBucket, headOf, linkOf, Held, HasTx, HoldsHistory, Becomes, noHeads, cleared, putTx, closeTx, putWords, putRead, putWrite, putOp}
+use Rattle.table.specs.Table.{tableWords, txAt, opAt, opOf, historyOf, lastAt, prevAt, headAt, linkAt, marked, ofTx, lastBelow, lastOf, prevOf, bucketOf, inBucket, headOf, linkOf, Held, HasTx, HoldsHistory, Becomes, noHeads, cleared, putTx, closeTx, markTx, putWords, putRead, putWrite, putOp}
 use Rattle.rules.proofs.History.{with-op-old, with-op-new}
 use Rattle.table.proofs.Grown.{retold, retold-op, retold-last, retold-prev, retold-head, retold-link, last-of-none, byTx, byBucket, bucket-low, with-op-last, with-op-prev}
 use Rattle.table.proofs.Words.{tx-count, op-count, tx-is, last-small}
@@ -193,7 +193,7 @@ module _ (h : List ℕ) (p : Held h) (s : ℕ) (small : s < 65536) (few : txCoun
       ⊎-elim (λ l. rw (open-other k a (λ q. omega (arith, tx-count h))) (p .lasts k a (omega arith)))
       (λ l.
       let e : k ≡ open-tx = omega (arith, tx-count h) in
-      let d : (4 * s + 3) / 262144 ≡ 0 = omega arith in
+      let d : (4 * s + 3) / 262144 % 2048 ≡ 0 = omega arith in
       rw (e, open-word, d) (sym (last-of-none (historyOf h) open-tx (λ i u v q. omega (arith, q, p .txs-in i u v .1, tx-count h)))))
       (split k (txCount (historyOf h) + 1))
 
@@ -249,6 +249,61 @@ module _ (h : List ℕ) (t x : ℕ) (p : HasTx h t) (small : x < 4) where
       retold-holds close-behind _ (p .held) (length-set h t _) close-txs (λ i a b. rw close-few (p .held .txs-in i a b))
       (λ k a b. close-lasts k (ℕ-discrete k t) ∙ p .held .lasts k a (rw close-few at b))
 
+-- ── a transaction is marked ──
+
+module _ (h : List ℕ) (t c : ℕ) (p : HasTx h t) (small : c < 2) where
+  abbrev mark-end : List ℕ
+  mark-end = set h t (getD h t 0 % 536870912 + 536870912 * c)
+
+  mark-word : getD mark-end t 0 ≡ getD h t 0 % 536870912 + 536870912 * c
+  mark-word = getD-set-same h t _ 0 (omega (arith, p .to, p .held .few, p .held .room))
+
+  mark-elsewhere : (k : ℕ) → (k ≡ t → ⊥) → getD mark-end k 0 ≡ getD h k 0
+  mark-elsewhere k b = getD-set-other h t k _ 0 b
+
+  mark-count : getD mark-end 0 0 ≡ getD h 0 0
+  mark-count = mark-elsewhere 0 (λ q. omega (arith, p .from))
+
+  mark-behind : Behind h mark-end
+  mark-behind = record { count = ap (λ (n : ℕ). n / 128) mark-count; same = λ k a. mark-elsewhere k (λ q. omega (arith, p .to, p .held .few)) }
+
+  mark-tx : (k : ℕ) → Dec (k ≡ t) → txAt mark-end k ≡ txAt h k
+  unfolding txAt
+  mark-tx k (yes q) =
+      let d : (getD h t 0 % 536870912 + 536870912 * c) / 4 % 65536 ≡ getD h t 0 / 4 % 65536 = omega arith in
+      let r : (getD h t 0 % 536870912 + 536870912 * c) % 4 ≡ getD h t 0 % 4 = omega arith in
+      rw (q, mark-word, d, r)
+  mark-tx k (no q) = rw (mark-elsewhere k q)
+
+  mark-txs : historyOf mark-end .txs ≡ historyOf h .txs
+  unfolding historyOf
+  mark-txs = rw mark-count (numbered-same (getD h 0 0 % 128) (txAt mark-end) (txAt h) (λ k a b. mark-tx k (ℕ-discrete k t)))
+
+  mark-lasts : (k : ℕ) → Dec (k ≡ t) → lastAt mark-end k ≡ lastAt h k
+  unfolding lastAt
+  mark-lasts k (yes q) =
+      let d : (getD h t 0 % 536870912 + 536870912 * c) / 262144 % 2048 ≡ getD h t 0 / 262144 % 2048 = omega arith in
+      rw (q, mark-word, d)
+  mark-lasts k (no q) = rw (mark-elsewhere k q)
+
+  -- the history stays
+  pub mark-holds : HoldsHistory (markTx h t c) (historyOf h)
+  unfolding markTx
+  mark-holds =
+      retold-holds mark-behind (historyOf h .txs) (p .held) (length-set h t _) mark-txs (p .held .txs-in)
+      (λ k a b. mark-lasts k (ℕ-discrete k t) ∙ p .held .lasts k a b)
+
+  -- t has the mark from now on, or has it no more; the others' stay
+  pub mark-this : marked (markTx h t c) t ≡ eqb c 1
+  unfolding markTx marked
+  mark-this =
+      let d : (getD h t 0 % 536870912 + 536870912 * c) / 536870912 % 2 ≡ c = omega arith in
+      rw (mark-word, d)
+
+  pub mark-other : (k : ℕ) → (k ≡ t → ⊥) → marked (markTx h t c) k ≡ marked h k
+  unfolding markTx marked
+  mark-other k d = rw (mark-elsewhere k d)
+
 -- ── one operation more ──
 
 -- a write's word has 128 more than a read's
@@ -291,7 +346,7 @@ record Entered (h : List ℕ) (o : Op) (q : ℕ) (g : List ℕ) : Type 0 where
   room : length g ≡ length h
   count : getD g 0 0 ≡ getD h 0 0 + 128
   word : getD g (o .tx) 0 ≡ getD h (o .tx) 0 % 262144 + 262144 * nextOp h
-  word-1 : getD g (128 + 2 * nextOp h) 0 ≡ o .tx + pick (o .isWrite) 128 0 + 256 * o .key + 1099511627776 * (getD h (o .tx) 0 / 262144 + 2048 * q)
+  word-1 : getD g (128 + 2 * nextOp h) 0 ≡ o .tx + pick (o .isWrite) 128 0 + 256 * o .key + 1099511627776 * (getD h (o .tx) 0 / 262144 % 2048 + 2048 * q)
   word-2 : getD g (129 + 2 * nextOp h) 0 ≡ o .value
   other : (k : ℕ) → 1 ≤ k → k < 2178 → (k ≡ o .tx → ⊥) → (k ≡ 128 + 2 * nextOp h → ⊥) → (k ≡ 129 + 2 * nextOp h → ⊥) → getD g k 0 ≡ getD h k 0
 
@@ -311,7 +366,7 @@ module _ (h : List ℕ) (o : Op) (p : HasTx h (o .tx)) (small : o .key < 4294967
   -- what the four stores do
   module _ (w q : ℕ) (is : w ≡ o .tx + pick (o .isWrite) 128 0 + 256 * o .key + 2251799813685248 * q) where
     abbrev put-1 : List ℕ
-    put-1 = set h (128 + 2 * put-op) (w + 1099511627776 * (put-tx / 262144))
+    put-1 = set h (128 + 2 * put-op) (w + 1099511627776 * (put-tx / 262144 % 2048))
 
     abbrev put-2 : List ℕ
     put-2 = set put-1 (129 + 2 * put-op) (o .value)
@@ -391,14 +446,14 @@ module _ (h : List ℕ) (o : Op) (p : HasTx h (o .tx)) (small : o .key < 4294967
         let c : getD g 0 0 / 128 ≡ getD h 0 0 / 128 + 1 = omega (arith, e .count) in
         rw c
         (numbered-more (getD h 0 0 / 128) (opAt g) (opAt h) o (λ i a b. rw (put-old-word i a (omega arith) .0, put-old-word i a (omega arith) .1))
-        (rw (e .word-1, e .word-2) (word-says (o .tx) (o .key) (o .value) (put-tx / 262144 + 2048 * q) (o .isWrite) put-low small)))
+        (rw (e .word-1, e .word-2) (word-says (o .tx) (o .key) (o .value) (put-tx / 262144 % 2048 + 2048 * q) (o .isWrite) put-low small)))
 
     put-old-numbers : (i : ℕ) → 1 ≤ i → i ≤ opCount (historyOf h) → (prevAt g i ≡ prevAt h i) × (linkAt g i ≡ linkAt h i)
     put-old-numbers i a b = word-stays h g i (put-old-word i a (omega (arith, op-count h)) .0)
 
     put-keeps : (prevAt g put-op ≡ lastAt h (o .tx)) × (linkAt g put-op ≡ q)
     unfolding prevAt linkAt lastAt
-    put-keeps = rw (e .word-1) (word-keeps (o .tx) (o .key) (put-tx / 262144) q (o .isWrite) put-low small (omega (arith, last-small h (o .tx) p)))
+    put-keeps = rw (e .word-1) (word-keeps (o .tx) (o .key) (put-tx / 262144 % 2048) q (o .isWrite) put-low small (omega (arith, last-small h (o .tx) p)))
 
     put-lasts : (k : ℕ) → 1 ≤ k → k ≤ txCount (historyOf h) → lastAt g k ≡ lastOf (withOp (historyOf h) o) k
     unfolding lastAt lastOf lastBelow ofTx
@@ -406,7 +461,7 @@ module _ (h : List ℕ) (o : Op) (p : HasTx h (o .tx)) (small : o .key < 4294967
         with-op-last (historyOf h) o (byTx k) (p .held .lasts k a b)
         (λ t.
         let c : k ≡ o .tx = sym (eqb-true (o .tx) k t) in
-        let d : (put-tx % 262144 + 262144 * put-op) / 262144 ≡ put-op = omega arith in
+        let d : (put-tx % 262144 + 262144 * put-op) / 262144 % 2048 ≡ put-op = omega (arith, op-count h) in
         rw (c, e .word, d) (omega (arith, op-count h)))
         (λ t. rw (put-low-word k a (omega (arith, p .held .few)) (λ c. eqb-false (o .tx) k t (sym c))))
 

@@ -38,7 +38,7 @@ module _ (h : List ℕ) (t : ℕ) (p : HasTx h t) where
       record { is = e; below = omega (arith, e, last-of-less (historyOf h) t) }
 
   -- so its word has room for it
-  pub last-small : getD h t 0 / 262144 ≤ 1024
+  pub last-small : getD h t 0 / 262144 % 2048 ≤ 1024
   unfolding lastAt
   last-small = omega (arith, last-is-kept .below, p .held .most)
 

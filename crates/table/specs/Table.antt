@@ -1,7 +1,7 @@
 -- How one lent table of 2,306 words holds a history. Above this crate nobody sees a word.
 --
 --   word 0         the number of transactions + 128 * the number of operations
---   word t         transaction t: status + 4 * session + 2^18 * the number of its last operation
+--   word t         transaction t: status + 4 * session + 2^18 * the number of its last operation + 2^29 where it is marked as one that counts as committed
 --   word 128 + 2 i operation i: its transaction + 128 for a write + 256 * key + 2^40 * the number of the same transaction's previous operation
 --                  + 2^51 * the number of the same bucket's previous write, where i is a write
 --   word 129 + 2 i operation i: its value
@@ -16,7 +16,7 @@ use mathlib.Core.List.{List}
 use lib.ListN.{length, getD, set}
 use lib.Dec.{eqb}
 use Rattle.base.specs.Base.{_and_, pick, last, numbered}
-use Rattle.rules.specs.History.{Tx, Op, History, op, txCount, opCount}
+use Rattle.rules.specs.History.{Tx, Op, History, op, txCount, opCount, committed}
 
 -- how many words a table has
 abbrev pub tableWords : ℕ
@@ -40,7 +40,7 @@ historyOf h = record { txs = numbered (getD h 0 0 % 128) (txAt h); ops = numbere
 -- the numbers kept: with transaction t, of its last operation; with operation i, of the one before it; with bucket b, of its last write; with write i, of
 -- the one before it in its bucket
 unfoldable pub lastAt : List ℕ → ℕ → ℕ
-lastAt h t = getD h t 0 / 262144
+lastAt h t = getD h t 0 / 262144 % 2048
 
 unfoldable pub prevAt : List ℕ → ℕ → ℕ
 prevAt h i = getD h (128 + 2 * i) 0 / 1099511627776 % 2048
@@ -50,6 +50,10 @@ headAt h b = getD h (2178 + b) 0
 
 unfoldable pub linkAt : List ℕ → ℕ → ℕ
 linkAt h i = getD h (128 + 2 * i) 0 / 2251799813685248
+
+-- transaction t has the mark
+unfoldable pub marked : List ℕ → ℕ → Bool
+marked h t = eqb (getD h t 0 / 536870912 % 2) 1
 
 -- ── a transaction's operations ──
 
@@ -113,6 +117,11 @@ pub record HasWrite (h : List ℕ) (i : ℕ) : Type 0 where
   pub there : HasOp h i
   pub writes : op (historyOf h) i .isWrite ≡ true
 
+-- .. whose marks say who counts as committed: they are worked out behind the reading, once
+pub record Settled (h : List ℕ) : Type 0 where
+  pub held : Held h
+  pub counts : (t : ℕ) → 1 ≤ t → t ≤ txCount (historyOf h) → marked h t ≡ committed (historyOf h) t
+
 -- .. that hold x
 pub record HoldsHistory (h : List ℕ) (x : History) : Type 0 where
   pub held : Held h
@@ -137,12 +146,16 @@ putTx h s = set (set h (getD h 0 0 % 128 + 1) (4 * s + 3)) 0 (getD h 0 0 + 1)
 unfoldable pub closeTx : List ℕ → ℕ → ℕ → List ℕ
 closeTx h t x = set h t (4 * (getD h t 0 / 4) + x)
 
+-- transaction t gets the mark, where c is 1, or loses it, where c is 0
+unfoldable pub markTx : List ℕ → ℕ → ℕ → List ℕ
+markTx h t c = set h t (getD h t 0 % 536870912 + 536870912 * c)
+
 -- one operation more, of t, whose first word is w besides the number of the operation before it, which is t's last; it is t's last from now on
 unfoldable pub putWords : List ℕ → ℕ → ℕ → ℕ → List ℕ
 putWords h t w v =
     let i = getD h 0 0 / 128 + 1 in
     set
-    (set (set (set h (128 + 2 * i) (w + 1099511627776 * (getD h t 0 / 262144))) (129 + 2 * i) v) t (getD h t 0 % 262144 + 262144 * i))
+    (set (set (set h (128 + 2 * i) (w + 1099511627776 * (getD h t 0 / 262144 % 2048))) (129 + 2 * i) v) t (getD h t 0 % 262144 + 262144 * i))
     0
     (getD h 0 0 + 128)
 

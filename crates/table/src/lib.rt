@@ -3,7 +3,7 @@ ghost use Prim.Native.Nat.{_+_, _<_};
 ghost use lib.ListN.{length};
 ghost use mathlib.Core.Bool.{true, false};
 ghost use Rattle.rules.specs.History.{tx, op, txCount, opCount, empty, opened, closed, withOp, writesValue, writeOf};
-ghost use Rattle.table.specs.Table.{tableWords, historyOf, lastOf, prevOf, bucketOf, headOf, linkOf, Held, HasTx, HasOp, HasWrite, Below, Becomes, cleared, putTx, closeTx, putWords, putOp};
+ghost use Rattle.table.specs.Table.{tableWords, historyOf, marked, lastOf, prevOf, bucketOf, headOf, linkOf, Held, HasTx, HasOp, HasWrite, Below, Becomes, cleared, putTx, closeTx, markTx, putWords, putOp};
 
 // The number of transactions; of operations.
 pub fn txs(h: &[u64]) -> usize
@@ -40,7 +40,15 @@ pub fn last_op(h: &[u64], t: usize) -> usize
     requires { ⌜ HasTx (now h) t ⌝ }
     ensures { λ r. ⌜ Below r (lastOf (historyOf (now (h .entry))) t) (opCount (historyOf (now (h .entry))) + 1) ⌝ }
 {
-    (h[t] / 262144) as usize
+    (h[t] / 262144 % 2048) as usize
+}
+
+// Whether t is marked as one that counts as committed.
+pub fn is_marked(h: &[u64], t: usize) -> bool
+    requires { ⌜ HasTx (now h) t ⌝ }
+    ensures { λ r. ⌜ r ≡ marked (now (h .entry)) t ⌝ }
+{
+    h[t] / 536870912 % 2 == 1
 }
 
 // Operation i.
@@ -165,6 +173,15 @@ pub fn close_tx(h: &mut [u64], t: usize, x: u64)
     h[t] = 4 * s + x;
 }
 
+// Transaction t gets the mark, where c is 1, or loses it, where c is 0.
+pub fn mark(h: &mut [u64], t: usize, c: u64)
+    requires { ⌜ HasTx (now h) t × (c < 2) ⌝ }
+    ensures { λ r. ⌜ Becomes (now (h .exit)) (markTx (now (h .entry)) t c) (historyOf (now (h .entry))) ⌝ }
+{
+    let w = h[t] % 536870912;
+    h[t] = w + 536870912 * c;
+}
+
 // One operation more of transaction t: it reads v from the key k; it writes v to the key k, and is its bucket's last write from now on.
 pub fn put_read(h: &mut [u64], t: usize, k: u32, v: u64)
     requires { ⌜ HasTx (now h) t × (opCount (historyOf (now h)) < 1024) ⌝ }
@@ -193,7 +210,7 @@ fn put_op(h: &mut [u64], t: usize, w: u64, v: u64)
     let n = h[0];
     let i = (n / 128) as usize + 1;
     let z = h[t];
-    h[128 + 2 * i] = w + 1099511627776 * (z / 262144);
+    h[128 + 2 * i] = w + 1099511627776 * (z / 262144 % 2048);
     h[129 + 2 * i] = v;
     h[t] = z % 262144 + 262144 * (i as u64);
     h[0] = n + 128;

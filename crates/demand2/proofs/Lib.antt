@@ -1,3 +1,4 @@
+pub mod Counts
 pub mod Kind
 pub mod Pairs
 pub mod Axiom

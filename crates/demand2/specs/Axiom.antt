@@ -6,13 +6,14 @@ use mathlib.Core.List.{List}
 use mathlib.Core.Logic.{_⊎_}
 use lib.ListN.{length, getD}
 use Rattle.theory.specs.Order.{place, Lex}
-use Rattle.rules.specs.History.{History, tx, op, size, committed}
+use Rattle.rules.specs.History.{History, tx, op, size}
+use Rattle.demand2.specs.Counts.{Counts}
 use Rattle.demand2.specs.Kinds.{WriteIn, WriteOf, JudgedRead}
 
--- a committed transaction, 0 among them
+-- a transaction that counts as committed, 0 among them
 pub record Member (h : History) (a : ℕ) : Type 0 where
   pub below : a < size h
-  pub is-in : committed h a ≡ true
+  pub is-in : Counts h a
 
 -- session order: 0 before every other, and an earlier transaction before each later one of its session
 pub data SO (h : History) (a b : ℕ) : Type 0 where

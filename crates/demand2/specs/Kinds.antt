@@ -3,7 +3,8 @@ use Prim.Native.Nat.{ℕ, _<_, _≤_}
 use mathlib.Core.Path.{_≡_}
 use mathlib.Core.Bool.{true, false}
 use mathlib.Core.Logic.{_⊎_}
-use Rattle.rules.specs.History.{History, op, opCount, committed}
+use Rattle.rules.specs.History.{History, op, opCount}
+use Rattle.demand2.specs.Counts.{Counts}
 
 -- operation j of the history is a write of the key x in t; with the value v
 pub record WriteIn (h : History) (t x j : ℕ) : Type 0 where
@@ -17,12 +18,12 @@ pub record WriteOf (h : History) (t x v j : ℕ) : Type 0 where
   pub in-it : WriteIn h t x j
   pub of-value : op h j .value ≡ v
 
--- "Each read in a committed transaction t is judged. It reads key x, value v."
+-- "Each read in a committed transaction t is judged. It reads key x, value v." Committed is whoever counts as such, here and below
 pub record JudgedRead (h : History) (i : ℕ) : Type 0 where
   pub from : 1 ≤ i
   pub to : i ≤ opCount h
   pub is-read : op h i .isWrite ≡ false
-  pub in-committed : committed h (op h i .tx) ≡ true
+  pub in-committed : Counts h (op h i .tx)
 
 module _ (h : History) (i : ℕ) where
   -- the read's transaction, key and value
@@ -41,14 +42,14 @@ module _ (h : History) (i : ℕ) where
 
   -- the value's write, number w, is in another, committed transaction u
   abbrev pub FromOther : ℕ → ℕ → Type 0
-  FromOther u w = WriteOf h u x v w × (u ≡ t → ⊥) × (committed h u ≡ true)
+  FromOther u w = WriteOf h u x v w × (u ≡ t → ⊥) × Counts h u
 
   -- the condition of each kind, by its number
   pub data Fits : ℕ → Type 0 where
     -- "v is not 0 and no write has (x, v)"
     thin-air : (v ≡ 0 → ⊥) → ((u w : ℕ) → WriteOf h u x v w → ⊥) → Fits 1
-    -- "that write is in another transaction, which aborted"
-    aborted : {u w : ℕ} → WriteOf h u x v w → (u ≡ t → ⊥) → committed h u ≡ false → Fits 2
+    -- "that write is in another transaction, which aborted", or counts as aborted
+    aborted : {u w : ℕ} → WriteOf h u x v w → (u ≡ t → ⊥) → (Counts h u → ⊥) → Fits 2
     -- "that write is in t, after the read"
     future : {w : ℕ} → WriteOf h t x v w → i < w → Fits 3
     -- "that write is in t, before the read, with another write of x between"

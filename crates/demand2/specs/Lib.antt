@@ -1,3 +1,4 @@
+pub mod Counts
 pub mod Kinds
 pub mod Axiom
 pub mod Accepted

@@ -16,7 +16,7 @@ use Rattle.rules.specs.Records.{lows, highs, breaks, isUnknown, isMisfit}
 use Rattle.rules.specs.declared.Event.{Event}
 use Rattle.rules.specs.Reading.{State, misplaced, unlawful, excess, repeats}
 use Rattle.demand1.specs.Lawful.{IsOp, IsWrite}
-use Rattle.demand1.specs.Rows.{len, kind, serial, Inside, Check, lengthField, lengthLow, bytesThere, serialFollows, kindKnown, lengthFits, inPlace, valueLawful, withinLimit, newWrite, rank, WrongLength, open-not-8, read-not-18, write-not-18, close-not-7, end-not-8, note-above-70, Misplaced, open-inside, read-outside, write-outside, close-outside, end-inside, Unlawful, written-0, status-above-1, end-wrong, Excess, open-128th, read-1025th, write-1025th, Repeated, Fails}
+use Rattle.demand1.specs.Rows.{len, kind, serial, Inside, Check, lengthField, lengthLow, bytesThere, serialFollows, kindKnown, lengthFits, inPlace, valueLawful, withinLimit, newWrite, rank, WrongLength, open-not-8, read-not-18, write-not-18, close-not-7, end-not-8, note-above-70, Misplaced, open-inside, read-outside, write-outside, close-outside, end-inside, Unlawful, written-0, status-above-2, end-wrong, Excess, open-128th, read-1025th, write-1025th, Repeated, Fails}
 use Rattle.demand1.specs.Tests.{test}
 use Rattle.demand1.proofs.Histories.{inside-current, outside-current, current-inside, current-outside}
 use Rattle.demand1.proofs.Events.{Clear, is-sized, is-framed, ShapeOf, open-record, read-record, write-record, close-record, end-record, note-record, Kinded, shape-of, kinded, by-kind}
@@ -145,14 +145,14 @@ module _ {k s x v c n : ℕ} {e : Event} (w : Kinded k s x v c n e) (h : History
   to-unlawful (open-record q i) t = absurd (false≢true (rw i at t))
   to-unlawful (read-record q i) t = absurd (false≢true (rw i at t))
   to-unlawful (write-record q i) t = written-0 q (eqb-true _ 0 (rw i at t))
-  to-unlawful (close-record q i) t = status-above-1 q (ltb-true 1 _ (rw i at t))
+  to-unlawful (close-record q i) t = status-above-2 q (ltb-true 2 _ (rw i at t))
   to-unlawful (end-record q i) t = end-wrong q (eqb-false _ (txCount h) (not-true _ (rw i at t)))
   to-unlawful (note-record q i) t = absurd (false≢true (rw i at t))
 
   is-unlawful : Unlawful k v c n h → unlawful h e ≡ true
   unfolding unlawful
   is-unlawful (written-0 q z) = rw (w .as-write q) (eq-eqb _ 0 z)
-  is-unlawful (status-above-1 q l) = rw (w .as-close q) (lt-ltb 1 _ l)
+  is-unlawful (status-above-2 q l) = rw (w .as-close q) (lt-ltb 2 _ l)
   is-unlawful (end-wrong q d) = rw (w .as-end q) (ap not (ne-eqb _ (txCount h) d))
 
   pub unlawful-row : (unlawful h e ≡ true) ↔ Unlawful k v c n h

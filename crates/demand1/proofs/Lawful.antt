@@ -8,8 +8,8 @@ use native.Mathlib.Omega.{arith}
 use Rattle.base.proofs.Tests.{clash, split}
 use Rattle.rules.specs.History.{History, Op, tx, op, txCount, opCount, empty, opened, closed, withOp}
 use Rattle.rules.specs.Reading.{State, Stretch}
-use Rattle.demand1.specs.Lawful.{IsOp, IsWrite, IsTx, LawfulHistory}
-use Rattle.demand1.specs.Rows.{session, status, opIn, Inside, Passes, inPlace, valueLawful, withinLimit, newWrite, open-inside, read-outside, write-outside, close-outside, end-inside, written-0, status-above-1, open-128th, read-1025th, write-1025th, Next, after-open, after-read, after-write, after-close, after-note, Reaches, start, on, ReadInto, to-the-end}
+use Rattle.demand1.specs.Lawful.{IsOp, IsWrite, IsTx, Over, says-aborted, says-committed, says-unanswered, LawfulHistory}
+use Rattle.demand1.specs.Rows.{session, status, opIn, Inside, Passes, inPlace, valueLawful, withinLimit, newWrite, open-inside, read-outside, write-outside, close-outside, end-inside, written-0, status-above-2, open-128th, read-1025th, write-1025th, Next, after-open, after-read, after-write, after-close, after-note, Reaches, start, on, ReadInto, to-the-end}
 use Rattle.rules.proofs.History.{with-op-count, with-op-old, with-op-new, open-count, open-old, open-new, close-count, close-this, close-other}
 use Rattle.demand1.proofs.Events.{same-or, at-least, below}
 use Rattle.demand1.proofs.Steps.{inside}
@@ -99,17 +99,23 @@ module _ (h : History) (o : Op) where
 
 -- ── transactions ──
 
--- aborted or committed
-abbrev Over : History → ℕ → Type 0
-Over h t = (tx h t .status ≡ 0) ⊎ (tx h t .status ≡ 1)
+-- a status that row 8 leaves is that of a transaction that is over
+over : (c : ℕ) → c ≤ 2 → Over c
+over c l = ⊎-elim (λ z. says-aborted (omega arith)) (λ a. ⊎-elim (λ z. says-committed (omega arith)) (λ z. says-unanswered (omega arith)) (split c 2)) (split c 1)
+
+-- .. and the other way round
+pub over-most : {c : ℕ} → Over c → c ≤ 2
+over-most (says-aborted e) = omega arith
+over-most (says-committed e) = omega arith
+over-most (says-unanswered e) = omega arith
 
 -- each is over, but for the latest, which may be open
 record LawfulTxs (h : History) : Type 0 where
   pub few-txs : txCount h ≤ 127
-  pub so-far : (t : ℕ) → IsTx h t → Over h t ⊎ ((t ≡ txCount h) × Inside h)
+  pub so-far : (t : ℕ) → IsTx h t → Over (tx h t .status) ⊎ ((t ≡ txCount h) × Inside h)
 
 -- outside a transaction each is over
-all-over : {h : History} → LawfulTxs h → (Inside h → ⊥) → (t : ℕ) → IsTx h t → Over h t
+all-over : {h : History} → LawfulTxs h → (Inside h → ⊥) → (t : ℕ) → IsTx h t → Over (tx h t .status)
 all-over r out t i = ⊎-elim (λ o. o) (λ l. absurd (out (l .1))) (r .so-far t i)
 
 -- the transactions stay
@@ -129,14 +135,14 @@ txs-more {h} s r out l =
     }
 
 -- the open one is closed
-txs-close : {h : History} (x : ℕ) → LawfulTxs h → Inside h → x ≤ 1 → LawfulTxs (closed h (txCount h) x)
+txs-close : {h : History} (x : ℕ) → LawfulTxs h → Inside h → x ≤ 2 → LawfulTxs (closed h (txCount h) x)
 txs-close {h} x r ins l =
     record {
       few-txs = omega (arith, close-count h (txCount h) x, r .few-txs);
       so-far = λ t i.
           let to : t ≤ txCount h = omega (arith, close-count h (txCount h) x, i .to) in
           inl (same-or t (txCount h)
-          (λ e. rw (e, close-this h (txCount h) x (ins .0) (omega arith)) (⊎-elim (λ z. inl (omega arith)) (λ z. inr (omega arith)) (split x 1)))
+          (λ e. rw (e, close-this h (txCount h) x (ins .0) (omega arith)) (over x l))
           (λ d. rw (close-other h (txCount h) x t (i .from) to d)
           (⊎-elim (λ o. o) (λ b. absurd (d (b .0))) (r .so-far t (record { from = i .from; to = to })))));
     }
@@ -190,7 +196,7 @@ module _ (s : List ℕ) (st : State) (p : Passes s st) (g : Growing (st .history
       let h = st .history in
       record {
         ops = ops-kept (closed h (txCount h) (status s (st .at))) refl (omega (arith, close-count h (txCount h) (status s (st .at)))) (g .ops);
-        txs = txs-close (status s (st .at)) (g .txs) (inside s st p (close-outside k)) (at-least _ 1 (λ l. p valueLawful (status-above-1 k l)));
+        txs = txs-close (status s (st .at)) (g .txs) (inside s st p (close-outside k)) (at-least _ 2 (λ l. p valueLawful (status-above-2 k l)));
       }
   grown (after-note k) = g
 

@@ -2,7 +2,6 @@
 use Prim.Native.Nat.{ℕ, _≤_}
 use mathlib.Core.Path.{_≡_}
 use mathlib.Core.Bool.{true}
-use mathlib.Core.Logic.{_⊎_}
 use Rattle.rules.specs.History.{History, tx, op, txCount, opCount}
 
 -- i is the number of an operation
@@ -17,6 +16,13 @@ pub record IsWrite (h : History) (x v i : ℕ) : Type 0 where
   pub of-key : op h i .key ≡ x
   pub of-value : op h i .value ≡ v
 
+-- c is the status of a transaction that is over, as its close says
+pub data Over (c : ℕ) : Type 0 where
+  says-aborted : c ≡ 0 → Over c
+  says-committed : c ≡ 1 → Over c
+  -- "Status 2 now means unanswered."
+  says-unanswered : c ≡ 2 → Over c
+
 -- t is the number of a transaction, 0 not among them
 pub record IsTx (h : History) (t : ℕ) : Type 0 where
   pub from : 1 ≤ t
@@ -30,5 +36,5 @@ pub record LawfulHistory (h : History) : Type 0 where
   pub not-zero : (x i : ℕ) → IsWrite h x 0 i → ⊥
   -- no two writes have the same key and value
   pub one-write : (x v i j : ℕ) → IsWrite h x v i → IsWrite h x v j → i ≡ j
-  -- each transaction aborted or committed: none is open
-  pub is-over : (t : ℕ) → IsTx h t → (tx h t .status ≡ 0) ⊎ (tx h t .status ≡ 1)
+  -- each transaction aborted, committed or unanswered: none is open
+  pub is-over : (t : ℕ) → IsTx h t → Over (tx h t .status)

@@ -101,10 +101,11 @@ pub data Misplaced (k : ℕ) (h : History) : Type 0 where
   close-outside : k ≡ 4 → (Inside h → ⊥) → Misplaced k h
   end-inside : k ≡ 5 → Inside h → Misplaced k h
 
--- "written value 0; status above 1; end number wrong", where v, c and n are the value, the status and the end number
+-- "written value 0; status above 1; end number wrong", where v, c and n are the value, the status and the end number;
+-- of the status document 02 says: "8 now begins at status 3"
 pub data Unlawful (k v c n : ℕ) (h : History) : Type 0 where
   written-0 : k ≡ 3 → v ≡ 0 → Unlawful k v c n h
-  status-above-1 : k ≡ 4 → 1 < c → Unlawful k v c n h
+  status-above-2 : k ≡ 4 → 2 < c → Unlawful k v c n h
   end-wrong : k ≡ 5 → (n ≡ txCount h → ⊥) → Unlawful k v c n h
 
 -- "128th open, or 1,025th operation"

@@ -96,7 +96,8 @@ fn take_close(h: &mut [u64], t: usize, status: u16) -> Next
     if t == 0 {
         return Next::Refuse(7);
     }
-    if 1 < status {
+    // "8 now begins at status 3"
+    if 2 < status {
         return Next::Refuse(8);
     }
     table::close_tx(h, t, status as u64);

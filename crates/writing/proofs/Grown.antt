@@ -40,7 +40,7 @@ module _ (h : History) where
   pub latest : 0 < current h → current h ≡ txCount h
   latest l = inside-current h (current-inside h l)
 
-  pub close-current : (c : ℕ) → 0 < current h → c ≤ 1 → current (closed h (current h) c) ≡ 0
+  pub close-current : (c : ℕ) → 0 < current h → c ≤ 2 → current (closed h (current h) c) ≡ 0
   close-current c l m =
       rw (latest l)
       (outside-current (closed h (txCount h) c)

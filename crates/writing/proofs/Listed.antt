@@ -11,7 +11,7 @@ use Rattle.rules.specs.Records.{eventAt}
 use Rattle.rules.specs.Reading.{State, Stretch, entered, reading, read}
 use Rattle.rules.specs.declared.Event.{Event}
 use Rattle.rules.specs.declared.Event.the-variants.{Open, Read, Write, Close}
-use Rattle.demand1.specs.Rows.{session, key, value, status, noteText, Passes, inPlace, valueLawful, withinLimit, newWrite, open-inside, read-outside, write-outside, close-outside, end-inside, written-0, status-above-1, open-128th, read-1025th, write-1025th, Next, after-open, after-read, after-write, after-close, after-note, Reaches, start, on, ReadInto, to-the-end}
+use Rattle.demand1.specs.Rows.{session, key, value, status, noteText, Passes, inPlace, valueLawful, withinLimit, newWrite, open-inside, read-outside, write-outside, close-outside, end-inside, written-0, status-above-2, open-128th, read-1025th, write-1025th, Next, after-open, after-read, after-write, after-close, after-note, Reaches, start, on, ReadInto, to-the-end}
 use Rattle.demand1.proofs.Histories.{inside-current, outside-current}
 use Rattle.demand1.proofs.Events.{Framed, passes-framed, open-event, read-event, write-event, close-event, at-least, below}
 use Rattle.demand1.proofs.Steps.{inside}
@@ -69,7 +69,7 @@ module _ (s : List ℕ) (st : State) (p : Passes s st) where
   stepped (after-close k) =
       let i = inside s st p (close-outside k) in
       let c = inside-current h i in
-      by-step (Close (status s (st .at))) (close-taken (omega (arith, c, i .0)) (at-least (status s (st .at)) 1 (λ l. p valueLawful (status-above-1 k l)))) (close-event f k) (rw c) refl
+      by-step (Close (status s (st .at))) (close-taken (omega (arith, c, i .0)) (at-least (status s (st .at)) 2 (λ l. p valueLawful (status-above-2 k l)))) (close-event f k) (rw c) refl
   stepped (after-note k) = by-note refl (λ e. omega (arith, ap length e, length-append (st .notes) (noteText s (st .at) ∷ [])))
 
 -- the history of a state that reading comes to

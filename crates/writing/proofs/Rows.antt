@@ -20,7 +20,7 @@ pub data Taken (h : History) : Event → Type 0 where
   open-taken : {s : ℕ} → current h ≡ 0 → txCount h < 127 → Taken h (Open s)
   read-taken : {x v : ℕ} → 0 < current h → opCount h < 1024 → Taken h (Read x v)
   write-taken : {x v : ℕ} → 0 < current h → 0 < v → opCount h < 1024 → writeOf h x v ≡ 0 → Taken h (Write x v)
-  close-taken : {c : ℕ} → 0 < current h → c ≤ 1 → Taken h (Close c)
+  close-taken : {c : ℕ} → 0 < current h → c ≤ 2 → Taken h (Close c)
 
 -- a number is 0 or not
 positive : {n : ℕ} → eqb n 0 ≡ false → 0 < n
@@ -68,7 +68,7 @@ of-rows h (Open s) n f = open-taken (let l = ltb-false 0 (current h) (f .row7) i
 of-rows h (Read x v) n f = read-taken (positive (f .row7)) (leb-false 1024 (opCount h) (f .row9))
 of-rows h (Write x v) n f =
     write-taken {x = x} {v = v} (positive (f .row7)) (positive (f .row8)) (leb-false 1024 (opCount h) (f .row9)) (let l = ltb-false 0 (writeOf h x v) (f .row10) in omega arith)
-of-rows h (Close c) n f = close-taken (positive (f .row7)) (ltb-false 1 c (f .row8))
+of-rows h (Close c) n f = close-taken (positive (f .row7)) (ltb-false 2 c (f .row8))
 of-rows h (End m) n f = absurd (true≢false n)
 of-rows h Note n f = absurd (true≢false n)
 of-rows h Other n f = absurd (true≢false n)
@@ -81,7 +81,7 @@ to-rows h (open-taken c l) =
 to-rows h (read-taken c l) = (refl, record { row7 = not-zero c; row8 = refl; row9 = lt-leb 1024 (opCount h) l; row10 = refl })
 to-rows h (write-taken {x} {v} c p l w) =
     (refl, record { row7 = not-zero c; row8 = not-zero p; row9 = lt-leb 1024 (opCount h) l; row10 = le-ltb 0 (writeOf h x v) (omega arith) })
-to-rows h (close-taken {c} p l) = (refl, record { row7 = not-zero p; row8 = le-ltb 1 c l; row9 = refl; row10 = refl })
+to-rows h (close-taken {c} p l) = (refl, record { row7 = not-zero p; row8 = le-ltb 2 c l; row9 = refl; row10 = refl })
 
 -- no row refuses a step exactly if it is taken
 pub taken : (h : History) (e : Event) → writeNo h e ≡ 0 → Taken h e

@@ -60,7 +60,7 @@ close-none : (h : History) (t : ℕ) → tx h t .status ≡ 3 → closeStep h t 
 unfolding closeStep isOpen
 close-none h t e = pick-on (eqb (tx h t .status) 3) [] (Close (tx h t .status) ∷ []) (eq-eqb (tx h t .status) 3 e)
 
-close-one : (h : History) (t c : ℕ) → tx h t .status ≡ c → c ≤ 1 → closeStep h t ≡ Close c ∷ []
+close-one : (h : History) (t c : ℕ) → tx h t .status ≡ c → c ≤ 2 → closeStep h t ≡ Close c ∷ []
 unfolding closeStep isOpen
 close-one h t c e l =
     pick-off (eqb (tx h t .status) 3) [] (Close (tx h t .status) ∷ []) (ne-eqb (tx h t .status) 3 (λ f. omega arith)) ∙ rw e
@@ -111,7 +111,7 @@ module _ (h : History) (r : OpsIn h) where
           ∙ rw (close-none (withOp h o) n (rw (with-op-tx h o n) is-open), with-op-tx h o n, ops-with h o n, pick-on (eqb (o .tx) n) (opStep o ∷ []) [] (eq-eqb (o .tx) n (e ∙ latest h l)), tx-steps h n, close-none h n is-open, append-nil (opSteps h n), append-nil (opSteps h n ++ (opStep o ∷ [])))
 
   -- it is closed
-  steps-close : (c : ℕ) → 0 < current h → c ≤ 1 → historySteps (closed h (current h) c) ≡ historySteps h ++ (Close c ∷ [])
+  steps-close : (c : ℕ) → 0 < current h → c ≤ 2 → historySteps (closed h (current h) c) ≡ historySteps h ++ (Close c ∷ [])
   steps-close c l m =
       rw (latest h l)
       (steps-more (closed h n c) h (Close c) first (close-count h n c)

@@ -8,7 +8,7 @@ use lib.ListN.{length, getD, take}
 use Rattle.base.specs.Base.{joined}
 use Rattle.rules.specs.Numbers.{bytes}
 use Rattle.rules.specs.History.{History}
-use Rattle.rules.specs.Traces.{whole, trace, opens, closes, ends, note, T, r, w, room}
+use Rattle.rules.specs.Traces.{whole, trace, opens, closes, ends, note, T, U, r, w, room}
 use Rattle.rules.specs.Cases.{Case, table}
 use Rattle.rules.specs.Edges.{closedState, openState, as-they-should}
 use Rattle.rules.specs.declared.Event.{Event}
@@ -92,13 +92,14 @@ writeTable =
     ∷ refuses (steps (Open 1 ∷ Close 1 ∷ Write 1 5 ∷ [])) 7 3
     ∷ refuses (steps (Close 1 ∷ [])) 7 1
     ∷ refuses (steps (Open 1 ∷ Write 1 5 ∷ [])) 7 3
-    -- 7, then 8: a write of 0 and a close with status 2, outside
+    -- 7, then 8: a write of 0 and a close with status 3, outside
     ∷ refuses (steps (Write 1 0 ∷ [])) 7 1
-    ∷ refuses (steps (Close 2 ∷ [])) 7 1
-    -- 8: a written 0; statuses 2 and 256
+    ∷ refuses (steps (Close 3 ∷ [])) 7 1
+    -- 8: a written 0; statuses 3 and 256, where "unanswered", 2, is written
     ∷ refuses (steps (Open 1 ∷ Write 1 0 ∷ [])) 8 2
-    ∷ refuses (steps (Open 1 ∷ Close 2 ∷ [])) 8 2
+    ∷ refuses (steps (Open 1 ∷ Close 3 ∷ [])) 8 2
     ∷ refuses (steps (Open 1 ∷ Close 256 ∷ [])) 8 2
+    ∷ writeCase (steps (Open 1 ∷ Write 1 5 ∷ Close 2 ∷ [])) 0 100 (filledIn 100 (whole 1 (U 1 (w 1 5 ∷ []))))
     -- 10: a repeated write, in one transaction and after an aborted one; another key or another value is none
     ∷ refuses (steps (Open 1 ∷ Write 1 5 ∷ Write 1 5 ∷ [])) 10 3
     ∷ refuses (steps (Open 1 ∷ Write 1 5 ∷ Close 0 ∷ Open 1 ∷ Write 1 5 ∷ [])) 10 5
@@ -182,6 +183,8 @@ listTable =
     -- notes are left out, and the serials follow the first
     ∷ listCase (trace 5 (note (7 ∷ []) ∷ opens 1 ∷ note [] ∷ closes 0 ∷ ends 1 ∷ [])) 40 (filledIn 40 (steps (Open 1 ∷ Close 0 ∷ [])))
     (filledIn 200 (trace 5 (opens 1 ∷ closes 0 ∷ ends 1 ∷ [])))
+    -- an unanswered close stays one
+    ∷ listCase (whole 1 (U 1 (w 1 5 ∷ []))) 48 (filledIn 48 (steps (Open 1 ∷ Write 1 5 ∷ Close 2 ∷ []))) (filledIn 200 (whole 1 (U 1 (w 1 5 ∷ []))))
     -- 2 to 11, with the trace's own places
     ∷ listCase [] 200 (refusedIn 200 3 0) (refusedIn 200 3 0)
     ∷ listCase (trace 0 (opens 1 ∷ ends 1 ∷ [])) 0 (refusedIn 0 7 10) (refusedIn 200 7 10)

@@ -89,7 +89,7 @@ module _ (es : List Event) (h : History) (x : SaidSoFar es h) where
       by (inside m front s q f) = inside (rw (op-current h o) m) front s (with-op-txs h o ∙ q) (f ∙ sym (silent statusSaid es e b))
 
   -- it is closed
-  said-close : (c : ℕ) → 0 < current h → c ≤ 1 → SaidSoFar (es ++ (Close c ∷ [])) (closed h (current h) c)
+  said-close : (c : ℕ) → 0 < current h → c ≤ 2 → SaidSoFar (es ++ (Close c ∷ [])) (closed h (current h) c)
   unfolding sessionSaid statusSaid opSaid
   said-close c l m = by (x .statuses)
     where

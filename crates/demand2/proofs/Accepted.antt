@@ -27,7 +27,7 @@ use Rattle.demand2.specs.Axiom.{Member, StrictTotal, Commits, SomeOrder,
 use Rattle.demand2.specs.Accepted.{CommittedCount, OrderWritten}
 use Rattle.base.proofs.Empty.{parts-none, those-none, joined-empty}
 use Rattle.demand2.proofs.Kind.{findings-iff}
-use Rattle.demand2.proofs.Pairs.{forces}
+use Rattle.demand2.proofs.Pairs.{member, in-members, forces}
 use Rattle.demand2.proofs.Axiom.{obeys-iff}
 
 -- ── listed pairs ──
@@ -81,18 +81,18 @@ module _ {h : History} (ok : LawfulHistory h) {level : ℕ} (low : 1 ≤ level) 
     λ s.
         let l = s .lists in
         record {
-          lists = λ i k. let m = l .are i k in (m .below, m .is-in);
+          lists = λ i k. let m = l .are i k in (m .below, in-members ok m);
           once = l .once;
-          has = λ a k c. l .all a (record { below = k; is-in = c });
+          has = λ a k c. l .all a (member ok c);
           first = l .zero-first;
           before = λ a b e. obeys-iff ok clean (StandsBefore o) low high (s .commits .order) .0 (s .commits .obeys) a b e .earlier;
         },
     λ w.
         let l : Lists h o =
         record {
-          are = λ i k. let m = w .lists i k in record { below = m .0; is-in = m .1 };
+          are = λ i k. member ok (w .lists i k .1);
           once = w .once;
-          all = λ a m. w .has a (m .below) (m .is-in);
+          all = λ a m. w .has a (m .below) (in-members ok m);
           zero-first = w .first;
         } in
         record {
@@ -138,10 +138,10 @@ module _ {h : History} (ok : LawfulHistory h) {level : ℕ} (low : 1 ≤ level) 
   shown-length {o} s = lawful-length (shows-iff o .0 s)
 
 -- the committed transactions are as many as are counted
-pub committed-number : (h : History) → CommittedCount h (count 0 (size h) (committed h))
-committed-number h =
+pub committed-number : {h : History} → LawfulHistory h → CommittedCount h (count 0 (size h) (committed h))
+committed-number {h} ok =
     number-those (committed h) 0 (size h)
-    (those-all-of (committed h) 0 (size h) (λ i. (λ m. (omega arith, m .below, m .is-in), λ a l t. record { below = l; is-in = t })))
+    (those-all-of (committed h) 0 (size h) (λ i. (λ m. (omega arith, m .below, in-members ok m), λ a l t. member ok t)))
 
 -- no other list is the first
 pub first-only : {h : History} {level : ℕ} {o q : List ℕ} → FirstShown h level o → FirstShown h level q → o ≡ q
@@ -209,7 +209,7 @@ module _ {h : History} (ok : LawfulHistory h) {level : ℕ} (low : 1 ≤ level) 
   -- with one entry a committed transaction
   pub order-number : isAccepted h level ≡ true → {n : ℕ} → CommittedCount h n → length (order h level) ≡ n
   order-number t c =
-      shown-length ok low high (accepted-iff .0 t .0) (order-first t .shows) ∙ number-one _<_ (λ i j a b. omega arith) (committed-number h) c
+      shown-length ok low high (accepted-iff .0 t .0) (order-first t .shows) ∙ number-one _<_ (λ i j a b. omega arith) (committed-number ok) c
 
 -- ── written ──
 

@@ -16,7 +16,7 @@ use Rattle.demand1.specs.Lawful.{LawfulHistory}
 use Rattle.demand2.specs.Kinds.{AllClean}
 use Rattle.demand2.specs.Axiom.{Writes, initially, later, SoWr, Causal, one, more, Sees, earlier, direct, causal, StrictTotal, Obeys}
 use Rattle.demand2.proofs.Kind.{wrote-at, at-wrote}
-use Rattle.demand2.proofs.Pairs.{source-is, external-reads, reads-external, reads-at, reads-is, so-apart, based-sowr, basic-is, basic-iff, leads-iff, settles-is, ForcedBy, is-basic, is-rival, forced-at}
+use Rattle.demand2.proofs.Pairs.{in-members, source-is, external-reads, reads-external, reads-at, reads-is, so-apart, based-sowr, basic-is, basic-iff, leads-iff, settles-is, ForcedBy, is-basic, is-rival, forced-at}
 
 -- the test for who writes a key is right
 pub writes-iff : (h : History) (t x : ℕ) → (writesKey h t x ≡ true) ↔ Writes h t x
@@ -66,7 +66,7 @@ module _ {h : History} (ok : LawfulHistory h) (clean : AllClean h) where
 
       sees-apart : {level t2 t3 i : ℕ} → Sees h t2 t3 i level → t2 ≡ t3 → ⊥
       sees-apart (earlier r l) e = r .other e
-      sees-apart (direct s) e = ⊎-elim (λ o. so-apart h _ _ o e) (λ w. w .reads .other e) s
+      sees-apart (direct s) e = ⊎-elim (λ o. so-apart o e) (λ w. w .reads .other e) s
       sees-apart (causal p) e = total .never _ (rw e at (causal-in p))
 
     -- what has every forced pair obeys the axiom
@@ -80,9 +80,9 @@ module _ {h : History} (ok : LawfulHistory h) (clean : AllClean h) where
               λ t1 t2 t3 x i d r m w s.
               has t2 t1
               (or-right _ _
-              (both _ _ (m .is-in)
+              (both _ _ (in-members ok m)
               (some-of (settles h level t2 t1) (opCount h + 1) 1 i (r .judged .from) (omega (arith, r .judged .to))
-              (settles-is
+              (settles-is ok
               (record {
                 external = reads-external ok (clean i (r .judged)) r;
                 source = source-is ok (r .source);

@@ -1,5 +1,5 @@
 -- Who counts is computed: the function is right, the set is the smallest, and the rule's "exactly if" holds of it.
-use Prim.Native.Nat.{ℕ, _+_, _<_}
+use Prim.Native.Nat.{ℕ, _+_, _<_, _≤_}
 use mathlib.Core.Path.{_≡_, refl, ap, sym, _∙_}
 use mathlib.Core.Bool.{true, false, not}
 use mathlib.Core.Logic.{⊎-elim, _↔_}
@@ -16,7 +16,7 @@ use Rattle.demand1.proofs.Checks.{write-found, write-known}
 use Rattle.demand2.specs.Counts.{ReadsValueOf, Counts, by-status, by-reader, ClosedUnder, Smallest, ExactlyIfRead}
 
 -- 0 has status 1, and no operation is number 0
-status-0 : (h : History) → tx h 0 .status ≡ 1
+pub status-0 : (h : History) → tx h 0 .status ≡ 1
 unfolding tx
 status-0 h = refl
 

@@ -17,6 +17,7 @@ use Rattle.rules.specs.Outcome.{findings}
 use Rattle.demand1.proofs.Checks.{write-found, write-known}
 use Rattle.base.proofs.Empty.{those-none}
 use Rattle.demand1.specs.Lawful.{IsWrite, LawfulHistory}
+use Rattle.demand2.proofs.Counts.{counts-iff, counts-not}
 use Rattle.demand2.specs.Kinds.{WriteIn, WriteOf, JudgedRead, Fits, thin-air, aborted, future, not-my-last, not-my-own, intermediate, HasKind, Clean, AllClean}
 
 -- ── writes ──
@@ -173,7 +174,7 @@ module _ (h : History) (i w u : ℕ) where
   abbrev test-6 : Bool
   test-6 = other and committed h u and wroteBetween h u (op h i .key) w (opCount h + 1)
 
-module _ {h : History} {i w u : ℕ} (o : Origin h i w u) (to : i ≤ opCount h) where
+module _ {h : History} (ok : LawfulHistory h) {i w u : ℕ} (o : Origin h i w u) (to : i ≤ opCount h) where
   -- a write that there is has a number; it is the read's own transaction's, or another's
   written-is : {u' w' : ℕ} → WriteOf h u' (op h i .key) (op h i .value) w' → not (eqb w 0) ≡ true
   written-is k = ap not (ne-eqb w 0 (λ z. omega (arith, o .only k .0, k .in-it .from)))
@@ -201,10 +202,10 @@ module _ {h : History} {i w u : ℕ} (o : Origin h i w u) (to : i ≤ opCount h)
       is (thin-air d n) = both _ _ (ap not (ne-eqb _ _ d)) (ap (λ b. not (not b)) (is-true (eqb w 0) (λ t. n u w (o .there (eqb-false w 0 t)))))
 
   row-2 : (test-2 h i w u ≡ true) ↔ Fits h i 2
-  row-2 = (λ e. let k = other-at (and-left _ _ e) in aborted (k .0) (k .1) (not-true _ (and-right _ _ e)), is)
+  row-2 = (λ e. let k = other-at (and-left _ _ e) in aborted (k .0) (k .1) (counts-not ok u .0 (not-true _ (and-right _ _ e))), is)
     where
       is : Fits h i 2 → test-2 h i w u ≡ true
-      is (aborted k d c) = both _ _ (other-is k d) (rw (o .only k .1) (ap not c))
+      is (aborted k d c) = both _ _ (other-is k d) (rw (o .only k .1) (ap not (counts-not ok _ .1 c)))
 
   row-3 : (test-3 h i w u ≡ true) ↔ Fits h i 3
   row-3 = (λ e. future (own-at (and-left _ _ e)) (ltb-true _ _ (and-right _ _ e)), is)
@@ -231,7 +232,7 @@ module _ {h : History} {i w u : ℕ} (o : Origin h i w u) (to : i ≤ opCount h)
     λ e.
         let s = wrote-at h _ _ 0 i (omega arith) (and-right _ _ e) in
         not-my-own
-        (⊎-elim (λ z. inl (eqb-true _ _ z)) (λ f. let k = other-at (and-left _ _ f) in inr (u, w, (k .0, k .1, and-right _ _ f)))
+        (⊎-elim (λ z. inl (eqb-true _ _ z)) (λ f. let k = other-at (and-left _ _ f) in inr (u, w, (k .0, k .1, counts-iff ok u .0 (and-right _ _ f))))
         (or-cases _ _ (and-left _ _ e)))
         (s .at, s .is, s .under),
     is,
@@ -241,7 +242,7 @@ module _ {h : History} {i w u : ℕ} (o : Origin h i w u) (to : i ≤ opCount h)
       is (not-my-own c b) =
           both _ _
           (⊎-elim (λ z. or-left _ _ (eq-eqb _ _ z))
-          (λ f. or-right _ _ (both _ _ (other-is (f .2 .0) (f .2 .1)) (rw (o .only (f .2 .0) .1) (f .2 .2)))) c)
+          (λ f. or-right _ _ (both _ _ (other-is (f .2 .0) (f .2 .1)) (rw (o .only (f .2 .0) .1) (counts-iff ok _ .1 (f .2 .2))))) c)
           (at-wrote (b .1) (omega (arith, b .1 .from)) (b .2))
 
   row-6 : (test-6 h i w u ≡ true) ↔ Fits h i 6
@@ -250,14 +251,14 @@ module _ {h : History} {i w u : ℕ} (o : Origin h i w u) (to : i ≤ opCount h)
         let f = and-left _ _ e in
         let k = other-at (and-left _ _ f) in
         let s = wrote-at h _ _ w (opCount h + 1) (omega arith) (and-right _ _ e) in
-        intermediate (k .0, k .1, and-right _ _ f) (s .is) (s .above),
+        intermediate (k .0, k .1, counts-iff ok u .0 (and-right _ _ f)) (s .is) (s .above),
     is,
   )
     where
       is : Fits h i 6 → test-6 h i w u ≡ true
       is (intermediate f j l) =
           let e = o .only (f .0) in
-          both _ _ (both _ _ (other-is (f .0) (f .1)) (rw (e .1) (f .2))) (at-wrote (rw (sym (e .1)) at j) (omega (arith, e .0)) (omega (arith, j .to)))
+          both _ _ (both _ _ (other-is (f .0) (f .1)) (rw (e .1) (counts-iff ok _ .1 (f .2)))) (at-wrote (rw (sym (e .1)) at j) (omega (arith, e .0)) (omega (arith, j .to)))
 
   -- so the kind is the first that fits
   kind-by : Firstly (Fits h i) 1 7 (kindBy h i (op h i .tx) (op h i .key) (op h i .value) w u)
@@ -278,7 +279,7 @@ fits-range (intermediate _ _ _) = (omega arith, omega arith)
 module _ {h : History} (ok : LawfulHistory h) {i : ℕ} (r : JudgedRead h i) where
   kind-first : Firstly (Fits h i) 1 7 (kindOf h i)
   unfolding kindOf
-  kind-first = kind-by (origin h i ok) (r .to)
+  kind-first = kind-by ok (origin h i ok) (r .to)
 
   -- a read has kind k exactly if that is the kind that is computed
   pub kind-iff : (k : ℕ) → (k ≡ 0 → ⊥) → (kindOf h i ≡ k) ↔ HasKind h i k
@@ -307,18 +308,18 @@ module _ {h : History} (ok : LawfulHistory h) {i : ℕ} (r : JudgedRead h i) whe
       is {m} (hit _ x _) c = absurd (c m x)
 
 -- the test for a judged read is right
-pub judged-iff : (h : History) {i : ℕ} → 1 ≤ i → i ≤ opCount h → (isJudged h i ≡ true) ↔ JudgedRead h i
+pub judged-iff : {h : History} → LawfulHistory h → {i : ℕ} → 1 ≤ i → i ≤ opCount h → (isJudged h i ≡ true) ↔ JudgedRead h i
 unfolding isJudged
-judged-iff h a b = (
-  λ e. record { from = a; to = b; is-read = not-true _ (and-left _ _ e); in-committed = and-right _ _ e },
-  λ r. both _ _ (ap not (r .is-read)) (r .in-committed),
+judged-iff ok a b = (
+  λ e. record { from = a; to = b; is-read = not-true _ (and-left _ _ e); in-committed = counts-iff ok _ .0 (and-right _ _ e) },
+  λ r. both _ _ (ap not (r .is-read)) (counts-iff ok _ .1 (r .in-committed)),
 )
 
 -- what is judged and is no finding has kind 0
-unfound : {h : History} {i : ℕ} → JudgedRead h i → isFinding h i ≡ false → kindOf h i ≡ 0
+unfound : {h : History} → LawfulHistory h → {i : ℕ} → JudgedRead h i → isFinding h i ≡ false → kindOf h i ≡ 0
 unfolding isFinding
-unfound {h} {i} r f =
-    ifso (ltb 0 (kindOf h i)) (λ t. absurd (clash (both _ _ (judged-iff h (r .from) (r .to) .1 r) t) f))
+unfound {h} ok {i} r f =
+    ifso (ltb 0 (kindOf h i)) (λ t. absurd (clash (both _ _ (judged-iff ok (r .from) (r .to) .1 r) t) f))
     (λ t. omega (arith, ltb-false 0 (kindOf h i) t))
 
 -- a finding is a judged read that is not clean
@@ -327,10 +328,10 @@ pub finding-iff : {h : History} → LawfulHistory h → {i : ℕ} → 1 ≤ i �
 unfolding isFinding
 finding-iff {h} ok {i} a b = (
   λ e.
-      let r = judged-iff h a b .0 (and-left _ _ e) in
+      let r = judged-iff ok a b .0 (and-left _ _ e) in
       (r, λ c. omega (arith, ltb-true 0 (kindOf h i) (and-right _ _ e), clean-iff ok r .1 c)),
   λ f.
-      both _ _ (judged-iff h a b .1 (f .0))
+      both _ _ (judged-iff ok a b .1 (f .0))
       (is-true _ (λ t. f .1 (clean-iff ok (f .0) .0 (omega (arith, ltb-false 0 (kindOf h i) t))))),
 )
 
@@ -338,6 +339,6 @@ finding-iff {h} ok {i} a b = (
 pub findings-iff : {h : History} → LawfulHistory h → (findings h ≡ []) ↔ AllClean h
 unfolding findings
 findings-iff {h} ok = (
-  λ e i r. clean-iff ok r .0 (unfound r (those-none (isFinding h) 1 (opCount h + 1) .0 e i (r .from) (omega (arith, r .to)))),
+  λ e i r. clean-iff ok r .0 (unfound ok r (those-none (isFinding h) 1 (opCount h + 1) .0 e i (r .from) (omega (arith, r .to)))),
   λ c. those-none (isFinding h) 1 (opCount h + 1) .1 (λ i a b. is-false _ (λ t. let f = finding-iff ok a (omega arith) .0 t in f .1 (c i (f .0)))),
 )

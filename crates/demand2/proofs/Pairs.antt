@@ -3,42 +3,41 @@ use Prim.Native.Nat.{ℕ, _+_, _≤_}
 use mathlib.Core.Path.{_≡_, refl, ap, sym, _∙_}
 use mathlib.Core.Bool.{true, false, not}
 use mathlib.Core.Logic.{inl, inr, ⊎-elim, _↔_}
-use mathlib.Core.List.{_∷_}
 use native.Mathlib.Omega.{arith}
 use lib.Dec.{eqb}
-use lib.ListN.{List·getD-eq-default}
 use borrow.Author.Tests.{eqb-true, eqb-false, eq-eqb, ne-eqb, ltb-true, lt-ltb}
 use Rattle.base.specs.Base.{_or_, some}
-use Rattle.base.proofs.Tests.{ifso, clash, is-true, not-true, both, and-left, and-right, or-cases, or-left, or-right, split}
+use Rattle.base.proofs.Tests.{ifso, is-true, not-true, both, and-left, and-right, or-cases, or-left, or-right}
 use Rattle.base.proofs.Searches.{some-at, some-of}
 use Rattle.theory.specs.Leads.{Leads, step, then}
 use Rattle.theory.specs.Order.{Forces}
 use Rattle.theory.proofs.Leads.{via-leads, leads-via}
-use Rattle.rules.specs.History.{History, Tx, tx, op, opCount, size, committed, zeroth, noTx}
+use Rattle.rules.specs.History.{History, op, opCount, size, committed}
 use Rattle.rules.specs.Reads.{originOf, sourceOf, kindOf, isExternal, readsFrom}
 use Rattle.rules.specs.Levels.{isStart, isSession, isRead, basic, leads, writesKey, sees, settles, isRival, forced}
+use Rattle.rules.proofs.Committed.{committed-0}
 use Rattle.demand1.specs.Lawful.{LawfulHistory}
+use Rattle.demand2.specs.Counts.{Counts, by-status}
 use Rattle.demand2.specs.Kinds.{JudgedRead, thin-air, aborted, Clean, AllClean}
 use Rattle.demand2.specs.Axiom.{Member, SO, from-0, in-session, Source, initial, written, ReadFrom, SoWr, Causal, one, more}
+use Rattle.demand2.proofs.Counts.{status-0, counts-iff, counts-below, counts-stable}
 use Rattle.demand2.proofs.Kind.{origin, origin-zero, judged-iff, clean-iff}
 
 -- ── members ──
 
--- 0 is committed, and no number past the last transaction's is
-pub committed-0 : (h : History) → committed h 0 ≡ true
-unfolding committed tx
-committed-0 h = refl
-
-past : (h : History) (a : ℕ) → size h ≤ a → committed h a ≡ false
-unfolding committed tx
-past h a g = ap (λ (x : Tx). eqb (x .status) 1) (List·getD-eq-default (zeroth ∷ h .txs) noTx {n = a} (omega arith))
-
--- what is committed is a member
-pub member : (h : History) (a : ℕ) → committed h a ≡ true → Member h a
-member h a c = record { below = ⊎-elim (λ l. l) (λ g. absurd (clash c (past h a g))) (split a (size h)); is-in = c }
-
 pub member-0 : (h : History) → Member h 0
-member-0 h = member h 0 (committed-0 h)
+member-0 h = record { below = omega arith; is-in = by-status (status-0 h) }
+
+module _ {h : History} (ok : LawfulHistory h) where
+  counts-member : {a : ℕ} → Counts h a → Member h a
+  counts-member c = record { below = counts-below ok c; is-in = c }
+
+  -- the test for a member is right
+  pub member : {a : ℕ} → committed h a ≡ true → Member h a
+  member {a} c = counts-member (counts-iff ok a .0 c)
+
+  pub in-members : {a : ℕ} → Member h a → committed h a ≡ true
+  in-members {a} m = counts-iff ok a .1 (m .is-in)
 
 -- ── clean external reads ──
 
@@ -48,20 +47,20 @@ pub record External (h : History) (i : ℕ) : Type 0 where
   pub kind-0 : kindOf h i ≡ 0
   pub other : sourceOf h i ≡ op h i .tx → ⊥
 
-pub external-at : (h : History) (i : ℕ) → 1 ≤ i → i ≤ opCount h → isExternal h i ≡ true → External h i
+pub external-at : {h : History} → LawfulHistory h → {i : ℕ} → 1 ≤ i → i ≤ opCount h → isExternal h i ≡ true → External h i
 unfolding isExternal
-external-at h i a b e =
+external-at ok a b e =
     let f = and-left _ _ e in
     record {
-      judged = judged-iff h a b .0 (and-left _ _ f);
+      judged = judged-iff ok a b .0 (and-left _ _ f);
       kind-0 = eqb-true _ _ (and-right _ _ f);
       other = eqb-false _ _ (not-true _ (and-right _ _ e));
     }
 
-pub external-is : {h : History} {i : ℕ} → External h i → isExternal h i ≡ true
+pub external-is : {h : History} → LawfulHistory h → {i : ℕ} → External h i → isExternal h i ≡ true
 unfolding isExternal
-external-is {h} x =
-    both _ _ (both _ _ (judged-iff h (x .judged .from) (x .judged .to) .1 (x .judged)) (eq-eqb _ _ (x .kind-0))) (ap not (ne-eqb _ _ (x .other)))
+external-is ok x =
+    both _ _ (both _ _ (judged-iff ok (x .judged .from) (x .judged .to) .1 (x .judged)) (eq-eqb _ _ (x .kind-0))) (ap not (ne-eqb _ _ (x .other)))
 
 module _ {h : History} (ok : LawfulHistory h) where
   -- the source of a clean read is the one that is computed
@@ -106,28 +105,28 @@ module _ {h : History} (ok : LawfulHistory h) {t1 t3 i : ℕ} where
   unfolding readsFrom
   reads-at a b e =
       let f = and-left _ _ e in
-      let x = external-at h i a b (and-left _ _ f) in
+      let x = external-at ok a b (and-left _ _ f) in
       record { clean = clean-iff ok (x .judged) .0 (x .kind-0); reads = external-reads ok x (eqb-true _ _ (and-right _ _ f)) (eqb-true _ _ (and-right _ _ e)) }
 
   pub reads-is : {x : ℕ} → Clean h i → ReadFrom h t1 t3 x i → readsFrom h t3 t1 i ≡ true
   unfolding readsFrom
-  reads-is c r = both _ _ (both _ _ (external-is (reads-external ok c r)) (eq-eqb _ _ (r .in-tx))) (eq-eqb _ _ (source-is ok (r .source)))
+  reads-is c r = both _ _ (both _ _ (external-is ok (reads-external ok c r)) (eq-eqb _ _ (r .in-tx))) (eq-eqb _ _ (source-is ok (r .source)))
 
-module _ {h : History} {t1 t3 x i : ℕ} (r : ReadFrom h t1 t3 x i) where
+module _ {h : History} (ok : LawfulHistory h) {t1 t3 x i : ℕ} (r : ReadFrom h t1 t3 x i) where
   -- both transactions of a clean read are committed
   pub reader-member : Member h t3
-  reader-member = member h t3 (rw (r .in-tx) at (r .judged .in-committed))
+  reader-member = counts-member ok (rw (r .in-tx) at (r .judged .in-committed))
 
   pub source-member : Clean h i → Member h t1
   source-member c = go (r .source)
     where
       go : Source h i t1 → Member h t1
       go (initial z e) = rw e (member-0 h)
-      go (written k) = member h t1 (is-true _ (λ a. c 2 (aborted k (λ e. r .other (e ∙ r .in-tx)) a)))
+      go (written k) = counts-member ok (counts-stable ok t1 (λ a. c 2 (aborted k (λ e. r .other (e ∙ r .in-tx)) a)))
 
 -- ── basic pairs ──
 
-module _ (h : History) (a b : ℕ) where
+module _ {h : History} (ok : LawfulHistory h) (a b : ℕ) where
   -- the tests for session order are right
   so-at : isStart h a b or isSession h a b ≡ true → SO h a b
   unfolding isStart isSession
@@ -135,21 +134,22 @@ module _ (h : History) (a b : ℕ) where
       ⊎-elim
       (λ s.
       let f = and-left _ _ s in
-      from-0 (eqb-true _ _ (and-left _ _ f)) (ltb-true _ _ (and-right _ _ f)) (member h b (and-right _ _ s)))
+      from-0 (eqb-true _ _ (and-left _ _ f)) (ltb-true _ _ (and-right _ _ f)) (member ok (and-right _ _ s)))
       (λ s.
       let f = and-left _ _ s in
       let g = and-left _ _ f in
       let k = and-left _ _ g in
-      in-session (ltb-true _ _ (and-left _ _ k)) (ltb-true _ _ (and-right _ _ k)) (member h a (and-right _ _ g)) (member h b (and-right _ _ f)) (eqb-true _ _ (and-right _ _ s)))
+      in-session (ltb-true _ _ (and-left _ _ k)) (ltb-true _ _ (and-right _ _ k)) (member ok (and-right _ _ g)) (member ok (and-right _ _ f)) (eqb-true _ _ (and-right _ _ s)))
       (or-cases _ _ e)
 
   so-is : SO h a b → isStart h a b or isSession h a b ≡ true
   unfolding isStart isSession
-  so-is (from-0 e l m) = or-left _ _ (both _ _ (both _ _ (eq-eqb _ _ e) (lt-ltb _ _ l)) (m .is-in))
+  so-is (from-0 e l m) = or-left _ _ (both _ _ (both _ _ (eq-eqb _ _ e) (lt-ltb _ _ l)) (in-members ok m))
   so-is (in-session l k m n e) =
-      or-right _ _ (both _ _ (both _ _ (both _ _ (both _ _ (lt-ltb _ _ l) (lt-ltb _ _ k)) (m .is-in)) (n .is-in)) (eq-eqb _ _ e))
+      or-right _ _ (both _ _ (both _ _ (both _ _ (both _ _ (lt-ltb _ _ l) (lt-ltb _ _ k)) (in-members ok m)) (in-members ok n)) (eq-eqb _ _ e))
 
-  so-members : SO h a b → Member h a × Member h b
+module _ {h : History} {a b : ℕ} where
+  pub so-members : SO h a b → Member h a × Member h b
   so-members (from-0 e l m) = (rw e (member-0 h), m)
   so-members (in-session l k m n e) = (m, n)
 
@@ -163,12 +163,12 @@ pub data Based (h : History) (a b : ℕ) : Type 0 where
   by-read : {i : ℕ} → CleanFrom h a b i → Based h a b
 
 -- it is of two different committed transactions, and in SO ∪ WR
-pub based-members : {h : History} {a b : ℕ} → Based h a b → Member h a × Member h b
-based-members (by-so s) = so-members _ _ _ s
-based-members (by-read r) = (source-member (r .reads) (r .clean), reader-member (r .reads))
+pub based-members : {h : History} → LawfulHistory h → {a b : ℕ} → Based h a b → Member h a × Member h b
+based-members ok (by-so s) = so-members s
+based-members ok (by-read r) = (source-member ok (r .reads) (r .clean), reader-member ok (r .reads))
 
 pub based-apart : {h : History} {a b : ℕ} → Based h a b → a ≡ b → ⊥
-based-apart (by-so s) = so-apart _ _ _ s
+based-apart (by-so s) = so-apart s
 based-apart (by-read r) = r .reads .other
 
 pub based-sowr : {h : History} {a b : ℕ} → Based h a b → SoWr h a b
@@ -180,7 +180,7 @@ module _ {h : History} (ok : LawfulHistory h) where
   pub basic-at : {a b : ℕ} → basic h a b ≡ true → Based h a b
   unfolding basic isRead
   basic-at {a} {b} e =
-      ⊎-elim (λ s. by-so (so-at h a b s))
+      ⊎-elim (λ s. by-so (so-at ok a b s))
       (λ s. let r = some-at (readsFrom h b a) (opCount h + 1) 1 s in by-read (reads-at ok (r .from) (omega (arith, r .to)) (r .passes)))
       (or-cases _ _ e)
 
@@ -188,7 +188,7 @@ module _ {h : History} (ok : LawfulHistory h) where
     pub basic-is : {a b : ℕ} → SoWr h a b → basic h a b ≡ true
     unfolding basic isRead
     basic-is {a} {b} =
-        ⊎-elim (λ s. or-left _ _ (so-is h a b s))
+        ⊎-elim (λ s. or-left _ _ (so-is ok a b s))
         (λ w.
         let r = w .reads in
         let j = r .judged in
@@ -211,7 +211,7 @@ module _ {h : History} (ok : LawfulHistory h) where
     unfolding leads
     leads-iff a b = (
       λ e. leads-causal (via-leads (basic h) (size h) a b e),
-      λ p. leads-via (basic h) (size h) (λ x y e. based-members (basic-at {a = x} {b = y} e) .1 .below) (causal-leads p),
+      λ p. leads-via (basic h) (size h) (λ x y e. based-members ok (basic-at {a = x} {b = y} e) .1 .below) (causal-leads p),
     )
 
 -- ── forced pairs ──
@@ -225,15 +225,15 @@ pub record Settles (h : History) (level t2 t1 i : ℕ) : Type 0 where
   pub writer : writesKey h t2 (op h i .key) ≡ true
   pub seen : sees h level t2 (op h i .tx) i ≡ true
 
-pub settles-at : (h : History) (level t2 t1 i : ℕ) → 1 ≤ i → i ≤ opCount h → settles h level t2 t1 i ≡ true → Settles h level t2 t1 i
+pub settles-at : {h : History} → LawfulHistory h → (level t2 t1 i : ℕ) → 1 ≤ i → i ≤ opCount h → settles h level t2 t1 i ≡ true → Settles h level t2 t1 i
 unfolding settles
-settles-at h level t2 t1 i a b e =
+settles-at ok level t2 t1 i a b e =
     let f = and-left _ _ e in
     let g = and-left _ _ f in
     let k = and-left _ _ g in
     let l = and-left _ _ k in
     record {
-      external = external-at h i a b (and-left _ _ l);
+      external = external-at ok a b (and-left _ _ l);
       source = eqb-true _ _ (and-right _ _ l);
       not-source = eqb-false _ _ (not-true _ (and-right _ _ k));
       not-reader = eqb-false _ _ (not-true _ (and-right _ _ g));
@@ -241,12 +241,12 @@ settles-at h level t2 t1 i a b e =
       seen = and-right _ _ e;
     }
 
-pub settles-is : {h : History} {level t2 t1 i : ℕ} → Settles h level t2 t1 i → settles h level t2 t1 i ≡ true
+pub settles-is : {h : History} → LawfulHistory h → {level t2 t1 i : ℕ} → Settles h level t2 t1 i → settles h level t2 t1 i ≡ true
 unfolding settles
-settles-is s =
+settles-is ok s =
     both _ _
     (both _ _
-    (both _ _ (both _ _ (both _ _ (external-is (s .external)) (eq-eqb _ _ (s .source))) (ap not (ne-eqb _ _ (s .not-source)))) (ap not (ne-eqb _ _ (s .not-reader))))
+    (both _ _ (both _ _ (both _ _ (external-is ok (s .external)) (eq-eqb _ _ (s .source))) (ap not (ne-eqb _ _ (s .not-source)))) (ap not (ne-eqb _ _ (s .not-reader))))
     (s .writer))
     (s .seen)
 
@@ -263,15 +263,15 @@ module _ {h : History} (ok : LawfulHistory h) (level : ℕ) where
       ⊎-elim (λ s. is-basic (basic-at ok s))
       (λ s.
       let r = some-at (settles h level a b) (opCount h + 1) 1 (and-right _ _ s) in
-      is-rival (member h a (and-left _ _ s)) (settles-at h level a b (r .at) (r .from) (omega (arith, r .to)) (r .passes)))
+      is-rival (member ok (and-left _ _ s)) (settles-at ok level a b (r .at) (r .from) (omega (arith, r .to)) (r .passes)))
       (or-cases _ _ e)
 
   -- forced pairs are of two different committed transactions
   forced-members : {a b : ℕ} → ForcedBy h level a b → Member h a × Member h b
-  forced-members (is-basic s) = based-members s
+  forced-members (is-basic s) = based-members ok s
   forced-members (is-rival m s) =
       let x = s .external in
-      (m, source-member (external-reads ok x refl (s .source)) (clean-iff ok (x .judged) .0 (x .kind-0)))
+      (m, source-member ok (external-reads ok x refl (s .source)) (clean-iff ok (x .judged) .0 (x .kind-0)))
 
   forced-differ : {a b : ℕ} → ForcedBy h level a b → a ≡ b → ⊥
   forced-differ (is-basic s) = based-apart s
@@ -283,7 +283,7 @@ module _ {h : History} (ok : LawfulHistory h) (level : ℕ) where
   -- 0 before every other
   forced-start : (b : ℕ) → Member h b → (b ≡ 0 → ⊥) → forced h level 0 b ≡ true
   unfolding forced basic
-  forced-start b m d = or-left _ _ (or-left _ _ (so-is h 0 b (from-0 refl (omega arith) m)))
+  forced-start b m d = or-left _ _ (or-left _ _ (so-is ok 0 b (from-0 refl (omega arith) m)))
 
   -- so they are such as the theorems on orders ask for
   pub forces : Forces (size h) (committed h) (forced h level)
@@ -291,7 +291,7 @@ module _ {h : History} (ok : LawfulHistory h) (level : ℕ) where
       record {
         some = omega arith;
         zero-in = committed-0 h;
-        first-in = λ a b e. let m = forced-members (forced-at a b e) .0 in (m .below, m .is-in);
-        second-in = λ a b e. let m = forced-members (forced-at a b e) .1 in (m .below, m .is-in);
-        start = λ b l m d. forced-start b (member h b m) d;
+        first-in = λ a b e. let m = forced-members (forced-at a b e) .0 in (m .below, in-members ok m);
+        second-in = λ a b e. let m = forced-members (forced-at a b e) .1 in (m .below, in-members ok m);
+        start = λ b l m d. forced-start b (member ok m) d;
       }

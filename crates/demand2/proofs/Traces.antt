@@ -51,7 +51,7 @@ module _ (s : List ℕ) (level : ℕ) (fs ps os : List ℕ) where
             history = h;
             notes = notes;
             reads = i;
-            accepts = record { clean = x .0; ordered = x .1; each = rw (q, order-number ok a b t (committed-number h)) (committed-number h); fits = omega arith };
+            accepts = record { clean = x .0; ordered = x .1; each = rw (q, order-number ok a b t (committed-number ok)) (committed-number ok); fits = omega arith };
           }
 
   -- and then its first commit order is written, and nothing else

@@ -16,7 +16,7 @@ use Rattle.rules.specs.Reads.{readsFrom}
 use Rattle.rules.specs.Levels.{isStart, isSession, isRead, basic, leads, sees, settles, isRival, forced, reasons}
 use Rattle.demand1.specs.Lawful.{LawfulHistory}
 use Rattle.demand2.proofs.Kind.{clean-iff}
-use Rattle.demand2.proofs.Pairs.{member, source-is, external-reads, reads-external, reads-at, reads-is, based-members, basic-at, settles-at, settles-is}
+use Rattle.demand2.proofs.Pairs.{member, in-members, source-is, external-reads, reads-external, reads-at, reads-is, based-members, basic-at, settles-at, settles-is}
 use Rattle.demand2.proofs.Axiom.{writes-iff}
 use Rattle.demand3.specs.Forced.{Way, one, more, CleanRead, Basic, start, session, read, IsBasic, Knows, earlier, direct, led, Forced, always, rival, IsForced, Adds, holds, fails, Reasons}
 
@@ -48,10 +48,10 @@ module _ {h : History} (ok : LawfulHistory h) where
     -- "start"
     start-iff : (isStart h a b ≡ true) ↔ Basic h a b 1
     unfolding isStart
-    start-iff = (λ e. let f = and-left _ _ e in start (eqb-true _ _ (and-left _ _ f)) (ltb-true _ _ (and-right _ _ f)) (member h b (and-right _ _ e)), is)
+    start-iff = (λ e. let f = and-left _ _ e in start (eqb-true _ _ (and-left _ _ f)) (ltb-true _ _ (and-right _ _ f)) (member ok (and-right _ _ e)), is)
       where
         is : Basic h a b 1 → isStart h a b ≡ true
-        is (start e l m) = both _ _ (both _ _ (eq-eqb _ _ e) (lt-ltb _ _ l)) (m .is-in)
+        is (start e l m) = both _ _ (both _ _ (eq-eqb _ _ e) (lt-ltb _ _ l)) (in-members ok m)
 
     -- "session"
     session-iff : (isSession h a b ≡ true) ↔ Basic h a b 2
@@ -61,12 +61,12 @@ module _ {h : History} (ok : LawfulHistory h) where
           let f = and-left _ _ e in
           let g = and-left _ _ f in
           let k = and-left _ _ g in
-          session (ltb-true _ _ (and-left _ _ k)) (ltb-true _ _ (and-right _ _ k)) (member h a (and-right _ _ g)) (member h b (and-right _ _ f)) (eqb-true _ _ (and-right _ _ e)),
+          session (ltb-true _ _ (and-left _ _ k)) (ltb-true _ _ (and-right _ _ k)) (member ok (and-right _ _ g)) (member ok (and-right _ _ f)) (eqb-true _ _ (and-right _ _ e)),
       is,
     )
       where
         is : Basic h a b 2 → isSession h a b ≡ true
-        is (session l k m n e) = both _ _ (both _ _ (both _ _ (both _ _ (lt-ltb _ _ l) (lt-ltb _ _ k)) (m .is-in)) (n .is-in)) (eq-eqb _ _ e)
+        is (session l k m n e) = both _ _ (both _ _ (both _ _ (both _ _ (lt-ltb _ _ l) (lt-ltb _ _ k)) (in-members ok m)) (in-members ok n)) (eq-eqb _ _ e)
 
     -- "read"
     read-iff : (isRead h a b ≡ true) ↔ Basic h a b 4
@@ -94,7 +94,7 @@ module _ {h : History} (ok : LawfulHistory h) where
   unfolding leads
   basic-way-iff a b = (
     λ e. leads-way basic-pair-iff (via-leads (basic h) (size h) a b e),
-    λ w. leads-via (basic h) (size h) (λ x y e. based-members (basic-at ok {a = x} {b = y} e) .1 .below) (way-leads basic-pair-iff w),
+    λ w. leads-via (basic h) (size h) (λ x y e. based-members ok (basic-at ok {a = x} {b = y} e) .1 .below) (way-leads basic-pair-iff w),
   )
 
   -- ── rivals ──
@@ -128,9 +128,9 @@ module _ {h : History} (ok : LawfulHistory h) where
     rival-iff = (
       λ e.
           let q = some-at (settles h level a b) (opCount h + 1) 1 (and-right _ _ e) in
-          let s = settles-at h level a b (q .at) (q .from) (omega (arith, q .to)) (q .passes) in
+          let s = settles-at ok level a b (q .at) (q .from) (omega (arith, q .to)) (q .passes) in
           let x = s .external in
-          rival (record { clean = clean-iff ok (x .judged) .0 (x .kind-0); reads = external-reads ok x refl (s .source) }) (member h a (and-left _ _ e))
+          rival (record { clean = clean-iff ok (x .judged) .0 (x .kind-0); reads = external-reads ok x refl (s .source) }) (member ok (and-left _ _ e))
           (writes-iff h a (op h (q .at) .key) .0 (s .writer)) (s .not-source) (s .not-reader)
           (knows-at low high a (op h (q .at) .tx) (q .at) (x .judged .to) (s .seen)),
       is,
@@ -140,9 +140,9 @@ module _ {h : History} (ok : LawfulHistory h) where
         is (always x) = elim x [ ]
         is (rival {x = x} {i = i} r m w d c k) =
             let j = r .reads in
-            both _ _ (m .is-in)
+            both _ _ (in-members ok m)
             (some-of (settles h level a b) (opCount h + 1) 1 i (j .judged .from) (omega (arith, j .judged .to))
-            (settles-is
+            (settles-is ok
             (record {
               external = reads-external ok (r .clean) j;
               source = source-is ok (j .source);

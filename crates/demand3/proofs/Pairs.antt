@@ -17,7 +17,7 @@ use Rattle.rules.specs.Outcome.{Pair, pairsOf, pairs}
 use Rattle.demand1.specs.Lawful.{LawfulHistory}
 use Rattle.demand2.specs.Kinds.{AllClean}
 use Rattle.demand2.specs.Axiom.{Member, HasOrder}
-use Rattle.demand2.proofs.Pairs.{forced-apart, forces}
+use Rattle.demand2.proofs.Pairs.{member, forced-apart, forces}
 use Rattle.demand2.proofs.Accepted.{pairs-iff, empty-pairs-iff}
 use Rattle.demand3.specs.Forced.{Way, one, more, IsForced, ListedPair}
 use Rattle.demand3.specs.Lists.{PairBefore, by-first, by-second, Pairs}
@@ -72,9 +72,7 @@ module _ {h : History} (ok : LawfulHistory h) {level : ℕ} (low : 1 ≤ level) 
   listed-members {a} {b} l =
       let f = forces ok level in
       let e = forced-iff ok low high a b .1 (l .forced) in
-      let m = f .first-in a b e in
-      let n = f .second-in a b e in
-      (record { below = m .0; is-in = m .1 }, record { below = n .0; is-in = n .1 })
+      (member ok (f .first-in a b e .1), member ok (f .second-in a b e .1))
 
   -- not of one and the same
   pub listed-apart : {a b : ℕ} → ListedPair h level a b → a ≡ b → ⊥

@@ -59,7 +59,7 @@ module _ (s : List ℕ) (level : ℕ) (fs ps os : List ℕ) where
       let i = reads-iff s h notes .0 r in
       let ok = lawful-history i in
       let x = accepted-iff ok a b .0 t in
-      let c = committed-number h in
+      let c = committed-number ok in
       let e = order-number ok a b t c in
       rw e (refused (order-short a b i (x .0) (x .1) c (omega arith)))
   borne (came-rejected a b r t g k) = given 0 refl

@@ -1,8 +1,7 @@
 -- The whole call: a trace that is refused, and one that was read.
-use Prim.Native.Nat.{ℕ, _≤_}
+use Prim.Native.Nat.{ℕ}
 use mathlib.Core.Path.{_≡_}
 use mathlib.Core.List.{List}
-use mathlib.Core.Logic.{⊎-elim}
 use native.Mathlib.Omega.{arith}
 use lib.ListN.{length}
 use borrow.Author.Tests.{ne-eqb}
@@ -10,7 +9,7 @@ use Rattle.base.proofs.Fill.{Appended}
 use Rattle.rules.specs.History.{History, tx, isOpen}
 use Rattle.rules.specs.Reading.{Stretch, read, reading}
 use Rattle.demand1.proofs.Readings.{reads-iff}
-use Rattle.demand1.proofs.Lawful.{lawful-history}
+use Rattle.demand1.proofs.Lawful.{over-most, lawful-history}
 use Rattle.table.specs.Table.{historyOf}
 use Rattle.trace.specs.declared.Out.{Out}
 use Rattle.trace.specs.declared.Out.the-variants.{Good, Bad}
@@ -34,9 +33,7 @@ unfolding isOpen
 listable s {h} {notes} e =
     let w = lawful-history (reads-iff s h notes .0 e) in
     record {
-      none-open = λ t a b.
-          let l : tx h t .status ≤ 1 = ⊎-elim (λ z. omega arith) (λ z. omega arith) (w .is-over t (record { from = a; to = b })) in
-          ne-eqb (tx h t .status) 3 (λ i. omega arith);
+      none-open = λ t a b. ne-eqb (tx h t .status) 3 (λ i. omega (arith, over-most (w .is-over t (record { from = a; to = b }))));
       long = listing-length s h notes e;
     }
 

@@ -1,1 +1,5 @@
 pub mod Chosen
+pub mod Agree
+pub mod Turns
+pub mod Replaced
+pub mod Bytes

@@ -1,140 +1,123 @@
--- The trace with each status 2 replaced by the chosen one is read into the history with the chosen outcomes, and one that is refused stays refused.
+-- The trace with each status 2 replaced by the chosen one: it is what the condition says and nothing else is, and it is read into the history with the
+-- chosen outcomes. A refused trace stays refused, with the same number and place.
 use Prim.Native.Nat.{ℕ, zero, suc, _+_, _<_, _≤_}
 use mathlib.Core.Path.{_≡_, refl, ap, sym, _∙_}
-use mathlib.Core.Bool.{Bool, true, false}
+use mathlib.Core.Bool.{Bool, false}
 use mathlib.Core.List.{List}
 use native.Mathlib.Omega.{arith}
 use native.Mathlib.Numerals.{add-one}
 use lib.Dec.{ltb}
 use lib.ListN.{length, getD}
 use lib.Seq.{ext-getD}
-use Rattle.base.specs.Base.{pick, numbered}
-use Rattle.base.proofs.Tests.{ifso, pick-of}
-use Rattle.rules.specs.Numbers.{le}
-use Rattle.rules.specs.History.{current}
-use Rattle.rules.specs.Records.{eventAt, nextAt}
-use Rattle.rules.specs.Reading.{State, begin, eventIn, refusalNo, isEnd, after, Reading, refused, finished, walk, reading}
-use Rattle.rules.specs.declared.Event.{Event}
-use Rattle.rules.specs.declared.Event.the-variants.{Close}
-use Rattle.demand1.specs.Rows.{len, kind, status, close-not-7, Passes}
-use Rattle.demand1.proofs.Events.{Framed, passes-framed, close-event, exactly}
-use Rattle.demand1.proofs.Steps.{after-within}
-use Rattle.choices.specs.Choices.{outcomeOf, chosen, chosenReading, isUnansweredClose, answeredAt, answeredFrom, answered}
-use Rattle.choices.proofs.Chosen.{status-chosen}
-use Rattle.choices.proofs.Agree.{Agree, agree-kind, agree-framed, agree-event}
-use Rattle.choices.proofs.Turns.{walk-refused, walk-end, walk-on, none-refuses, by-turn, eventBy, event-kept, end-kept, chosenState, refusal-same, refusal-by, end-by, after-by, finished-by}
-use Rattle.choices.proofs.Replaced.{unanswered-close, keeping, at-status, at-other, from-refused, from-end, from-on, from-length, from-before}
-
--- a number of one byte
-one-byte : (s : List ℕ) (at : ℕ) → le 1 s at ≡ getD s at 0
-unfolding le
-one-byte s at = omega arith
-
-close-length : {s : List ℕ} {at : ℕ} → Framed s at → kind s at ≡ 4 → len s at ≡ 7
-close-length {s} {at} w k = exactly (len s at) 7 (λ d. w .fits (close-not-7 k d))
+use borrow.Author.Tests.{le-ltb}
+use Rattle.base.specs.Base.{numbered}
+use Rattle.base.proofs.Tests.{ifso, clash, pick-of}
+use Rattle.rules.specs.History.{current, txCount}
+use Rattle.rules.specs.Reading.{State, begin, eventIn, refusalNo, isEnd, after, refused, walk, reading}
+use Rattle.demand1.specs.Rows.{kind, close-outside, Passes, Reaches, start, on}
+use Rattle.demand1.proofs.Histories.{inside-current}
+use Rattle.demand1.proofs.Events.{Framed, passes-framed, exactly}
+use Rattle.demand1.proofs.Steps.{inside, next-is, next-after, next-not-end, not-end, is-end, after-within}
+use Rattle.demand1.proofs.Refusals.{refusal-none}
+use Rattle.choices.specs.Choices.{outcomeOf, chosen, chosenReading, isUnansweredClose, answeredAt, answeredFrom, answered, Unanswered, Answered}
+use Rattle.choices.proofs.Turns.{none-refuses, by-turn}
+use Rattle.choices.proofs.Replaced.{unanswered-close, close-unanswered, close-length, keeping, at-status, at-other, from-refused, from-end, from-on, from-length}
+use Rattle.choices.proofs.Walks.{walk-by}
 
 module _ (f : ℕ → Bool) (s : List ℕ) where
-  -- b goes on from a state as the answered trace does
-  record GoesOn (k : ℕ) (st : State) (b : List ℕ) : Type 0 where
-    pub long : length b ≡ length s
-    pub same : (i : ℕ) → st .at ≤ i → getD b i 0 ≡ getD (answeredFrom k f s st) i 0
-
-  module _ (k : ℕ) (st : State) (b : List ℕ) (g : GoesOn k st b) where
-    -- the header of the record there is that of s
-    header : Agree s b (st .at) (st .at + 8)
-    header = record { long = g .long; same = λ i l h. g .same i l ∙ from-before f s k st i h }
-
-    -- where nothing is left to replace, the whole record is
-    stays : answeredFrom k f s st ≡ s → eventAt b (st .at) ≡ eventAt s (st .at)
-    stays q = agree-event header (record { long = g .long; same = λ i l h. g .same i l ∙ ap (λ (x : List ℕ). getD x i 0) q })
-
-  -- ── a record that passes and is not the end ──
-
-  module _ (k : ℕ) (st : State) (b : List ℕ) (g : GoesOn (suc k) st b) (t : ltb 0 (refusalNo s st) ≡ false) (e : isEnd (eventIn s st) ≡ false) where
-    framed : Framed s (st .at)
-    framed = passes-framed (none-refuses s st t)
-
-    abbrev behind : List ℕ
-    behind = answeredFrom k f s (after s st)
-
-    -- its bytes, and those behind it
-    byte : (i : ℕ) → st .at ≤ i → getD b i 0 ≡ getD (answeredAt f s st behind) i 0
-    byte i l = g .same i l ∙ ap (λ (x : List ℕ). getD x i 0) (from-on f s k st t e)
-
-    -- a close with status 2 gets the chosen one
-    event-replaced : isUnansweredClose (eventIn s st) ≡ true → eventAt b (st .at) ≡ eventBy f (current (st .history)) (eventIn s st)
-    unfolding eventBy
-    event-replaced u =
-        let c = unanswered-close framed u in
-        let x = header (suc k) st b g in
-        let room : st .at + 8 < length behind = omega (arith, from-length f s k (after s st), close-length framed (c .0), framed .sized .there) in
-        let z : status b (st .at) ≡ outcomeOf f (current (st .history)) = one-byte b (st .at + 8) ∙ byte (st .at + 8) (omega arith) ∙ at-status f s st behind u room in
-        close-event (agree-framed x framed) (agree-kind x ∙ c .0) ∙ ap Close z
-        ∙ sym (ap (eventBy f (current (st .history))) (close-event framed (c .0)) ∙ ap Close (status-chosen f (current (st .history)) (c .1)))
-
-    -- any other record stays as it is
-    event-stays : isUnansweredClose (eventIn s st) ≡ false → eventAt b (st .at) ≡ eventBy f (current (st .history)) (eventIn s st)
-    unfolding after
-    event-stays u =
-        agree-event (header (suc k) st b g)
-        (record {
-          long = g .long;
-          same = λ i l h. byte i l ∙ ap (λ (x : List ℕ). getD x i 0) (keeping f s st behind u) ∙ from-before f s k (after s st) i (omega arith);
-        })
-        ∙ sym (event-kept f (current (st .history)) (eventIn s st) u)
-
-    event : eventAt b (st .at) ≡ eventBy f (current (st .history)) (eventIn s st)
-    event = ifso (isUnansweredClose (eventIn s st)) event-replaced event-stays
-
-    -- behind it b goes on
-    beyond : (i : ℕ) → after s st .at ≤ i → getD (answeredAt f s st behind) i 0 ≡ getD behind i 0
-    unfolding after
-    beyond i l =
-        ifso (isUnansweredClose (eventIn s st))
-        (λ u. at-other f s st behind i (λ q. omega (arith, close-length framed (unanswered-close framed u .0))))
-        (λ u. ap (λ (x : List ℕ). getD x i 0) (keeping f s st behind u))
-
-    goes-on : GoesOn k (after s st) b
-    goes-on =
-        record {
-          long = g .long;
-          same = λ i l. byte i (omega (arith, after-within s st (none-refuses s st t) .0)) ∙ beyond i l;
-        }
-
-  -- ── the walk ──
-
-  walk-by : (k : ℕ) (st : State) (b : List ℕ) → GoesOn k st b → walk k b (chosenState f st) ≡ chosenReading f (walk k s st)
-  unfolding walk chosenReading
-  walk-by zero st b g = refl
-  walk-by (suc k) st b g =
-      by-turn s st
-      (λ t.
-      let q = refusal-same f st (header (suc k) st b g) (stays (suc k) st b g (from-refused f s k st t)) in
-      walk-refused b (chosenState f st) k (ap (ltb 0) q ∙ t) ∙ ap (λ (n : ℕ). refused n (st .at)) q ∙ sym (ap (chosenReading f) (walk-refused s st k t)))
-      (λ t e.
-      let x = header (suc k) st b g in
-      let q : eventAt b (st .at) ≡ eventBy f (current (st .history)) (eventIn s st) = stays (suc k) st b g (from-end f s k st e) ∙ sym (end-kept f (current (st .history)) (eventIn s st) e) in
-      walk-end b (chosenState f st) k (ap (ltb 0) (refusal-by f st x q) ∙ t) (end-by f st x q ∙ e)
-      ∙ ap (finished b) (after-by f st x q) ∙ finished-by f s b (after s st) (g .long) ∙ sym (ap (chosenReading f) (walk-end s st k t e)))
-      (λ t e.
-      let x = header (suc k) st b g in
-      let q = event k st b g t e in
-      walk-on b (chosenState f st) k (ap (ltb 0) (refusal-by f st x q) ∙ t) (end-by f st x q ∙ e)
-      ∙ ap (walk k b) (after-by f st x q) ∙ walk-by k (after s st) b (goes-on k st b g t e) ∙ sym (ap (chosenReading f) (walk-on s st k t e)))
-
-  -- ── the whole trace ──
-
-  pub answered-length : length (answered f s) ≡ length s
+  answered-length : length (answered f s) ≡ length s
   unfolding answered
   answered-length = from-length f s (length s + 1) begin
 
+  -- ── it is read into the chosen history ──
+
   walk-answered : walk (length s + 1) (answered f s) begin ≡ chosenReading f (walk (length s + 1) s begin)
   unfolding answered chosen numbered
-  walk-answered = walk-by (length s + 1) begin (answered f s) (record { long = answered-length; same = λ i l. refl })
+  walk-answered = walk-by f s (length s + 1) begin (answered f s) (record { long = answered-length; same = λ i l. refl })
 
-  -- "a trace is accepted exactly if some choice of outcomes for the unanswered ones makes it accepted": what the choice makes of the trace
   pub reading-answered : reading (answered f s) ≡ chosenReading f (reading s)
   unfolding reading chosenReading
   reading-answered =
       rw (answered-length, walk-answered)
       (sym (pick-of (chosenReading f) (ltb 32768 (length s)) (refused 2 32768) (walk (length s + 1) s begin)))
+
+  -- ── it is what the condition says ──
+
+  -- a record that passes and is not the end
+  from-past : (k : ℕ) (st : State) → Passes s st → (kind s (st .at) ≡ 5 → ⊥)
+      → answeredFrom (suc k) f s st ≡ answeredAt f s st (answeredFrom k f s (after s st))
+  from-past k st p d = from-on f s k st (le-ltb 0 (refusalNo s st) (omega (arith, refusal-none s st .1 p))) (not-end s st p d)
+
+  -- a byte of the answered trace is what it is from a state on that reading comes to, with fuel for what is left
+  byte-from : {st : State} → Reaches s st → (i v : ℕ) → st .at + 8 ≤ i
+      → ((k : ℕ) → length s < st .at + suc k → getD (answeredFrom (suc k) f s st) i 0 ≡ v) → getD (answered f s) i 0 ≡ v
+  unfolding answered
+  byte-from start i v l h = rw (add-one (length s)) (h (length s) (omega arith))
+  byte-from (on {st} {next} r p n) i v l h =
+      byte-from r i v (omega (arith, moved, room .0))
+      (λ k m. ap (λ (b : List ℕ). getD b i 0) (from-past k st p (next-not-end n)) ∙ at-other f s st (answeredFrom k f s (after s st)) i (λ q. omega (arith, moved, room .0)) ∙ later k m)
+    where
+      room : (st .at + 8 ≤ after s st .at) × (after s st .at ≤ length s)
+      room = after-within s st p
+
+      moved : next .at ≡ after s st .at
+      moved = ap (λ (x : State). x .at) (next-is s st p n)
+
+      later : (k : ℕ) → length s < st .at + suc k → getD (answeredFrom k f s (after s st)) i 0 ≡ v
+      later zero m = absurd (omega (arith, room .0, room .1))
+      later (suc k) m = ap (λ (x : State). getD (answeredFrom (suc k) f s x) i 0) (sym (next-is s st p n)) ∙ h k (omega (arith, moved, room .0))
+
+  -- the status of a close that is reached
+  replaced : (st : State) → Unanswered s st → getD (answered f s) (st .at + 8) 0 ≡ outcomeOf f (txCount (st .history))
+  replaced st u =
+      byte-from (u .reached) (st .at + 8) (outcomeOf f (txCount (st .history))) (omega arith)
+      (λ k m.
+      ap (λ (b : List ℕ). getD b (st .at + 8) 0) (from-past k st (u .passes) (λ q. omega (arith, u .closes)))
+      ∙ at-status f s st (answeredFrom k f s (after s st)) (close-unanswered framed (u .closes) (u .unanswered)) (omega (arith, from-length f s k (after s st), close-length framed (u .closes), framed .sized .there))
+      ∙ ap (outcomeOf f) (inside-current (st .history) (inside s st (u .passes) (close-outside (u .closes)))))
+    where
+      framed : Framed s (st .at)
+      framed = passes-framed (u .passes)
+
+  -- any other byte
+  module _ (i : ℕ) (d : (st : State) → Unanswered s st → i ≡ st .at + 8 → ⊥) where
+    at-elsewhere : {st : State} → Reaches s st → Passes s st → (b : List ℕ) → getD (answeredAt f s st b) i 0 ≡ getD b i 0
+    at-elsewhere {st} r p b =
+        ifso (isUnansweredClose (eventIn s st))
+        (λ t.
+        let c = unanswered-close (passes-framed p) t in
+        at-other f s st b i (d st (record { reached = r; passes = p; closes = c .0; unanswered = c .1 })))
+        (λ t. ap (λ (x : List ℕ). getD x i 0) (keeping f s st b t))
+
+    from-elsewhere : (k : ℕ) {st : State} → Reaches s st → getD (answeredFrom k f s st) i 0 ≡ getD s i 0
+    unfolding answeredFrom
+    from-elsewhere zero r = refl
+    from-elsewhere (suc k) {st} r =
+        by-turn s st (λ t. ap (λ (b : List ℕ). getD b i 0) (from-refused f s k st t)) (λ t e. ap (λ (b : List ℕ). getD b i 0) (from-end f s k st e))
+        (λ t e.
+        let p = none-refuses s st t in
+        ap (λ (b : List ℕ). getD b i 0) (from-on f s k st t e) ∙ at-elsewhere r p (answeredFrom k f s (after s st))
+        ∙ from-elsewhere k (on r p (next-after s st p (λ q. clash (is-end s st p q) e))))
+
+  pub answered-is : Answered f s (answered f s)
+  unfolding answered
+  answered-is =
+      record {
+        same-length = answered-length;
+        replaced = replaced;
+        elsewhere = λ i d. from-elsewhere i d (length s + 1) start;
+      }
+
+  -- .. and nothing else is
+  pub answered-one : (a b : List ℕ) → Answered f s a → Answered f s b → a ≡ b
+  answered-one a b x y =
+      ext-getD 0 a b (x .same-length ∙ sym (y .same-length))
+      (λ i _.
+      exactly (getD a i 0) (getD b i 0)
+      (λ d.
+      let none : (st : State) → Unanswered s st → i ≡ st .at + 8 → ⊥ = λ st u e. d (rw e (x .replaced st u ∙ sym (y .replaced st u))) in
+      d (x .elsewhere i none ∙ sym (y .elsewhere i none))))
+
+  -- whatever meets the condition is read so
+  pub answered-reading : {b : List ℕ} → Answered f s b → reading b ≡ chosenReading f (reading s)
+  answered-reading {b} x = ap reading (answered-one b (answered f s) x answered-is) ∙ reading-answered

@@ -2,4 +2,5 @@ pub mod Chosen
 pub mod Agree
 pub mod Turns
 pub mod Replaced
+pub mod Walks
 pub mod Bytes

@@ -13,8 +13,8 @@ use Rattle.base.proofs.Tests.{ifso, or-left, or-right, or-on, pick-on, pick-off
 use Rattle.rules.specs.History.{current}
 use Rattle.rules.specs.Records.{eventAt}
 use Rattle.rules.specs.Reading.{State, eventIn, refusalNo, isEnd, after}
-use Rattle.demand1.specs.Rows.{kind, status, Passes}
-use Rattle.demand1.proofs.Events.{Framed, Shape, open-record, read-record, write-record, close-record, end-record, note-record, shape, close-event}
+use Rattle.demand1.specs.Rows.{len, kind, status, close-not-7}
+use Rattle.demand1.proofs.Events.{Framed, Shape, open-record, read-record, write-record, close-record, end-record, note-record, shape, close-event, exactly}
 use Rattle.demand1.proofs.Steps.{after-within}
 use Rattle.choices.specs.Choices.{outcomeOf, isUnansweredClose, answeredAt, answeredFrom}
 use Rattle.choices.proofs.Turns.{none-refuses, by-turn}
@@ -33,6 +33,9 @@ module _ {s : List ℕ} {at : ℕ} (w : Framed s at) where
       go (close-record k e) = (k, eqb-true (status s at) 2 (rw e at t))
       go (end-record k e) = absurd (false≢true (rw e at t))
       go (note-record k e) = absurd (false≢true (rw e at t))
+
+  pub close-length : kind s at ≡ 4 → len s at ≡ 7
+  close-length k = exactly (len s at) 7 (λ d. w .fits (close-not-7 k d))
 
   pub close-unanswered : kind s at ≡ 4 → status s at ≡ 2 → isUnansweredClose (eventAt s at) ≡ true
   unfolding isUnansweredClose

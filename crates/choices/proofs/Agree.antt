@@ -1,6 +1,6 @@
 -- A record is read the same where its bytes are the same.
 use Prim.Native.Nat.{ℕ, zero, suc, _+_, _-_, _<_, _≤_}
-use mathlib.Core.Path.{_≡_, refl, ap, _∙_}
+use mathlib.Core.Path.{_≡_, refl, ap}
 use mathlib.Core.List.{List}
 use native.Mathlib.Omega.{arith}
 use lib.ListN.{length, getD, take, drop, length-take, length-drop}
@@ -9,6 +9,10 @@ use Rattle.rules.specs.Numbers.{le, part}
 use Rattle.rules.specs.Records.{nextAt, eventAt, breaks, frameRows}
 use Rattle.demand1.specs.Rows.{len, kind, serial}
 use Rattle.demand1.proofs.Events.{Framed}
+
+-- the same bytes have the same byte at each place
+pub same-byte : {a b : List ℕ} (i : ℕ) → a ≡ b → getD a i 0 ≡ getD b i 0
+same-byte i e = ap (λ (x : List ℕ). getD x i 0) e
 
 -- s and b are equally long, and have the same bytes from a to before e
 pub record Agree (s b : List ℕ) (a e : ℕ) : Type 0 where

@@ -2,7 +2,7 @@
 -- chosen outcomes. A refused trace stays refused, with the same number and place.
 use Prim.Native.Nat.{ℕ, zero, suc, _+_, _<_, _≤_}
 use mathlib.Core.Path.{_≡_, refl, ap, sym, _∙_}
-use mathlib.Core.Bool.{Bool, false}
+use mathlib.Core.Bool.{Bool}
 use mathlib.Core.List.{List}
 use native.Mathlib.Omega.{arith}
 use native.Mathlib.Numerals.{add-one}
@@ -12,14 +12,15 @@ use lib.Seq.{ext-getD}
 use borrow.Author.Tests.{le-ltb}
 use Rattle.base.specs.Base.{numbered}
 use Rattle.base.proofs.Tests.{ifso, clash, pick-of}
-use Rattle.rules.specs.History.{current, txCount}
-use Rattle.rules.specs.Reading.{State, begin, eventIn, refusalNo, isEnd, after, refused, walk, reading}
+use Rattle.rules.specs.History.{txCount}
+use Rattle.rules.specs.Reading.{State, begin, eventIn, refusalNo, after, refused, walk, reading}
 use Rattle.demand1.specs.Rows.{kind, close-outside, Passes, Reaches, start, on}
 use Rattle.demand1.proofs.Histories.{inside-current}
 use Rattle.demand1.proofs.Events.{Framed, passes-framed, exactly}
 use Rattle.demand1.proofs.Steps.{inside, next-is, next-after, next-not-end, not-end, is-end, after-within}
 use Rattle.demand1.proofs.Refusals.{refusal-none}
 use Rattle.choices.specs.Choices.{outcomeOf, chosen, chosenReading, isUnansweredClose, answeredAt, answeredFrom, answered, Unanswered, Answered}
+use Rattle.choices.proofs.Agree.{same-byte}
 use Rattle.choices.proofs.Turns.{none-refuses, by-turn}
 use Rattle.choices.proofs.Replaced.{unanswered-close, close-unanswered, close-length, keeping, at-status, at-other, from-refused, from-end, from-on, from-length}
 use Rattle.choices.proofs.Walks.{walk-by}
@@ -55,7 +56,7 @@ module _ (f : ℕ → Bool) (s : List ℕ) where
   byte-from start i v l h = rw (add-one (length s)) (h (length s) (omega arith))
   byte-from (on {st} {next} r p n) i v l h =
       byte-from r i v (omega (arith, moved, room .0))
-      (λ k m. ap (λ (b : List ℕ). getD b i 0) (from-past k st p (next-not-end n)) ∙ at-other f s st (answeredFrom k f s (after s st)) i (λ q. omega (arith, moved, room .0)) ∙ later k m)
+      (λ k m. same-byte i (from-past k st p (next-not-end n)) ∙ at-other f s st (answeredFrom k f s (after s st)) i (λ q. omega (arith, moved, room .0)) ∙ later k m)
     where
       room : (st .at + 8 ≤ after s st .at) × (after s st .at ≤ length s)
       room = after-within s st p
@@ -72,7 +73,7 @@ module _ (f : ℕ → Bool) (s : List ℕ) where
   replaced st u =
       byte-from (u .reached) (st .at + 8) (outcomeOf f (txCount (st .history))) (omega arith)
       (λ k m.
-      ap (λ (b : List ℕ). getD b (st .at + 8) 0) (from-past k st (u .passes) (λ q. omega (arith, u .closes)))
+      same-byte (st .at + 8) (from-past k st (u .passes) (λ q. omega (arith, u .closes)))
       ∙ at-status f s st (answeredFrom k f s (after s st)) (close-unanswered framed (u .closes) (u .unanswered)) (omega (arith, from-length f s k (after s st), close-length framed (u .closes), framed .sized .there))
       ∙ ap (outcomeOf f) (inside-current (st .history) (inside s st (u .passes) (close-outside (u .closes)))))
     where
@@ -87,16 +88,16 @@ module _ (f : ℕ → Bool) (s : List ℕ) where
         (λ t.
         let c = unanswered-close (passes-framed p) t in
         at-other f s st b i (d st (record { reached = r; passes = p; closes = c .0; unanswered = c .1 })))
-        (λ t. ap (λ (x : List ℕ). getD x i 0) (keeping f s st b t))
+        (λ t. same-byte i (keeping f s st b t))
 
     from-elsewhere : (k : ℕ) {st : State} → Reaches s st → getD (answeredFrom k f s st) i 0 ≡ getD s i 0
     unfolding answeredFrom
     from-elsewhere zero r = refl
     from-elsewhere (suc k) {st} r =
-        by-turn s st (λ t. ap (λ (b : List ℕ). getD b i 0) (from-refused f s k st t)) (λ t e. ap (λ (b : List ℕ). getD b i 0) (from-end f s k st e))
+        by-turn s st (λ t. same-byte i (from-refused f s k st t)) (λ t e. same-byte i (from-end f s k st e))
         (λ t e.
         let p = none-refuses s st t in
-        ap (λ (b : List ℕ). getD b i 0) (from-on f s k st t e) ∙ at-elsewhere r p (answeredFrom k f s (after s st))
+        same-byte i (from-on f s k st t e) ∙ at-elsewhere r p (answeredFrom k f s (after s st))
         ∙ from-elsewhere k (on r p (next-after s st p (λ q. clash (is-end s st p q) e))))
 
   pub answered-is : Answered f s (answered f s)

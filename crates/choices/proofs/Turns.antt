@@ -1,22 +1,22 @@
 -- One turn of reading, with and without the chosen outcomes: the same rows refuse, and what is entered is the same but for the chosen outcome.
-use Prim.Native.Nat.{ℕ, suc, _+_, _≤_}
+use Prim.Native.Nat.{ℕ, suc, _+_}
 use mathlib.Core.Path.{_≡_, refl, ap, sym, _∙_}
 use mathlib.Core.Bool.{Bool, true, false, false≢true}
-use mathlib.Core.List.{List, _++_}
+use mathlib.Core.List.{List}
 use native.Mathlib.Omega.{arith}
-use lib.Dec.{ltb, leb, eqb}
+use lib.Dec.{ltb, eqb}
 use lib.ListN.{length}
 use borrow.Author.Tests.{ltb-false, eqb-true, eqb-false, le-ltb}
-use Rattle.base.specs.Base.{pick, Row, row, firstFit}
+use Rattle.base.specs.Base.{pick}
 use Rattle.base.proofs.Tests.{ifso, pick-on, pick-off, pick-of}
-use Rattle.rules.specs.History.{History, txCount, opCount, current}
-use Rattle.rules.specs.Records.{eventAt, frameRows}
+use Rattle.rules.specs.History.{History, current}
+use Rattle.rules.specs.Records.{eventAt}
 use Rattle.rules.specs.Reading.{misplaced, unlawful, excess, repeats, stepRows, entered, isEnd, textAt, State, eventIn, refusalNo, after, Reading, refused, read, finished, walk}
 use Rattle.rules.specs.declared.Event.{Event}
 use Rattle.rules.specs.declared.Event.the-variants.{Open, Read, Write, Close, End, Note, Other}
 use Rattle.demand1.specs.Rows.{len, Passes}
 use Rattle.demand1.proofs.Refusals.{refusal-none}
-use Rattle.choices.specs.Choices.{outcomeOf, statusBy, chosen, chosenReading, isUnansweredClose}
+use Rattle.choices.specs.Choices.{statusBy, chosen, chosenReading, isUnansweredClose}
 use Rattle.choices.proofs.Chosen.{outcome-most, status-chosen, status-kept, chosen-op-count, chosen-count, chosen-write, chosen-current, chosen-with-op, chosen-opened, chosen-closed}
 use Rattle.choices.proofs.Agree.{Agree, agree-len, agree-serial, agree-frame}
 

@@ -11,14 +11,13 @@ use Rattle.rules.specs.Numbers.{le}
 use Rattle.rules.specs.History.{current}
 use Rattle.rules.specs.Records.{eventAt}
 use Rattle.rules.specs.Reading.{State, eventIn, refusalNo, isEnd, after, refused, finished, walk}
-use Rattle.rules.specs.declared.Event.{Event}
 use Rattle.rules.specs.declared.Event.the-variants.{Close}
 use Rattle.demand1.specs.Rows.{status}
 use Rattle.demand1.proofs.Events.{Framed, passes-framed, close-event}
 use Rattle.demand1.proofs.Steps.{after-within}
 use Rattle.choices.specs.Choices.{outcomeOf, chosenReading, isUnansweredClose, answeredAt, answeredFrom}
 use Rattle.choices.proofs.Chosen.{status-chosen}
-use Rattle.choices.proofs.Agree.{Agree, agree-kind, agree-framed, agree-event}
+use Rattle.choices.proofs.Agree.{same-byte, Agree, agree-kind, agree-framed, agree-event}
 use Rattle.choices.proofs.Turns.{walk-refused, walk-end, walk-on, none-refuses, by-turn, eventBy, event-kept, end-kept, chosenState, refusal-same, refusal-by, end-by, after-by, finished-by}
 use Rattle.choices.proofs.Replaced.{unanswered-close, close-length, keeping, at-status, at-other, from-refused, from-end, from-on, from-length, from-before}
 
@@ -40,7 +39,7 @@ module _ (f : ℕ → Bool) (s : List ℕ) where
 
     -- where nothing is left to replace, the whole record is
     stays : answeredFrom k f s st ≡ s → eventAt b (st .at) ≡ eventAt s (st .at)
-    stays q = agree-event header (record { long = g .long; same = λ i l h. g .same i l ∙ ap (λ (x : List ℕ). getD x i 0) q })
+    stays q = agree-event header (record { long = g .long; same = λ i l h. g .same i l ∙ same-byte i q })
 
   -- ── a record that passes and is not the end ──
 
@@ -53,7 +52,7 @@ module _ (f : ℕ → Bool) (s : List ℕ) where
 
     -- its bytes, and those behind it
     byte : (i : ℕ) → st .at ≤ i → getD b i 0 ≡ getD (answeredAt f s st behind) i 0
-    byte i l = g .same i l ∙ ap (λ (x : List ℕ). getD x i 0) (from-on f s k st t e)
+    byte i l = g .same i l ∙ same-byte i (from-on f s k st t e)
 
     -- a close with status 2 gets the chosen one
     event-replaced : isUnansweredClose (eventIn s st) ≡ true → eventAt b (st .at) ≡ eventBy f (current (st .history)) (eventIn s st)
@@ -73,7 +72,7 @@ module _ (f : ℕ → Bool) (s : List ℕ) where
         agree-event (header (suc k) st b g)
         (record {
           long = g .long;
-          same = λ i l h. byte i l ∙ ap (λ (x : List ℕ). getD x i 0) (keeping f s st behind u) ∙ from-before f s k (after s st) i (omega arith);
+          same = λ i l h. byte i l ∙ same-byte i (keeping f s st behind u) ∙ from-before f s k (after s st) i (omega arith);
         })
         ∙ sym (event-kept f (current (st .history)) (eventIn s st) u)
 
@@ -86,7 +85,7 @@ module _ (f : ℕ → Bool) (s : List ℕ) where
     beyond i l =
         ifso (isUnansweredClose (eventIn s st))
         (λ u. at-other f s st behind i (λ q. omega (arith, close-length framed (unanswered-close framed u .0))))
-        (λ u. ap (λ (x : List ℕ). getD x i 0) (keeping f s st behind u))
+        (λ u. same-byte i (keeping f s st behind u))
 
     goes-on : GoesOn k (after s st) b
     goes-on =

@@ -14,6 +14,7 @@ use Rattle.base.proofs.Tests.{ifso, split, pick-on, pick-off}
 use Rattle.base.proofs.Numbered.{numbered-length, numbered-at, numbered-more}
 use Rattle.rules.specs.History.{History, Tx, Op, zeroth, noTx, tx, op, txCount, opCount, isOpen, current, writesValue, writeOf, saysCommitted, isUnanswered, opened, closed, withOp}
 use Rattle.rules.proofs.History.{open-count, open-txs, open-old, open-new, close-count, close-whole, close-other}
+use Rattle.demand1.specs.Lawful.{IsOp, IsWrite, IsTx, Over, says-aborted, says-committed, says-unanswered, LawfulHistory}
 use Rattle.demand1.proofs.Events.{same-or}
 use Rattle.choices.specs.Choices.{outcomeOf, statusBy, chosen}
 
@@ -213,3 +214,45 @@ module _ (f : ℕ → Bool) where
     pub chosen-closed : chosen f (closed h t c) ≡ closed (chosen f h) t (statusBy f t c)
     unfolding chosen closed
     chosen-closed = λ i. record { txs = closed-txs i; ops = h .ops }
+
+-- ── it is lawful where the history is ──
+
+module _ (f : ℕ → Bool) where
+  -- a transaction that is over is over still
+  over-chosen : (t : ℕ) {c : ℕ} → Over c → Over (statusBy f t c)
+  unfolding outcomeOf
+  over-chosen t (says-aborted e) = says-aborted (status-kept f t (λ q. omega arith) ∙ e)
+  over-chosen t (says-committed e) = says-committed (status-kept f t (λ q. omega arith) ∙ e)
+  over-chosen t (says-unanswered e) =
+      ifso (f t) (λ q. says-committed (status-chosen f t e ∙ pick-on (f t) 1 0 q)) (λ q. says-aborted (status-chosen f t e ∙ pick-off (f t) 1 0 q))
+
+  module _ (h : History) where
+    -- its numbers of operations, transactions and writes
+    op-back : {i : ℕ} → IsOp (chosen f h) i → IsOp h i
+    op-back o = record { from = o .from; to = omega (arith, o .to, chosen-op-count f h) }
+
+    tx-back : {t : ℕ} → IsTx (chosen f h) t → IsTx h t
+    tx-back i = record { from = i .from; to = omega (arith, i .to, chosen-count f h) }
+
+    write-back : {x v i : ℕ} → IsWrite (chosen f h) x v i → IsWrite h x v i
+    write-back {x} {v} {i} w =
+        let e = chosen-op f h i in
+        record {
+          is-op = op-back (w .is-op);
+          is-write = rw e at (w .is-write);
+          of-key = rw e at (w .of-key);
+          of-value = rw e at (w .of-value);
+        }
+
+    pub chosen-lawful : LawfulHistory h → LawfulHistory (chosen f h)
+    chosen-lawful l =
+        record {
+          few-txs = omega (arith, l .few-txs, chosen-count f h);
+          few-ops = omega (arith, l .few-ops, chosen-op-count f h);
+          in-tx = λ i o.
+              let n = l .in-tx i (op-back o) in
+              rw (chosen-op f h i) (record { from = n .from; to = omega (arith, n .to, chosen-count f h) });
+          not-zero = λ x i w. l .not-zero x i (write-back w);
+          one-write = λ x v i j w u. l .one-write x v i j (write-back w) (write-back u);
+          is-over = λ t i. rw (chosen-status f h t) (over-chosen t (l .is-over t (tx-back i)));
+        }

@@ -1,0 +1,110 @@
+-- Which bytes the answered trace has.
+use Prim.Native.Nat.{ℕ, zero, suc, _+_, _<_}
+use mathlib.Core.Path.{_≡_, refl, ap, _∙_}
+use mathlib.Core.Bool.{Bool, true, false, false≢true}
+use mathlib.Core.List.{List}
+use native.Mathlib.Omega.{arith}
+use lib.Dec.{ltb}
+use lib.ListN.{length, getD, set, length-set}
+use lib.Seq.{getD-set-same, getD-set-other}
+use borrow.Author.Tests.{eqb-true, eq-eqb}
+use Rattle.base.specs.Base.{_or_}
+use Rattle.base.proofs.Tests.{ifso, or-left, or-right, or-on, pick-on, pick-off}
+use Rattle.rules.specs.History.{current}
+use Rattle.rules.specs.Records.{eventAt}
+use Rattle.rules.specs.Reading.{State, eventIn, refusalNo, isEnd, after}
+use Rattle.demand1.specs.Rows.{len, kind, status, close-not-7}
+use Rattle.demand1.proofs.Events.{Framed, Shape, open-record, read-record, write-record, close-record, end-record, note-record, shape, close-event, exactly}
+use Rattle.demand1.proofs.Steps.{after-within}
+use Rattle.choices.specs.Choices.{outcomeOf, isUnansweredClose, answeredAt, answeredFrom}
+use Rattle.choices.proofs.Turns.{none-refuses, by-turn}
+
+-- ── a close with status 2 ──
+
+module _ {s : List ℕ} {at : ℕ} (w : Framed s at) where
+  pub unanswered-close : isUnansweredClose (eventAt s at) ≡ true → (kind s at ≡ 4) × (status s at ≡ 2)
+  unfolding isUnansweredClose
+  unanswered-close t = go (shape w)
+    where
+      go : Shape s at → (kind s at ≡ 4) × (status s at ≡ 2)
+      go (open-record k e) = absurd (false≢true (rw e at t))
+      go (read-record k e) = absurd (false≢true (rw e at t))
+      go (write-record k e) = absurd (false≢true (rw e at t))
+      go (close-record k e) = (k, eqb-true (status s at) 2 (rw e at t))
+      go (end-record k e) = absurd (false≢true (rw e at t))
+      go (note-record k e) = absurd (false≢true (rw e at t))
+
+  pub close-length : kind s at ≡ 4 → len s at ≡ 7
+  close-length k = exactly (len s at) 7 (λ d. w .fits (close-not-7 k d))
+
+  pub close-unanswered : kind s at ≡ 4 → status s at ≡ 2 → isUnansweredClose (eventAt s at) ≡ true
+  unfolding isUnansweredClose
+  close-unanswered k c = rw (close-event w k) (eq-eqb (status s at) 2 c)
+
+-- ── the bytes with one status replaced ──
+
+module _ (f : ℕ → Bool) (s : List ℕ) (st : State) where
+  replacing : (b : List ℕ) → isUnansweredClose (eventIn s st) ≡ true → answeredAt f s st b ≡ set b (st .at + 8) (outcomeOf f (current (st .history)))
+  unfolding answeredAt
+  replacing b t = pick-on (isUnansweredClose (eventIn s st)) (set b (st .at + 8) (outcomeOf f (current (st .history)))) b t
+
+  pub keeping : (b : List ℕ) → isUnansweredClose (eventIn s st) ≡ false → answeredAt f s st b ≡ b
+  unfolding answeredAt
+  keeping b t = pick-off (isUnansweredClose (eventIn s st)) (set b (st .at + 8) (outcomeOf f (current (st .history)))) b t
+
+  at-length : (b : List ℕ) → length (answeredAt f s st b) ≡ length b
+  at-length b =
+      ifso (isUnansweredClose (eventIn s st)) (λ t. ap length (replacing b t) ∙ length-set b (st .at + 8) (outcomeOf f (current (st .history))))
+      (λ t. ap length (keeping b t))
+
+  pub at-status : (b : List ℕ) → isUnansweredClose (eventIn s st) ≡ true → st .at + 8 < length b
+      → getD (answeredAt f s st b) (st .at + 8) 0 ≡ outcomeOf f (current (st .history))
+  at-status b t l = rw (replacing b t) (getD-set-same b (st .at + 8) (outcomeOf f (current (st .history))) 0 l)
+
+  pub at-other : (b : List ℕ) (i : ℕ) → (i ≡ st .at + 8 → ⊥) → getD (answeredAt f s st b) i 0 ≡ getD b i 0
+  at-other b i d =
+      ifso (isUnansweredClose (eventIn s st))
+      (λ t. rw (replacing b t) (getD-set-other b (st .at + 8) i (outcomeOf f (current (st .history))) 0 d)) (λ t. rw (keeping b t))
+
+-- ── from a state on ──
+
+module _ (f : ℕ → Bool) (s : List ℕ) where
+  module _ (k : ℕ) (st : State) where
+    abbrev rest : List ℕ
+    rest = answeredAt f s st (answeredFrom k f s (after s st))
+
+    -- at a record that is refused, and at the end, nothing is left to replace
+    stopped : ltb 0 (refusalNo s st) or isEnd (eventIn s st) ≡ true → answeredFrom (suc k) f s st ≡ s
+    unfolding answeredFrom
+    stopped t = pick-on (ltb 0 (refusalNo s st) or isEnd (eventIn s st)) s rest t
+
+    pub from-refused : ltb 0 (refusalNo s st) ≡ true → answeredFrom (suc k) f s st ≡ s
+    from-refused t = stopped (or-left (ltb 0 (refusalNo s st)) (isEnd (eventIn s st)) t)
+
+    pub from-end : isEnd (eventIn s st) ≡ true → answeredFrom (suc k) f s st ≡ s
+    from-end t = stopped (or-right (ltb 0 (refusalNo s st)) (isEnd (eventIn s st)) t)
+
+    -- at any other, its own status and those behind it
+    pub from-on : ltb 0 (refusalNo s st) ≡ false → isEnd (eventIn s st) ≡ false → answeredFrom (suc k) f s st ≡ rest
+    unfolding answeredFrom
+    from-on t e =
+        pick-off (ltb 0 (refusalNo s st) or isEnd (eventIn s st)) s rest
+        (or-on (ltb 0 (refusalNo s st)) (isEnd (eventIn s st)) t ∙ e)
+
+  pub from-length : (k : ℕ) (st : State) → length (answeredFrom k f s st) ≡ length s
+  unfolding answeredFrom
+  from-length zero st = refl
+  from-length (suc k) st =
+      by-turn s st (λ t. ap length (from-refused k st t)) (λ t e. ap length (from-end k st e))
+      (λ t e. ap length (from-on k st t e) ∙ at-length f s st (answeredFrom k f s (after s st)) ∙ from-length k (after s st))
+
+  -- no byte before the state's own status changes
+  pub from-before : (k : ℕ) (st : State) (i : ℕ) → i < st .at + 8 → getD (answeredFrom k f s st) i 0 ≡ getD s i 0
+  unfolding answeredFrom
+  from-before zero st i l = refl
+  from-before (suc k) st i l =
+      by-turn s st (λ t. rw (from-refused k st t)) (λ t e. rw (from-end k st e))
+      (λ t e.
+      rw (from-on k st t e)
+      (at-other f s st (answeredFrom k f s (after s st)) i (λ q. omega arith)
+      ∙ from-before k (after s st) i (omega (arith, after-within s st (none-refuses s st t) .0))))

@@ -1,0 +1,191 @@
+-- One turn of reading, with and without the chosen outcomes: the same rows refuse, and what is entered is the same but for the chosen outcome.
+use Prim.Native.Nat.{ℕ, suc, _+_}
+use mathlib.Core.Path.{_≡_, refl, ap, sym, _∙_}
+use mathlib.Core.Bool.{Bool, true, false, false≢true}
+use mathlib.Core.List.{List}
+use native.Mathlib.Omega.{arith}
+use lib.Dec.{ltb, eqb}
+use lib.ListN.{length}
+use borrow.Author.Tests.{ltb-false, eqb-true, eqb-false, le-ltb}
+use Rattle.base.specs.Base.{pick}
+use Rattle.base.proofs.Tests.{ifso, pick-on, pick-off, pick-of}
+use Rattle.rules.specs.History.{History, current}
+use Rattle.rules.specs.Records.{eventAt}
+use Rattle.rules.specs.Reading.{misplaced, unlawful, excess, repeats, stepRows, entered, isEnd, textAt, State, eventIn, refusalNo, after, Reading, refused, read, finished, walk}
+use Rattle.rules.specs.declared.Event.{Event}
+use Rattle.rules.specs.declared.Event.the-variants.{Open, Read, Write, Close, End, Note, Other}
+use Rattle.demand1.specs.Rows.{len, Passes}
+use Rattle.demand1.proofs.Refusals.{refusal-none}
+use Rattle.choices.specs.Choices.{statusBy, chosen, chosenReading, isUnansweredClose}
+use Rattle.choices.proofs.Chosen.{outcome-most, status-chosen, status-kept, chosen-op-count, chosen-count, chosen-write, chosen-current, chosen-with-op, chosen-opened, chosen-closed}
+use Rattle.choices.proofs.Agree.{Agree, agree-len, agree-serial, agree-frame}
+
+-- ── a turn of the walk ──
+
+module _ (s : List ℕ) (st : State) where
+  -- what comes where no row refuses
+  abbrev next : ℕ → Reading
+  next g = pick (isEnd (eventIn s st)) (finished s (after s st)) (walk g s (after s st))
+
+  pub walk-refused : (g : ℕ) → ltb 0 (refusalNo s st) ≡ true → walk (suc g) s st ≡ refused (refusalNo s st) (st .at)
+  unfolding walk
+  walk-refused g t = pick-on (ltb 0 (refusalNo s st)) (refused (refusalNo s st) (st .at)) (next g) t
+
+  walk-next : (g : ℕ) → ltb 0 (refusalNo s st) ≡ false → walk (suc g) s st ≡ next g
+  unfolding walk
+  walk-next g t = pick-off (ltb 0 (refusalNo s st)) (refused (refusalNo s st) (st .at)) (next g) t
+
+  pub walk-end : (g : ℕ) → ltb 0 (refusalNo s st) ≡ false → isEnd (eventIn s st) ≡ true → walk (suc g) s st ≡ finished s (after s st)
+  walk-end g t e = walk-next g t ∙ pick-on (isEnd (eventIn s st)) (finished s (after s st)) (walk g s (after s st)) e
+
+  pub walk-on : (g : ℕ) → ltb 0 (refusalNo s st) ≡ false → isEnd (eventIn s st) ≡ false → walk (suc g) s st ≡ walk g s (after s st)
+  walk-on g t e = walk-next g t ∙ pick-off (isEnd (eventIn s st)) (finished s (after s st)) (walk g s (after s st)) e
+
+  -- by cases: the record is refused, it is the end, or the walk goes on
+  pub by-turn : {P : Type 0} → (ltb 0 (refusalNo s st) ≡ true → P) → (ltb 0 (refusalNo s st) ≡ false → isEnd (eventIn s st) ≡ true → P)
+      → (ltb 0 (refusalNo s st) ≡ false → isEnd (eventIn s st) ≡ false → P) → P
+  by-turn r e n = ifso (ltb 0 (refusalNo s st)) r (λ t. ifso (isEnd (eventIn s st)) (e t) (n t))
+
+  -- where no row refuses, the record passes
+  pub none-refuses : ltb 0 (refusalNo s st) ≡ false → Passes s st
+  none-refuses t = refusal-none s st .0 (let l = ltb-false 0 (refusalNo s st) t in omega arith)
+
+-- ── an event with the chosen outcome ──
+
+module _ (f : ℕ → Bool) where
+  -- the event of a record of transaction t, where a close with status 2 has the chosen one
+  unfoldable pub eventBy : ℕ → Event → Event
+  eventBy t (Open s) = Open s
+  eventBy t (Read x v) = Read x v
+  eventBy t (Write x v) = Write x v
+  eventBy t (Close c) = Close (statusBy f t c)
+  eventBy t (End n) = End n
+  eventBy t Note = Note
+  eventBy t Other = Other
+
+  -- any other stays
+  pub event-kept : (t : ℕ) (e : Event) → isUnansweredClose e ≡ false → eventBy t e ≡ e
+  unfolding eventBy isUnansweredClose
+  event-kept t (Open s) d = refl
+  event-kept t (Read x v) d = refl
+  event-kept t (Write x v) d = refl
+  event-kept t (Close c) d = ap Close (status-kept f t (eqb-false c 2 d))
+  event-kept t (End n) d = refl
+  event-kept t Note d = refl
+  event-kept t Other d = refl
+
+  -- so does the end
+  no-close : (e : Event) → isEnd e ≡ true → isUnansweredClose e ≡ false
+  unfolding isEnd isUnansweredClose
+  no-close (Open s) d = refl
+  no-close (Read x v) d = refl
+  no-close (Write x v) d = refl
+  no-close (Close c) d = absurd (false≢true d)
+  no-close (End n) d = refl
+  no-close Note d = refl
+  no-close Other d = refl
+
+  pub end-kept : (t : ℕ) (e : Event) → isEnd e ≡ true → eventBy t e ≡ e
+  end-kept t e d = event-kept t e (no-close e d)
+
+  pub by-end : (t : ℕ) (e : Event) → isEnd (eventBy t e) ≡ isEnd e
+  unfolding eventBy isEnd
+  by-end t (Open s) = refl
+  by-end t (Read x v) = refl
+  by-end t (Write x v) = refl
+  by-end t (Close c) = refl
+  by-end t (End n) = refl
+  by-end t Note = refl
+  by-end t Other = refl
+
+  -- row 8 refuses neither a chosen status nor 2
+  lawful-status : (t c : ℕ) → ltb 2 (statusBy f t c) ≡ ltb 2 c
+  lawful-status t c =
+      ifso (eqb c 2)
+      (λ q.
+      let e = eqb-true c 2 q in
+      le-ltb 2 (statusBy f t c) (omega (arith, status-chosen f t e, outcome-most f t)) ∙ sym (le-ltb 2 c (omega arith)))
+      (λ q. ap (ltb 2) (status-kept f t (eqb-false c 2 q)))
+
+  -- rows 7 to 10
+  pub by-rows : (h : History) (u t : ℕ) (e : Event) → stepRows h u (eventBy t e) ≡ stepRows h u e
+  unfolding eventBy stepRows misplaced unlawful excess repeats
+  by-rows h u t (Open s) = refl
+  by-rows h u t (Read x v) = refl
+  by-rows h u t (Write x v) = refl
+  by-rows h u t (Close c) = rw (lawful-status t c)
+  by-rows h u t (End n) = refl
+  by-rows h u t Note = refl
+  by-rows h u t Other = refl
+
+  -- .. ask the same of a history with the chosen outcomes
+  pub chosen-rows : (h : History) (u : ℕ) (e : Event) → stepRows (chosen f h) u e ≡ stepRows h u e
+  unfolding stepRows misplaced unlawful excess repeats
+  chosen-rows h u (Open s) = rw (chosen-count f h)
+  chosen-rows h u (Read x v) = rw (chosen-op-count f h)
+  chosen-rows h u (Write x v) = rw (chosen-op-count f h, chosen-write f h x v)
+  chosen-rows h u (Close c) = refl
+  chosen-rows h u (End n) = rw (chosen-count f h)
+  chosen-rows h u Note = refl
+  chosen-rows h u Other = refl
+
+  -- what is entered
+  pub chosen-entered : (h : History) (t : ℕ) (e : Event) → entered (chosen f h) t (eventBy t e) ≡ chosen f (entered h t e)
+  unfolding eventBy entered
+  chosen-entered h t (Open s) = sym (chosen-opened f h s)
+  chosen-entered h t (Read x v) = sym (chosen-with-op f h (record { tx = t; isWrite = false; key = x; value = v }))
+  chosen-entered h t (Write x v) = sym (chosen-with-op f h (record { tx = t; isWrite = true; key = x; value = v }))
+  chosen-entered h t (Close c) = sym (chosen-closed f h t c)
+  chosen-entered h t (End n) = refl
+  chosen-entered h t Note = refl
+  chosen-entered h t Other = refl
+
+  -- a note's text
+  pub by-text : (s b : List ℕ) (at t : ℕ) (e : Event) → len b at ≡ len s at → textAt b at (eventBy t e) ≡ textAt s at e
+  unfolding eventBy textAt
+  by-text s b at t (Open n) l = refl
+  by-text s b at t (Read x v) l = refl
+  by-text s b at t (Write x v) l = refl
+  by-text s b at t (Close c) l = refl
+  by-text s b at t (End n) l = refl
+  by-text s b at t Note l = rw l
+  by-text s b at t Other l = refl
+
+  -- ── a record of s and one of b, which have the same header ──
+
+  -- a state with the chosen outcomes
+  abbrev pub chosenState : State → State
+  chosenState st = record { at = st .at; serial = st .serial; history = chosen f (st .history); notes = st .notes }
+
+  module _ {s b : List ℕ} (st : State) (x : Agree s b (st .at) (st .at + 8)) where
+    abbrev h : History
+    h = st .history
+
+    -- the rows that refuse it, by its event
+    same-refusal : {e : Event} → eventAt b (st .at) ≡ e → stepRows h (current h) e ≡ stepRows h (current h) (eventIn s st)
+        → refusalNo b (chosenState st) ≡ refusalNo s st
+    unfolding refusalNo
+    same-refusal {e} q r =
+        rw (agree-frame x (st .serial), chosen-current f h, q, chosen-rows h (current h) e, r)
+
+    pub refusal-same : eventAt b (st .at) ≡ eventAt s (st .at) → refusalNo b (chosenState st) ≡ refusalNo s st
+    refusal-same q = same-refusal q refl
+
+    -- its event is that of s with the chosen outcome
+    module _ (q : eventAt b (st .at) ≡ eventBy (current (st .history)) (eventAt s (st .at))) where
+      pub refusal-by : refusalNo b (chosenState st) ≡ refusalNo s st
+      refusal-by = same-refusal q (by-rows h (current h) (current h) (eventIn s st))
+
+      pub end-by : isEnd (eventIn b (chosenState st)) ≡ isEnd (eventIn s st)
+      end-by = ap isEnd q ∙ by-end (current h) (eventIn s st)
+
+      pub after-by : after b (chosenState st) ≡ chosenState (after s st)
+      unfolding after
+      after-by =
+          rw (agree-len x, agree-serial x, chosen-current f h, q, chosen-entered h (current h) (eventIn s st), by-text s b (st .at) (current h) (eventIn s st) (agree-len x))
+
+-- what stands behind the end
+pub finished-by : (f : ℕ → Bool) (s b : List ℕ) (st : State) → length b ≡ length s → finished b (chosenState f st) ≡ chosenReading f (finished s st)
+unfolding finished chosenReading
+finished-by f s b st l =
+    rw l (sym (pick-of (chosenReading f) (ltb (st .at) (length s)) (refused 11 (st .at)) (read (st .history) (st .notes))))

@@ -53,7 +53,7 @@ module _ {h g : History} (e : Alike h g) where
   write-of : {t x v j : ℕ} → WriteOf h t x v j → WriteOf g t x v j
   write-of {j = j} w = record { in-it = write-in (w .in-it); of-value = field (λ o. o .value) j (w .of-value) }
 
-  pub is-write : {x v j : ℕ} → IsWrite h x v j → IsWrite g x v j
+  is-write : {x v j : ℕ} → IsWrite h x v j → IsWrite g x v j
   is-write {j = j} w =
       record {
         is-op = record { from = w .is-op .from; to = omega (arith, w .is-op .to, e .count) };

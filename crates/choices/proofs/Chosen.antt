@@ -26,14 +26,6 @@ module _ (f : ℕ → Bool) (t : ℕ) where
   unfolding outcomeOf
   outcome-most = ifso (f t) (λ e. rw (pick-on {X = ℕ} (f t) 1 0 e) (omega arith)) (λ e. rw (pick-off {X = ℕ} (f t) 1 0 e) (omega arith))
 
-  pub outcome-committed : f t ≡ true → outcomeOf f t ≡ 1
-  unfolding outcomeOf
-  outcome-committed = pick-on {X = ℕ} (f t) 1 0
-
-  pub outcome-aborted : f t ≡ false → outcomeOf f t ≡ 0
-  unfolding outcomeOf
-  outcome-aborted = pick-off {X = ℕ} (f t) 1 0
-
   pub status-chosen : {c : ℕ} → c ≡ 2 → statusBy f t c ≡ outcomeOf f t
   unfolding statusBy
   status-chosen {c} e = pick-on (eqb c 2) (outcomeOf f t) c (eq-eqb c 2 e)

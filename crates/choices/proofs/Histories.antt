@@ -8,14 +8,14 @@ use native.Mathlib.Omega.{arith}
 use borrow.Author.Tests.{eqb-true, eqb-false, eq-eqb}
 use Rattle.base.proofs.Tests.{ifso}
 use Rattle.rules.specs.History.{History, tx, committed}
-use Rattle.demand1.specs.Lawful.{IsWrite, Over, says-aborted, says-committed, says-unanswered, LawfulHistory}
+use Rattle.demand1.specs.Lawful.{Over, says-aborted, says-committed, says-unanswered, LawfulHistory}
 use Rattle.demand2.specs.Counts.{ReadsValueOf, Counts, by-status, by-reader}
 use Rattle.demand2.specs.Kinds.{aborted, AllClean}
 use Rattle.demand2.proofs.Counts.{counts-iff, counts-stable}
 use Rattle.choices.specs.Choices.{outcomeOf, chosen}
 use Rattle.choices.specs.Accepting.{AcceptedAt, AcceptedByChoice}
-use Rattle.choices.proofs.Chosen.{status-chosen, status-kept, status-answered, outcome-says, chosen-op-count, chosen-op, chosen-count, chosen-session, chosen-status, outcome-committed, outcome-aborted}
-use Rattle.choices.proofs.Alike.{Alike, alike-back, is-write, reads-value, read-write, judged-read, Within, clean-within, order-within}
+use Rattle.choices.proofs.Chosen.{status-chosen, status-kept, status-answered, outcome-says, chosen-op-count, chosen-op, chosen-count, chosen-session, chosen-status, chosen-lawful}
+use Rattle.choices.proofs.Alike.{Alike, alike-back, reads-value, read-write, judged-read, Within, clean-within, order-within}
 
 module _ (f : ℕ → Bool) (h : History) where
   -- a choice changes statuses only
@@ -39,30 +39,6 @@ module _ (f : ℕ → Bool) (h : History) where
   says-so : {t : ℕ} → Counts (chosen f h) t → tx (chosen f h) t .status ≡ 1
   says-so (by-status e) = e
   says-so {t} (by-reader e r d v) = absurd (status-answered f t _ (sym (chosen-status f h t) ∙ e))
-
-  chosen-over : (t : ℕ) → Over (tx h t .status) → Over (tx (chosen f h) t .status)
-  chosen-over t (says-aborted e) = says-aborted (kept-status t e (λ q. omega arith))
-  chosen-over t (says-committed e) = says-committed (kept-status t e (λ q. omega arith))
-  chosen-over t (says-unanswered e) =
-      ifso (f t) (λ q. says-committed (chosen-of t e ∙ outcome-committed f t q)) (λ q. says-aborted (chosen-of t e ∙ outcome-aborted f t q))
-
-  -- what holds of a history that a trace is read into holds of it still
-  pub chosen-lawful : LawfulHistory h → LawfulHistory (chosen f h)
-  chosen-lawful ok =
-      record {
-        few-txs = omega (arith, chosen-count f h, ok .few-txs);
-        few-ops = omega (arith, chosen-op-count f h, ok .few-ops);
-        in-tx =
-            λ i o.
-            let t = ok .in-tx i (record { from = o .from; to = omega (arith, o .to, chosen-op-count f h) }) in
-            rw (chosen-op f h i) (record { from = t .from; to = omega (arith, t .to, chosen-count f h) });
-        not-zero = λ x i w. ok .not-zero x i (back w);
-        one-write = λ x v i j a b. ok .one-write x v i j (back a) (back b);
-        is-over = λ t o. chosen-over t (ok .is-over t (record { from = o .from; to = omega (arith, o .to, chosen-count f h) }));
-      }
-    where
-      back : {x v j : ℕ} → IsWrite (chosen f h) x v j → IsWrite h x v j
-      back w = is-write (alike-back chosen-alike) w
 
 module _ {h : History} (ok : LawfulHistory h) where
   -- the writer of a value that is read is a transaction that is over
@@ -92,7 +68,7 @@ module _ {h : History} (ok : LawfulHistory h) where
         go (says-committed e) = by-status e
         go (says-unanswered e) = by-reader e r d v
 
-    smallest-within : Within h (chosen f h)
+    pub smallest-within : Within h (chosen f h)
     smallest-within = record { alike = chosen-alike f h; counts = contains; sources = sources }
 
   -- ── the smallest set is a choice ──
@@ -118,7 +94,7 @@ module _ {h : History} (ok : LawfulHistory h) where
       counts-iff ok t .0 (sym (outcome-says (committed h) t) ∙ eq-eqb _ 1 o))
       (λ q. by-status (sym (status-kept (committed h) t (eqb-false _ 2 q)) ∙ sym (chosen-status (committed h) h t) ∙ e))
 
-  within-smallest : Within smallest h
+  pub within-smallest : Within smallest h
   within-smallest =
       record { alike = alike-back (chosen-alike (committed h) h); counts = chosen-counts; sources = λ r d v c. counts-chosen c }
 

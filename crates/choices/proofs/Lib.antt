@@ -6,3 +6,4 @@ pub mod Walks
 pub mod Bytes
 pub mod Alike
 pub mod Histories
+pub mod Traces

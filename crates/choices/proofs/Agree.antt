@@ -21,7 +21,7 @@ pub record Agree (s b : List ℕ) (a e : ℕ) : Type 0 where
 
 module _ {s b : List ℕ} {a e : ℕ} (x : Agree s b a e) where
   -- a number between them
-  pub agree-le : (w at : ℕ) → a ≤ at → at + w ≤ e → le w b at ≡ le w s at
+  agree-le : (w at : ℕ) → a ≤ at → at + w ≤ e → le w b at ≡ le w s at
   unfolding le
   agree-le zero at l h = refl
   agree-le (suc w) at l h = rw (x .same at l (omega arith), agree-le w (at + 1) (omega arith) (omega arith))

@@ -56,7 +56,9 @@ module _ (f : ℕ → Bool) (s : List ℕ) where
   byte-from start i v l h = rw (add-one (length s)) (h (length s) (omega arith))
   byte-from (on {st} {next} r p n) i v l h =
       byte-from r i v (omega (arith, moved, room .0))
-      (λ k m. same-byte i (from-past k st p (next-not-end n)) ∙ at-other f s st (answeredFrom k f s (after s st)) i (λ q. omega (arith, moved, room .0)) ∙ later k m)
+      (λ k m.
+      same-byte i (from-past k st p (next-not-end n))
+      ∙ at-other f s st (answeredFrom k f s (after s st)) i (λ q. omega (arith, moved, room .0)) ∙ later k m)
     where
       room : (st .at + 8 ≤ after s st .at) × (after s st .at ≤ length s)
       room = after-within s st p
@@ -74,7 +76,8 @@ module _ (f : ℕ → Bool) (s : List ℕ) where
       byte-from (u .reached) (st .at + 8) (outcomeOf f (txCount (st .history))) (omega arith)
       (λ k m.
       same-byte (st .at + 8) (from-past k st (u .passes) (λ q. omega (arith, u .closes)))
-      ∙ at-status f s st (answeredFrom k f s (after s st)) (close-unanswered framed (u .closes) (u .unanswered)) (omega (arith, from-length f s k (after s st), close-length framed (u .closes), framed .sized .there))
+      ∙ at-status f s st (answeredFrom k f s (after s st)) (close-unanswered framed (u .closes) (u .unanswered))
+      (omega (arith, from-length f s k (after s st), close-length framed (u .closes), framed .sized .there))
       ∙ ap (outcomeOf f) (inside-current (st .history) (inside s st (u .passes) (close-outside (u .closes)))))
     where
       framed : Framed s (st .at)

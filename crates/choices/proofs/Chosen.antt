@@ -105,7 +105,10 @@ module _ (f : ℕ → Bool) (h : History) where
   unfolding tx
   chosen-tx zero = ap (λ (c : ℕ). record { session = 0; status = c }) (sym (status-kept f 0 {c = 1} (λ e. omega arith)))
   chosen-tx (suc t) =
-      ⊎-elim (λ l. let p = past (suc t) l in p .1 ∙ rw (p .0) (ap (λ (c : ℕ). record { session = 0; status = c }) (sym (status-kept f (suc t) {c = 0} (λ e. omega arith)))))
+      ⊎-elim
+      (λ l.
+      let p = past (suc t) l in
+      p .1 ∙ rw (p .0) (ap (λ (c : ℕ). record { session = 0; status = c }) (sym (status-kept f (suc t) {c = 0} (λ e. omega arith)))))
       (λ g. within (suc t) (omega arith) g) (split (txCount h) (suc t))
 
   pub chosen-session : (t : ℕ) → tx (chosen f h) t .session ≡ tx h t .session

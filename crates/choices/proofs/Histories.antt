@@ -7,15 +7,15 @@ use lib.Dec.{eqb}
 use native.Mathlib.Omega.{arith}
 use borrow.Author.Tests.{eqb-true, eqb-false, eq-eqb}
 use Rattle.base.proofs.Tests.{ifso}
-use Rattle.rules.specs.History.{History, tx, committed}
+use Rattle.rules.specs.History.{History, tx, op, committed}
 use Rattle.demand1.specs.Lawful.{Over, says-aborted, says-committed, says-unanswered, LawfulHistory}
 use Rattle.demand2.specs.Counts.{ReadsValueOf, Counts, by-status, by-reader}
-use Rattle.demand2.specs.Kinds.{aborted, AllClean}
+use Rattle.demand2.specs.Kinds.{WriteOf, JudgedRead, aborted, AllClean}
 use Rattle.demand2.proofs.Counts.{counts-iff, counts-stable}
 use Rattle.choices.specs.Choices.{outcomeOf, chosen}
 use Rattle.choices.specs.Accepting.{AcceptedAt, AcceptedByChoice}
 use Rattle.choices.proofs.Chosen.{status-chosen, status-kept, status-answered, outcome-says, chosen-op-count, chosen-op, chosen-count, chosen-session, chosen-status, chosen-lawful}
-use Rattle.choices.proofs.Alike.{Alike, alike-back, reads-value, read-write, judged-read, Within, clean-within, order-within}
+use Rattle.choices.proofs.Alike.{Alike, alike-back, reads-value, read-write, judged-read, read-of, Within, clean-within, order-within}
 
 module _ (f : ℕ → Bool) (h : History) where
   -- a choice changes statuses only
@@ -115,3 +115,13 @@ module _ {h : History} (ok : LawfulHistory h) where
         let w = smallest-within (b .choice) (b .accepted .clean) in
         record { clean = clean-within w (b .accepted .clean); ordered = order-within w ok (b .accepted .clean) (b .accepted .ordered) },
   )
+
+-- so an unanswered one gives no aborted read: whose write an aborted read has said that it aborted
+pub aborted-said : {h : History} → LawfulHistory h → {i : ℕ} → JudgedRead h i → {u w : ℕ} → WriteOf h u (op h i .key) (op h i .value) w
+    → (u ≡ op h i .tx → ⊥) → (Counts h u → ⊥) → tx h u .status ≡ 0
+aborted-said {h} ok j {u} k d n = go (writer-over ok (read-of j k))
+  where
+    go : Over (tx h u .status) → tx h u .status ≡ 0
+    go (says-aborted e) = e
+    go (says-committed e) = absurd (n (by-status e))
+    go (says-unanswered e) = absurd (n (by-reader e (j .in-committed) (λ q. d (sym q)) (read-of j k)))

@@ -7,3 +7,4 @@ pub mod Bytes
 pub mod Alike
 pub mod Histories
 pub mod Traces
+pub mod Calls

@@ -88,7 +88,7 @@ module _ (f : ℕ → Bool) where
   pub end-kept : (t : ℕ) (e : Event) → isEnd e ≡ true → eventBy t e ≡ e
   end-kept t e d = event-kept t e (no-close e d)
 
-  pub by-end : (t : ℕ) (e : Event) → isEnd (eventBy t e) ≡ isEnd e
+  by-end : (t : ℕ) (e : Event) → isEnd (eventBy t e) ≡ isEnd e
   unfolding eventBy isEnd
   by-end t (Open s) = refl
   by-end t (Read x v) = refl
@@ -108,7 +108,7 @@ module _ (f : ℕ → Bool) where
       (λ q. ap (ltb 2) (status-kept f t (eqb-false c 2 q)))
 
   -- rows 7 to 10
-  pub by-rows : (h : History) (u t : ℕ) (e : Event) → stepRows h u (eventBy t e) ≡ stepRows h u e
+  by-rows : (h : History) (u t : ℕ) (e : Event) → stepRows h u (eventBy t e) ≡ stepRows h u e
   unfolding eventBy stepRows misplaced unlawful excess repeats
   by-rows h u t (Open s) = refl
   by-rows h u t (Read x v) = refl
@@ -119,7 +119,7 @@ module _ (f : ℕ → Bool) where
   by-rows h u t Other = refl
 
   -- .. ask the same of a history with the chosen outcomes
-  pub chosen-rows : (h : History) (u : ℕ) (e : Event) → stepRows (chosen f h) u e ≡ stepRows h u e
+  chosen-rows : (h : History) (u : ℕ) (e : Event) → stepRows (chosen f h) u e ≡ stepRows h u e
   unfolding stepRows misplaced unlawful excess repeats
   chosen-rows h u (Open s) = rw (chosen-count f h)
   chosen-rows h u (Read x v) = rw (chosen-op-count f h)
@@ -130,7 +130,7 @@ module _ (f : ℕ → Bool) where
   chosen-rows h u Other = refl
 
   -- what is entered
-  pub chosen-entered : (h : History) (t : ℕ) (e : Event) → entered (chosen f h) t (eventBy t e) ≡ chosen f (entered h t e)
+  chosen-entered : (h : History) (t : ℕ) (e : Event) → entered (chosen f h) t (eventBy t e) ≡ chosen f (entered h t e)
   unfolding eventBy entered
   chosen-entered h t (Open s) = sym (chosen-opened f h s)
   chosen-entered h t (Read x v) = sym (chosen-with-op f h (record { tx = t; isWrite = false; key = x; value = v }))
@@ -141,7 +141,7 @@ module _ (f : ℕ → Bool) where
   chosen-entered h t Other = refl
 
   -- a note's text
-  pub by-text : (s b : List ℕ) (at t : ℕ) (e : Event) → len b at ≡ len s at → textAt b at (eventBy t e) ≡ textAt s at e
+  by-text : (s b : List ℕ) (at t : ℕ) (e : Event) → len b at ≡ len s at → textAt b at (eventBy t e) ≡ textAt s at e
   unfolding eventBy textAt
   by-text s b at t (Open n) l = refl
   by-text s b at t (Read x v) l = refl

@@ -61,7 +61,8 @@ module _ (f : ℕ → Bool) (s : List ℕ) where
         let c = unanswered-close framed u in
         let x = header (suc k) st b g in
         let room : st .at + 8 < length behind = omega (arith, from-length f s k (after s st), close-length framed (c .0), framed .sized .there) in
-        let z : status b (st .at) ≡ outcomeOf f (current (st .history)) = one-byte b (st .at + 8) ∙ byte (st .at + 8) (omega arith) ∙ at-status f s st behind u room in
+        let z : status b (st .at) ≡ outcomeOf f (current (st .history)) =
+        one-byte b (st .at + 8) ∙ byte (st .at + 8) (omega arith) ∙ at-status f s st behind u room in
         close-event (agree-framed x framed) (agree-kind x ∙ c .0) ∙ ap Close z
         ∙ sym (ap (eventBy f (current (st .history))) (close-event framed (c .0)) ∙ ap Close (status-chosen f (current (st .history)) (c .1)))
 
@@ -79,7 +80,7 @@ module _ (f : ℕ → Bool) (s : List ℕ) where
     event : eventAt b (st .at) ≡ eventBy f (current (st .history)) (eventIn s st)
     event = ifso (isUnansweredClose (eventIn s st)) event-replaced event-stays
 
-    -- behind it b goes on
+    -- behind it nothing of it is replaced: b goes on
     beyond : (i : ℕ) → after s st .at ≤ i → getD (answeredAt f s st behind) i 0 ≡ getD behind i 0
     unfolding after
     beyond i l =
@@ -106,7 +107,8 @@ module _ (f : ℕ → Bool) (s : List ℕ) where
       walk-refused b (chosenState f st) k (ap (ltb 0) q ∙ t) ∙ ap (λ (n : ℕ). refused n (st .at)) q ∙ sym (ap (chosenReading f) (walk-refused s st k t)))
       (λ t e.
       let x = header (suc k) st b g in
-      let q : eventAt b (st .at) ≡ eventBy f (current (st .history)) (eventIn s st) = stays (suc k) st b g (from-end f s k st e) ∙ sym (end-kept f (current (st .history)) (eventIn s st) e) in
+      let q : eventAt b (st .at) ≡ eventBy f (current (st .history)) (eventIn s st) =
+      stays (suc k) st b g (from-end f s k st e) ∙ sym (end-kept f (current (st .history)) (eventIn s st) e) in
       walk-end b (chosenState f st) k (ap (ltb 0) (refusal-by f st x q) ∙ t) (end-by f st x q ∙ e)
       ∙ ap (finished b) (after-by f st x q) ∙ finished-by f s b (after s st) (g .long) ∙ sym (ap (chosenReading f) (walk-end s st k t e)))
       (λ t e.

@@ -1,9 +1,12 @@
 -- Document 02: "a trace is accepted exactly if some choice of outcomes for the unanswered ones makes it accepted", over histories and for a trace's bytes.
 use Prim.Native.Nat.{ℕ}
+use mathlib.Core.Path.{_≡_}
 use mathlib.Core.Bool.{Bool}
 use mathlib.Core.List.{List}
 use mathlib.Core.Logic.{_↔_}
 use Rattle.rules.specs.History.{History}
+use Rattle.rules.specs.Outcome.{accepting, reported}
+use Rattle.rules.specs.declared.Answer.{Answer}
 use Rattle.demand2.specs.Kinds.{AllClean}
 use Rattle.demand2.specs.Axiom.{HasOrder}
 use Rattle.demand2.specs.Accepted.{AcceptsTrace}
@@ -30,3 +33,7 @@ pub record TraceByChoice (s : List ℕ) (level room : ℕ) : Type 0 where
   pub bytes : List ℕ
   pub answered : Answered choice s bytes
   pub accepted : TraceAccepted bytes level room
+
+-- the judge's answer to a trace accepts, with whatever length of the order, exactly if some choice makes it accepted
+abbrev pub ChoiceDecides : List ℕ → ℕ → ℕ → Answer → Type 0
+ChoiceDecides s level room r = ((n : ℕ) × (reported r ≡ accepting n)) ↔ TraceByChoice s level room

@@ -1,2 +1,4 @@
 pub mod Choices
 pub mod Accepting
+pub mod Cases
+pub mod Outcomes

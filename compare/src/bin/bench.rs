@@ -189,6 +189,7 @@ fn shaped(transactions: usize, change: impl Fn(&mut Shape)) -> Vec<u8> {
         operations: transactions * MAX_OPERATIONS / MAX_TRANSACTIONS,
         writes: 50,
         aborted: 5,
+        unanswered: 0,
         notes: 0,
         stale: 0,
         ahead: false,

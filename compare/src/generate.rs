@@ -48,10 +48,10 @@ pub fn any(random: &mut Random) -> (Origin, Vec<u8>) {
     match random.below(100) {
         0..=3 => (Origin::Bytes, bytes(random)),
         4..=11 => (Origin::Records, records(random)),
-        12..=51 => (Origin::Small, Shape::small(random).trace(random)),
-        52..=63 => (Origin::Medium, Shape::medium(random).trace(random)),
-        64..=67 => (Origin::Large, Shape::large(random).trace(random)),
-        68..=81 => (Origin::Unanswered, Web::drawn(random).trace(random)),
+        12..=47 => (Origin::Small, Shape::small(random).trace(random)),
+        48..=58 => (Origin::Medium, Shape::medium(random).trace(random)),
+        59..=62 => (Origin::Large, Shape::large(random).trace(random)),
+        63..=81 => (Origin::Unanswered, Web::drawn(random).trace(random)),
         _ => (Origin::Damaged, damaged(random)),
     }
 }
@@ -268,9 +268,10 @@ impl Shape {
                         }
                     })
                     .collect();
+                let session = *random.pick(&sessions);
                 let status = self.status(random);
                 Planned {
-                    session: *random.pick(&sessions),
+                    session,
                     status,
                     in_store: match status {
                         Status::Aborted => false,
@@ -286,7 +287,9 @@ impl Shape {
     fn status(&self, random: &mut Random) -> Status {
         if random.percent(self.aborted) {
             Status::Aborted
-        } else if random.percent(self.unanswered) {
+        } else if self.unanswered > 0 && random.percent(self.unanswered) {
+            // No number is drawn for a chance that there is not, so that the
+            // traces for measuring remain what they were without it.
             Status::Unanswered
         } else {
             Status::Committed
@@ -449,7 +452,8 @@ struct Web {
     unanswered: usize,
     /// A read that gets the first of the two values of its writer, not the last.
     intermediate: usize,
-    /// A transaction whose operations stand in any order, not reads first.
+    /// A transaction whose operations stand in any order, not first the reads
+    /// of others, then the writes, then the reads of its own.
     shuffled: usize,
 }
 
@@ -457,29 +461,43 @@ impl Web {
     fn drawn(random: &mut Random) -> Web {
         let transactions = match random.below(20) {
             0 => random.from_to(100, MAX_TRANSACTIONS),
-            1..=3 => random.from_to(8, 40),
+            1..=4 => random.from_to(8, 40),
+            5..=12 => random.from_to(4, 7),
             _ => random.from_to(2, 7),
         };
-        Web {
+        let web = Web {
             transactions,
             sessions: *random.pick(&[2, transactions, 10 * transactions]),
             keys: *random.pick(&[1, 2, transactions, transactions, transactions]),
             aborted: *random.pick(&[0, 0, 10, 30]),
-            unanswered: *random.pick(&[60, 80, 95, 100]),
-            intermediate: *random.pick(&[0, 0, 0, 10, 50]),
-            shuffled: *random.pick(&[0, 0, 0, 10, 50]),
+            unanswered: *random.pick(&[60, 80, 95, 100, 100]),
+            intermediate: *random.pick(&[0, 0, 10, 50]),
+            shuffled: *random.pick(&[0, 0, 10, 50]),
+        };
+        match random.percent(50) {
+            true => web,
+            // Nothing amiss but what the patterns themselves make so.
+            false => Web {
+                sessions: usize::from(u16::MAX),
+                aborted: 0,
+                intermediate: 0,
+                shuffled: 0,
+                ..web
+            },
         }
     }
 
     fn trace(&self, random: &mut Random) -> Vec<u8> {
         let reads = self.reads(random);
+        let statuses = self.statuses(random);
         let mut writer = Writer::new(first_serial(random));
         for (reader, sources) in reads.iter().enumerate() {
-            let mut operations: Vec<PlannedOperation> = sources
-                .iter()
-                .map(|&source| self.read(random, source))
-                .collect();
+            let (own, others): (Vec<usize>, Vec<usize>) =
+                sources.iter().partition(|&&source| source == reader);
+            let mut operations: Vec<PlannedOperation> = Vec::new();
+            operations.extend(others.iter().map(|&source| self.read(random, source)));
             operations.extend(self.writes(reader));
+            operations.extend(own.iter().map(|&source| self.read(random, source)));
             if random.percent(self.shuffled) {
                 random.shuffle(&mut operations);
             }
@@ -487,7 +505,7 @@ impl Web {
             for operation in operations {
                 operation.write(&mut writer);
             }
-            writer.close(self.status(random) as u8);
+            writer.close(statuses[reader] as u8);
         }
         writer.end()
     }
@@ -495,7 +513,7 @@ impl Web {
     /// Whom each transaction reads: one to three patterns, one over another.
     fn reads(&self, random: &mut Random) -> Vec<Vec<usize>> {
         let mut reads = vec![Vec::new(); self.transactions];
-        for _ in 0..random.from_to(1, 3) {
+        for _ in 0..*random.pick(&[1, 1, 1, 2, 3]) {
             // Mostly a long stretch, or few of the long ways would be tried.
             let last = self.transactions - 1;
             let (first, last) = match random.percent(60) {
@@ -505,30 +523,41 @@ impl Web {
                     (first, random.from_to(first, last))
                 }
             };
-            match random.below(6) {
-                0 => (first..last).for_each(|t| reads[t].push(t + 1)),
-                1 => (first..last).for_each(|t| reads[t + 1].push(t)),
-                2 => {
+            match random.below(10) {
+                0..=2 => (first..last).for_each(|t| reads[t].push(t + 1)),
+                3..=5 => (first..last).for_each(|t| reads[t + 1].push(t)),
+                6 | 7 => {
                     // A ring: of two, they read each other; of one, itself.
                     let last = last.min(first + random.below(4));
                     (first..last).for_each(|t| reads[t].push(t + 1));
                     reads[last].push(first);
                 }
-                3 => reads[first].push(first),
+                8 => reads[first].push(first),
                 _ => reads[first].push(random.below(self.transactions)),
             }
         }
         reads
     }
 
-    fn status(&self, random: &mut Random) -> Status {
-        if random.percent(self.unanswered) {
-            Status::Unanswered
-        } else if random.percent(self.aborted) {
-            Status::Aborted
-        } else {
-            Status::Committed
+    fn statuses(&self, random: &mut Random) -> Vec<Status> {
+        let mut statuses: Vec<Status> = (0..self.transactions)
+            .map(|_| {
+                if random.percent(self.unanswered) {
+                    Status::Unanswered
+                } else if random.percent(self.aborted) {
+                    Status::Aborted
+                } else {
+                    Status::Committed
+                }
+            })
+            .collect();
+        // A chain counts as a whole if the end that reads it did commit.
+        match random.below(3) {
+            0 => statuses[0] = Status::Committed,
+            1 => statuses[self.transactions - 1] = Status::Committed,
+            _ => {}
         }
+        statuses
     }
 
     /// Both writes of a transaction are of its key.

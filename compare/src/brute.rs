@@ -40,7 +40,7 @@ pub struct Outcome {
 
 /// Decides, or answers nothing if there are too many orders to try.
 pub fn judge(trace: &Trace, level: Level) -> Option<Outcome> {
-    let choices = Choices::new(trace)?;
+    let choices = Choices::few(trace)?;
     if choices.committed.len() + choices.unanswered.len() > MOST {
         return None;
     }
@@ -69,7 +69,15 @@ pub fn judge(trace: &Trace, level: Level) -> Option<Outcome> {
 /// The transactions that count as committed, 0 among them, ascending; nothing
 /// if there are too many choices to try.
 pub fn counted(trace: &Trace) -> Option<Vec<u8>> {
-    Some(Choices::new(trace)?.smallest_closed())
+    Some(Choices::few(trace)?.smallest_closed())
+}
+
+/// Whether each unanswered transaction is among `counted` exactly if another of
+/// these reads one of its values; for any number of transactions.
+pub fn counts_exactly(trace: &Trace, counted: &[u8]) -> bool {
+    let choices = Choices::new(trace);
+    let mut unanswered = choices.unanswered.iter();
+    unanswered.all(|t| counted.contains(t) == choices.read_by_other(*t, counted))
 }
 
 /// The trace with each choice of outcomes entered as the recorder would have
@@ -85,7 +93,7 @@ pub fn answered(trace: &Trace) -> Option<Vec<Trace>> {
         }
         answered
     };
-    Some(Choices::new(trace)?.all().map(enter).collect())
+    Some(Choices::few(trace)?.all().map(enter).collect())
 }
 
 /// The findings, and the listed pairs of the level, by their definitions alone
@@ -113,12 +121,14 @@ struct Choices {
 
 impl Choices {
     /// Nothing if there are too many to try.
-    fn new(trace: &Trace) -> Option<Choices> {
+    fn few(trace: &Trace) -> Option<Choices> {
+        let unanswered = trace.with_status(Status::Unanswered).count();
+        (unanswered <= MOST_UNANSWERED).then(|| Choices::new(trace))
+    }
+
+    fn new(trace: &Trace) -> Choices {
         let with = |status| trace.with_status(status).collect();
         let unanswered: Vec<u8> = with(Status::Unanswered);
-        if unanswered.len() > MOST_UNANSWERED {
-            return None;
-        }
         let mut reads_value = Relation::new(&[], |_, _| false);
         let is_open = |w: &&Operation| w.is_write && unanswered.contains(&w.transaction);
         for write in trace.operations.iter().filter(is_open) {
@@ -128,11 +138,11 @@ impl Choices {
                 }
             }
         }
-        Some(Choices {
+        Choices {
             committed: with(Status::Committed),
             unanswered,
             reads_value,
-        })
+        }
     }
 
     /// Every choice: transaction 0, the committed ones and some of the
@@ -149,18 +159,24 @@ impl Choices {
         })
     }
 
+    /// Whether a member of the choice other than `t` reads a value of `t`.
+    fn read_by_other(&self, t: u8, choice: &[u8]) -> bool {
+        let mut others = choice.iter().filter(|&&other| other != t);
+        others.any(|&other| self.reads_value.holds(other, t))
+    }
+
     /// Whether each unanswered one that another member reads is a member.
     fn is_closed(&self, choice: &[u8]) -> bool {
-        let read_by_other =
-            |t: u8| (choice.iter()).any(|&other| other != t && self.reads_value.holds(other, t));
-        (self.unanswered.iter()).all(|t| choice.contains(t) || !read_by_other(*t))
+        let mut unanswered = self.unanswered.iter();
+        unanswered.all(|t| choice.contains(t) || !self.read_by_other(*t, choice))
     }
 
     /// The closed choice that every closed choice contains.
     fn smallest_closed(&self) -> Vec<u8> {
         let closed: Vec<_> = self.all().filter(|c| self.is_closed(c)).collect();
         let contained = |one: &Vec<u8>, other: &Vec<u8>| one.iter().all(|t| other.contains(t));
-        let smallest = (closed.iter()).find(|one| closed.iter().all(|other| contained(one, other)));
+        let in_all = |one: &&Vec<u8>| closed.iter().all(|other| contained(one, other));
+        let smallest = closed.iter().find(in_all);
         smallest
             .expect("what closed choices have in common is closed")
             .clone()

@@ -47,8 +47,23 @@ fn what_counts_is_found_both_ways() {
     ] {
         let trace = read(notation);
         assert_eq!(graph::counted(&trace), counted, "{notation}");
+        assert!(brute::counts_exactly(&trace, &counted), "{notation}");
         assert_eq!(brute::counted(&trace), Some(counted), "{notation}");
     }
+}
+
+#[test]
+fn the_smallest_set_is_not_the_only_one() {
+    let trace = read("T1 r2=7 w1=5 unanswered; T2 r1=5 w2=7 unanswered");
+    for (set, is_such) in [
+        (vec![0], true),
+        (vec![0, 1], false),
+        (vec![0, 2], false),
+        (vec![0, 1, 2], true),
+    ] {
+        assert_eq!(brute::counts_exactly(&trace, &set), is_such, "{set:?}");
+    }
+    assert_eq!(brute::counted(&trace), Some(vec![0]));
 }
 
 #[test]
@@ -88,6 +103,7 @@ fn what_counts_in_random_traces_is_the_smallest_closed_choice() {
     for (stream, trace) in random_traces(9, 4_000) {
         if let Some(smallest) = brute::counted(&trace) {
             assert_eq!(graph::counted(&trace), smallest, "{stream}");
+            assert!(brute::counts_exactly(&trace, &smallest), "{stream}");
             let unanswered = trace.with_status(Status::Unanswered).count();
             with_unanswered += usize::from(unanswered > 0);
         }

@@ -237,7 +237,9 @@ struct Deciders {
     graph: String,
 }
 
-/// What counts as committed is the smallest closed choice of outcomes.
+/// What counts as committed is the smallest closed choice of outcomes. Where
+/// there are too many to try, each unanswered one counts at least exactly if
+/// another that counts reads it.
 fn check_counted(trace: &Trace, summary: &mut Summary) -> Result<(), Deciders> {
     let ours = graph::counted(trace);
     for unanswered in trace.with_status(Status::Unanswered) {
@@ -246,17 +248,25 @@ fn check_counted(trace: &Trace, summary: &mut Summary) -> Result<(), Deciders> {
             false => summary.uncounted += 1,
         }
     }
+    let differs = |tried, brute| Deciders {
+        tried,
+        brute,
+        graph: format!("counted {ours:?}\n"),
+    };
+    if !brute::counts_exactly(trace, &ours) {
+        let brute = "one counts that no other reads, or the reverse\n".into();
+        return Err(differs("looking for readers", brute));
+    }
     let Some(smallest) = brute::counted(trace) else {
         return Ok(());
     };
     summary.brute_counted += 1;
     match smallest == ours {
         true => Ok(()),
-        false => Err(Deciders {
-            tried: "trying every set",
-            brute: format!("counted {smallest:?}\n"),
-            graph: format!("counted {ours:?}\n"),
-        }),
+        false => Err(differs(
+            "trying every set",
+            format!("counted {smallest:?}\n"),
+        )),
     }
 }
 

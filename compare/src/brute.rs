@@ -1,4 +1,9 @@
-//! Deciding small traces by trying every order.
+//! Deciding small traces by trying every order, and what counts as committed by
+//! trying every choice of outcomes for the unanswered commits.
+//!
+//! Of the choices, each a set of transactions that are taken as committed, those
+//! are closed that have every unanswered one whose value another member reads;
+//! what counts is the smallest closed one.
 //!
 //! An order is tested against the axioms as Biswas and Enea publish them (On
 //! the Complexity of Checking Transactional Consistency, OOPSLA 2019), not
@@ -15,24 +20,31 @@
 //! search; nothing is shared with [`crate::graph`].
 
 use crate::report::{Finding, Level, Pair, Verdict, READ, RIVAL, SESSION, START};
-use crate::trace::{Operation, Trace, MAX_TRANSACTIONS};
+use crate::trace::{Operation, Status, Trace, MAX_TRANSACTIONS};
 
-/// The most committed transactions besides 0 for which orders are tried.
+/// The most transactions besides 0, committed and unanswered, for which orders
+/// are tried.
 pub const MOST: usize = 7;
+
+/// The most unanswered transactions for which choices of outcomes are tried.
+pub const MOST_UNANSWERED: usize = 8;
 
 /// What trying every order says of a trace at a level.
 pub struct Outcome {
     pub verdict: Verdict,
     /// Whether some order passes, unclean reads left aside.
     pub order_exists: bool,
+    /// Whether some choice of outcomes, not only what counts, is accepted.
+    pub some_choice: bool,
 }
 
 /// Decides, or answers nothing if there are too many orders to try.
 pub fn judge(trace: &Trace, level: Level) -> Option<Outcome> {
-    if trace.transactions.iter().filter(|t| t.committed).count() > MOST {
+    let choices = Choices::few(trace)?;
+    if choices.committed.len() + choices.unanswered.len() > MOST {
         return None;
     }
-    let small = Small::new(trace);
+    let small = Small::new(trace, choices.smallest_closed());
     let first_order = small.first_order(level);
     let order_exists = first_order.is_some();
     let verdict = match first_order {
@@ -42,24 +54,133 @@ pub fn judge(trace: &Trace, level: Level) -> Option<Outcome> {
             pairs: small.listed(level),
         },
     };
+    let accepts = |choice| {
+        let small = Small::new(trace, choice);
+        small.findings.is_empty() && small.first_order(level).is_some()
+    };
+    let some_choice = choices.all().any(accepts);
     Some(Outcome {
         verdict,
         order_exists,
+        some_choice,
     })
 }
 
+/// The transactions that count as committed, 0 among them, ascending; nothing
+/// if there are too many choices to try.
+pub fn counted(trace: &Trace) -> Option<Vec<u8>> {
+    Some(Choices::few(trace)?.smallest_closed())
+}
+
+/// Whether each unanswered transaction is among `counted` exactly if another of
+/// these reads one of its values; for any number of transactions.
+pub fn counts_exactly(trace: &Trace, counted: &[u8]) -> bool {
+    let choices = Choices::new(trace);
+    let mut unanswered = choices.unanswered.iter();
+    unanswered.all(|t| counted.contains(t) == choices.read_by_other(*t, counted))
+}
+
+/// The trace with each choice of outcomes entered as the recorder would have
+/// entered it, had all commits been answered; nothing if there are too many.
+pub fn answered(trace: &Trace) -> Option<Vec<Trace>> {
+    let enter = |choice: Vec<u8>| {
+        let mut answered = trace.clone();
+        for (number, transaction) in (1..).zip(&mut answered.transactions) {
+            transaction.status = match choice.contains(&number) {
+                true => Status::Committed,
+                false => Status::Aborted,
+            };
+        }
+        answered
+    };
+    Some(Choices::few(trace)?.all().map(enter).collect())
+}
+
 /// The findings, and the listed pairs of the level, by their definitions alone
-/// and for any number of transactions; slowly, if there are many.
-pub fn lists(trace: &Trace, level: Level) -> (Vec<Finding>, Vec<Pair>) {
-    let small = Small::new(trace);
+/// and for any number of transactions, given those that count; slowly, if there
+/// are many.
+pub fn lists(trace: &Trace, counted: &[u8], level: Level) -> (Vec<Finding>, Vec<Pair>) {
+    let small = Small::new(trace, counted.to_vec());
     let pairs = small.listed(level);
     (small.findings, pairs)
 }
 
 /// The order by its rule alone, unclean reads left aside, for any number of
-/// transactions; nothing if some are never placed.
-pub fn order(trace: &Trace, level: Level) -> Option<Vec<u8>> {
-    Small::new(trace).order(level)
+/// transactions, given those that count; nothing if some are never placed.
+pub fn order(trace: &Trace, counted: &[u8], level: Level) -> Option<Vec<u8>> {
+    Small::new(trace, counted.to_vec()).order(level)
+}
+
+/// The outcomes that a trace leaves open.
+struct Choices {
+    committed: Vec<u8>,
+    unanswered: Vec<u8>,
+    /// Who reads a value of which unanswered one, cleanly or not.
+    reads_value: Relation,
+}
+
+impl Choices {
+    /// Nothing if there are too many to try.
+    fn few(trace: &Trace) -> Option<Choices> {
+        let unanswered = trace.with_status(Status::Unanswered).count();
+        (unanswered <= MOST_UNANSWERED).then(|| Choices::new(trace))
+    }
+
+    fn new(trace: &Trace) -> Choices {
+        let with = |status| trace.with_status(status).collect();
+        let unanswered: Vec<u8> = with(Status::Unanswered);
+        let mut reads_value = Relation::new(&[], |_, _| false);
+        let is_open = |w: &&Operation| w.is_write && unanswered.contains(&w.transaction);
+        for write in trace.operations.iter().filter(is_open) {
+            for read in trace.operations.iter().filter(|r| !r.is_write) {
+                if (read.key, read.value) == (write.key, write.value) {
+                    reads_value.enter(read.transaction, write.transaction);
+                }
+            }
+        }
+        Choices {
+            committed: with(Status::Committed),
+            unanswered,
+            reads_value,
+        }
+    }
+
+    /// Every choice: transaction 0, the committed ones and some of the
+    /// unanswered ones, ascending. One that another contains comes before it.
+    fn all(&self) -> impl Iterator<Item = Vec<u8>> + '_ {
+        (0..1_usize << self.unanswered.len()).map(|bits| {
+            let taken = |&(index, _): &(usize, &u8)| bits >> index & 1 == 1;
+            let some = self.unanswered.iter().enumerate().filter(taken);
+            let mut choice = vec![0];
+            choice.extend(&self.committed);
+            choice.extend(some.map(|(_, t)| t));
+            choice.sort_unstable();
+            choice
+        })
+    }
+
+    /// Whether a member of the choice other than `t` reads a value of `t`.
+    fn read_by_other(&self, t: u8, choice: &[u8]) -> bool {
+        let mut others = choice.iter().filter(|&&other| other != t);
+        others.any(|&other| self.reads_value.holds(other, t))
+    }
+
+    /// Whether each unanswered one that another member reads is a member.
+    fn is_closed(&self, choice: &[u8]) -> bool {
+        let mut unanswered = self.unanswered.iter();
+        unanswered.all(|t| choice.contains(t) || !self.read_by_other(*t, choice))
+    }
+
+    /// The closed choice that every closed choice contains.
+    fn smallest_closed(&self) -> Vec<u8> {
+        let closed: Vec<_> = self.all().filter(|c| self.is_closed(c)).collect();
+        let contained = |one: &Vec<u8>, other: &Vec<u8>| one.iter().all(|t| other.contains(t));
+        let in_all = |one: &&Vec<u8>| closed.iter().all(|other| contained(one, other));
+        let smallest = closed.iter().find(in_all);
+        smallest
+            .expect("what closed choices have in common is closed")
+            .clone()
+    }
 }
 
 /// Where a clean external read stands and what it came from.
@@ -72,8 +193,8 @@ struct ExternalRead {
 
 struct Small<'a> {
     trace: &'a Trace,
-    /// Transaction 0 and the committed ones, ascending.
-    committed: Vec<u8>,
+    /// Transaction 0 and those taken as committed, ascending.
+    counted: Vec<u8>,
     findings: Vec<Finding>,
     reads: Vec<ExternalRead>,
     /// SO and WR together; 0 is first in SO.
@@ -83,23 +204,17 @@ struct Small<'a> {
 }
 
 impl<'a> Small<'a> {
-    fn new(trace: &'a Trace) -> Small<'a> {
-        let mut committed = vec![0];
-        committed.extend(
-            (1..)
-                .zip(&trace.transactions)
-                .filter_map(|(number, t)| t.committed.then_some(number)),
-        );
+    fn new(trace: &'a Trace, counted: Vec<u8>) -> Small<'a> {
         let mut small = Small {
             trace,
-            committed,
+            counted,
             findings: Vec::new(),
             reads: Vec::new(),
             so_or_wr: Relation::default(),
             causal: Relation::default(),
         };
         for (index, operation) in trace.operations.iter().enumerate() {
-            if operation.is_write || !small.committed.contains(&operation.transaction) {
+            if operation.is_write || !small.counted.contains(&operation.transaction) {
                 continue;
             }
             match small.kind(index, operation) {
@@ -117,10 +232,10 @@ impl<'a> Small<'a> {
                 }),
             }
         }
-        small.so_or_wr = Relation::new(&small.committed, |a, b| {
+        small.so_or_wr = Relation::new(&small.counted, |a, b| {
             small.start(a, b) || small.session(a, b) || small.wr(a, b)
         });
-        small.causal = Relation::new(&small.committed, |a, b| small.leads(a, b, &small.so_or_wr));
+        small.causal = Relation::new(&small.counted, |a, b| small.leads(a, b, &small.so_or_wr));
         small
     }
 
@@ -146,7 +261,7 @@ impl<'a> Small<'a> {
         if value != 0 && write.is_none() {
             return Read::Unclean(1);
         }
-        if write.is_some_and(|(_, author)| author != t && !self.committed.contains(&author)) {
+        if write.is_some_and(|(_, author)| author != t && !self.counted.contains(&author)) {
             return Read::Unclean(2);
         }
         if write.is_some_and(|(at, author)| author == t && at > index) {
@@ -171,7 +286,7 @@ impl<'a> Small<'a> {
         }
     }
 
-    /// Whether a committed transaction writes `key`; 0 writes every key.
+    /// Whether a counted transaction writes `key`; 0 writes every key.
     fn writes(&self, t: u8, key: u32) -> bool {
         t == 0 || self.writes_of(t, key).next().is_some()
     }
@@ -206,7 +321,7 @@ impl<'a> Small<'a> {
         let mut reached: Vec<u8> = Vec::new();
         let mut from = vec![a];
         while let Some(here) = from.pop() {
-            for &next in &self.committed {
+            for &next in &self.counted {
                 if pair.holds(here, next) && !reached.contains(&next) {
                     reached.push(next);
                     from.push(next);
@@ -218,7 +333,7 @@ impl<'a> Small<'a> {
 
     /// The first order in dictionary order, 0 first, that passes.
     fn first_order(&self, level: Level) -> Option<Vec<u8>> {
-        let mut order = self.committed.clone();
+        let mut order = self.counted.clone();
         loop {
             if self.passes(level, &order) {
                 return Some(order);
@@ -237,7 +352,7 @@ impl<'a> Small<'a> {
             place[usize::from(t)] = at;
         }
         let in_co = |a: u8, b: u8| place[usize::from(a)] < place[usize::from(b)];
-        let all = |holds: &dyn Fn(u8) -> bool| self.committed.iter().all(|&t| holds(t));
+        let all = |holds: &dyn Fn(u8) -> bool| self.counted.iter().all(|&t| holds(t));
         all(&|a| all(&|b| in_co(a, b) || !self.so_or_wr.holds(a, b)))
             && self.reads.iter().all(|read| {
                 let t1 = read.source;
@@ -273,8 +388,8 @@ impl<'a> Small<'a> {
     /// The forced pairs, by first and then second.
     fn forced(&self, level: Level) -> Vec<Pair> {
         let mut forced = Vec::new();
-        for &first in &self.committed {
-            for &second in &self.committed {
+        for &first in &self.counted {
+            for &second in &self.counted {
                 let reasons = self.reasons(level, first, second);
                 if reasons != 0 {
                     forced.push(Pair {
@@ -292,7 +407,7 @@ impl<'a> Small<'a> {
     fn listed(&self, level: Level) -> Vec<Pair> {
         let mut listed = self.forced(level);
         let forced = listed.clone();
-        let is_forced = Relation::new(&self.committed, |a, b| {
+        let is_forced = Relation::new(&self.counted, |a, b| {
             forced.iter().any(|p| (p.first, p.second) == (a, b))
         });
         listed.retain(|p| self.leads(p.second, p.first, &is_forced));
@@ -304,10 +419,10 @@ impl<'a> Small<'a> {
     fn order(&self, level: Level) -> Option<Vec<u8>> {
         let forced = self.forced(level);
         let mut order = Vec::new();
-        while order.len() < self.committed.len() {
+        while order.len() < self.counted.len() {
             let is_placed = |t: u8| order.contains(&t);
             let is_free = |t: u8| forced.iter().all(|p| p.second != t || is_placed(p.first));
-            let mut candidates = self.committed.iter().copied();
+            let mut candidates = self.counted.iter().copied();
             let next = candidates.find(|&t| !is_placed(t) && is_free(t))?;
             order.push(next);
         }
@@ -328,6 +443,10 @@ impl Relation {
             }
         }
         Relation(table)
+    }
+
+    fn enter(&mut self, a: u8, b: u8) {
+        self.0[usize::from(a)][usize::from(b)] = true;
     }
 
     fn holds(&self, a: u8, b: u8) -> bool {

@@ -1,9 +1,9 @@
 //! Traces whose answers are known: those of the specification, worked there by
-//! hand, and its edges, each with what `judge` has to print.
+//! hand, its edges, and unanswered commits, each with what `judge` has to print.
 
 use crate::encode::Writer;
 use crate::text;
-use crate::trace::{CLOSE, END, MAX_BYTES, NOTE, OPEN, WRITE};
+use crate::trace::{Status, CLOSE, END, MAX_BYTES, MAX_TRANSACTIONS, NOTE, OPEN, WRITE};
 
 /// A trace with the output that it must have.
 pub struct Case {
@@ -16,6 +16,9 @@ pub struct Case {
 pub fn all() -> Vec<Case> {
     let mut cases = document();
     cases.extend(fine_points());
+    cases.extend(unanswered());
+    cases.extend(unanswered_pairs());
+    cases.extend(unanswered_chains());
     cases.extend(limits());
     cases.extend(framing());
     cases.extend(order_of_checks());
@@ -179,6 +182,276 @@ pub fn fine_points() -> Vec<Case> {
     ]
 }
 
+/// Which unanswered commits count, worked by hand. One that does not count
+/// behaves as an aborted one, so the answers without it tell the two apart.
+pub fn unanswered() -> Vec<Case> {
+    vec![
+        written(
+            "unanswered, read",
+            "T1 w1=5 unanswered; T2 r1=5",
+            same("accepted 0 1 2"),
+        ),
+        written(
+            "unanswered, read by an earlier one",
+            "T1 r1=5; T2 w1=5 unanswered",
+            same("accepted 0 2 1"),
+        ),
+        written(
+            "unanswered, its key read but not its value",
+            "T1 w1=5 unanswered; T2 r1=0",
+            same("accepted 0 2"),
+        ),
+        written(
+            "unanswered, its value read of another key",
+            "T1 w1=5 unanswered; T2 r2=5",
+            same("rejected 1 0\nread 2 2 1"),
+        ),
+        written("unanswered alone", "T1 unanswered", same("accepted 0")),
+        written(
+            "unanswered, read only by itself",
+            "T1 w1=5 r1=5 unanswered; T2",
+            same("accepted 0 2"),
+        ),
+        written(
+            "unanswered, read only by itself, before its write",
+            "T1 r1=5 w1=5 unanswered; T2",
+            same("accepted 0 2"),
+        ),
+        written(
+            "unanswered, read by an aborted one",
+            "T1 w1=5 unanswered; T2 r1=5 aborted; T3 r1=0",
+            same("accepted 0 3"),
+        ),
+        written(
+            "unanswered, read by an aborted one that is read",
+            "T1 w1=5 unanswered; T2 r1=5 w2=6 aborted; T3 r2=6",
+            same("rejected 1 0\nread 3 4 2"),
+        ),
+        written(
+            "unanswered, read by an unanswered one that is read",
+            "T1 w1=5 unanswered; T2 r1=5 w2=6 unanswered; T3 r2=6",
+            same("accepted 0 1 2 3"),
+        ),
+        written(
+            "unanswered, read by an unanswered one that is not read",
+            "T1 w1=5 unanswered; T2 r1=5 w2=6 unanswered; T3",
+            same("accepted 0 3"),
+        ),
+        written(
+            "unanswered, read by an unanswered one that only itself reads",
+            "T1 w1=5 unanswered; T2 r1=5 w2=6 r2=6 unanswered; T3",
+            same("accepted 0 3"),
+        ),
+        written(
+            "two unanswered ones that only read each other",
+            "T1 r2=7 w1=5 unanswered; T2 r1=5 w2=7 unanswered",
+            same("accepted 0"),
+        ),
+        written(
+            "two unanswered ones that read each other, and an aborted reader",
+            "T1 r2=7 w1=5 unanswered; T2 r1=5 w2=7 unanswered; T3 r1=5 aborted; T4",
+            same("accepted 0 4"),
+        ),
+        written(
+            "two unanswered ones that read each other, one of them read",
+            "T1 r2=7 w1=5 unanswered; T2 r1=5 w2=7 unanswered; T3 r1=5",
+            same("rejected 0 2\npair 1 2 4\npair 2 1 4"),
+        ),
+        written(
+            "unanswered, its intermediate value read",
+            "T1 w1=5 w1=6 unanswered; T2 r1=5",
+            same("rejected 1 0\nread 2 3 6"),
+        ),
+        written(
+            "unanswered, read as not my own",
+            "T1 w1=5 unanswered; T2 w1=6 r1=5",
+            same("rejected 1 0\nread 2 3 5"),
+        ),
+        written(
+            "unanswered, an aborted one's value read",
+            "T1 w1=5 aborted; T2 r1=5 w2=6 unanswered; T3 r2=6",
+            same("rejected 1 0\nread 2 2 2"),
+        ),
+        written(
+            "unanswered, counted: its own reads are judged",
+            "T1 r9=9 r1=5 w1=5 w2=6 unanswered; T2 r2=6",
+            same("rejected 2 0\nread 1 1 1\nread 1 2 3"),
+        ),
+        written(
+            "unanswered, not counted: its own reads are not judged",
+            "T1 r9=9 r1=5 w1=5 w2=6 unanswered; T2 r2=0",
+            same("accepted 0 2"),
+        ),
+    ]
+}
+
+/// The pairs of unanswered commits, worked by hand: those that count give all,
+/// the others none.
+pub fn unanswered_pairs() -> Vec<Case> {
+    let rc_and_others = |rc: &str, others: &str| format!("rc {rc}\nra {others}\ntcc {others}\n");
+    vec![
+        written(
+            "P14 with an unanswered rival that does not count",
+            "T1 s1 w1=5 unanswered; T2 s1 r1=0",
+            same("accepted 0 2"),
+        ),
+        // T3 has 0 before it and reads from T1, so 0 is a rival of T1 too.
+        written(
+            "P14 with an unanswered rival that counts",
+            "T1 s1 w1=5 w2=6 unanswered; T2 s1 r1=0; T3 r2=6",
+            rc_and_others("accepted 0 1 2 3", "rejected 0 2\npair 0 1 9\npair 1 0 8"),
+        ),
+        // T2's read is unclean and gives no pair, but T1 counts by it.
+        written(
+            "unanswered, counted by an intermediate read",
+            "T1 s1 w1=5 w1=6 w2=7 unanswered; T2 r1=5; T3 s1 r2=0",
+            rc_and_others(
+                "rejected 1 0\nread 2 4 6",
+                "rejected 1 2\nread 2 4 6\npair 0 1 1\npair 1 0 8",
+            ),
+        ),
+        written(
+            "unanswered, counted by a read that is not my own",
+            "T1 s1 w1=5 w2=7 unanswered; T2 w1=6 r1=5; T3 s1 r2=0",
+            rc_and_others(
+                "rejected 1 0\nread 2 4 5",
+                "rejected 1 2\nread 2 4 5\npair 0 1 1\npair 1 0 8",
+            ),
+        ),
+        // T2 counts by T3's unclean read, and T1 by T2.
+        written(
+            "unanswered, counted by way of an intermediate read",
+            "T1 s1 w1=5 w2=7 unanswered; T2 r1=5 w3=8 w3=9 unanswered; T3 r3=8; T4 s1 r2=0",
+            rc_and_others(
+                "rejected 1 0\nread 3 6 6",
+                "rejected 1 2\nread 3 6 6\npair 0 1 9\npair 1 0 8",
+            ),
+        ),
+        written(
+            "P10 with unanswered writers",
+            "T1 w1=5 unanswered; T2 w1=6 unanswered; T3 r1=5 r1=6",
+            rc_and_others("accepted 0 1 2 3", "rejected 0 2\npair 1 2 8\npair 2 1 8"),
+        ),
+        written(
+            "P10 with an unanswered reader",
+            "T1 w1=5; T2 w1=6; T3 r1=5 r1=6 unanswered",
+            same("accepted 0 1 2"),
+        ),
+        written(
+            "P12 with an unanswered one between",
+            "T1 w1=5; T2 r1=5 w2=7 unanswered; T3 r2=7 r1=0",
+            "rc accepted 0 1 2 3\nra accepted 0 1 2 3\n\
+             tcc rejected 0 2\npair 0 1 9\npair 1 0 8\n"
+                .into(),
+        ),
+        // T2 is no rival, and T1 is before T3 all the same.
+        written(
+            "an unanswered one that does not count, inside a session",
+            "T1 s1 w1=5; T2 s1 w1=6 unanswered; T3 s1 r1=0",
+            rc_and_others("accepted 0 1 3", "rejected 0 2\npair 0 1 1\npair 1 0 8"),
+        ),
+    ]
+}
+
+/// A transaction of a chain: its session is its number, its value too.
+fn link(writer: &mut Writer, number: u16, reads: Option<u16>, writes: bool, status: Status) {
+    writer.open(number);
+    if let Some(value) = reads {
+        writer.read(1, value.into());
+    }
+    if writes {
+        writer.write(1, number.into());
+    }
+    writer.close(status as u8);
+}
+
+/// Unanswered ones of which each is read by the next; then the last reader.
+fn each_read_by_next(unanswered: u16, last_reader: Status) -> Vec<u8> {
+    let mut writer = Writer::new(0);
+    link(&mut writer, 1, None, true, Status::Unanswered);
+    for t in 2..=unanswered {
+        link(&mut writer, t, Some(t - 1), true, Status::Unanswered);
+    }
+    let last = unanswered + 1;
+    link(&mut writer, last, Some(unanswered), false, last_reader);
+    writer.end()
+}
+
+/// The first reader; then unanswered ones of which each reads the next.
+fn each_reads_next(unanswered: u16, first_reader: Status) -> Vec<u8> {
+    let mut writer = Writer::new(0);
+    link(&mut writer, 1, Some(2), false, first_reader);
+    for t in 2..=unanswered {
+        link(&mut writer, t, Some(t + 1), true, Status::Unanswered);
+    }
+    link(&mut writer, unanswered + 1, None, true, Status::Unanswered);
+    writer.end()
+}
+
+/// Chains of unanswered ones, in both directions. All write the same key, and
+/// each that leads to a reader comes before its source anyway.
+pub fn unanswered_chains() -> Vec<Case> {
+    let most = MAX_TRANSACTIONS as u16 - 1;
+    let backwards: Vec<String> = (1..=MAX_TRANSACTIONS)
+        .rev()
+        .map(|n| n.to_string())
+        .collect();
+    let all = format!("accepted {}", counting(MAX_TRANSACTIONS));
+    let all_backwards = format!("accepted 0 {}", backwards.join(" "));
+    let chain = |name, bytes, block: &str| Case {
+        name,
+        bytes,
+        output: same(block),
+    };
+    vec![
+        written(
+            "chain of unanswered ones, each read by the next",
+            "T1 w1=1 unanswered; T2 r1=1 w1=2 unanswered; T3 r1=2 w1=3 unanswered; T4 r1=3",
+            same("accepted 0 1 2 3 4"),
+        ),
+        written(
+            "chain of unanswered ones, each reads the next",
+            "T1 r1=2; T2 r1=3 w1=2 unanswered; T3 r1=4 w1=3 unanswered; T4 w1=4 unanswered",
+            same("accepted 0 4 3 2 1"),
+        ),
+        written(
+            "chain of unanswered ones with an aborted one in it",
+            "T1 w1=1 unanswered; T2 r1=1 w1=2 aborted; T3 r1=2 w1=3 unanswered; T4 r1=3",
+            same("rejected 1 0\nread 3 4 2"),
+        ),
+        chain(
+            "chain of 126, each read by the next",
+            each_read_by_next(most, Status::Committed),
+            &all,
+        ),
+        chain(
+            "chain of 126, each reads the next",
+            each_reads_next(most, Status::Committed),
+            &all_backwards,
+        ),
+        chain(
+            "chain of 126, each read by the next, the last by an aborted one",
+            each_read_by_next(most, Status::Aborted),
+            "accepted 0",
+        ),
+        chain(
+            "chain of 126, each reads the next, the first read by an aborted one",
+            each_reads_next(most, Status::Aborted),
+            "accepted 0",
+        ),
+        chain(
+            "127 unanswered, each read by the next",
+            each_read_by_next(most, Status::Unanswered),
+            "accepted 0",
+        ),
+        chain(
+            "127 unanswered, each reads the next",
+            each_reads_next(most, Status::Unanswered),
+            "accepted 0",
+        ),
+    ]
+}
+
 /// The numbers from 0 to `last`, as in an order.
 fn counting(last: usize) -> String {
     let numbers: Vec<String> = (0..=last).map(|n| n.to_string()).collect();
@@ -242,6 +515,9 @@ pub fn limits() -> Vec<Case> {
     let mut thousand = one_with_writes(1_024);
     thousand.close(1);
     accepted("1,024 operations", thousand.end(), "0 1");
+    let mut unanswered = one_with_writes(1_024);
+    unanswered.close(2);
+    accepted("1,024 operations, status 2", unanswered.end(), "0");
     accepted("32,768 bytes", notes_of_size(MAX_BYTES), "0");
     for (name, size) in [("note of 0 bytes", 0), ("note of 64 bytes", 64)] {
         let mut writer = Writer::new(0);
@@ -452,10 +728,13 @@ pub fn order_of_checks() -> Vec<Case> {
         &payload(1, 0),
         7,
     );
-    after("status 2 outside: 7 before 8", outside(), CLOSE, &[2], 7);
+    after("status 2 outside", outside(), CLOSE, &[2], 7);
+    after("status 3 outside: 7 before 8", outside(), CLOSE, &[3], 7);
     after("write of 0", inside(), WRITE, &payload(1, 0), 8);
-    after("status 2", inside(), CLOSE, &[2], 8);
+    after("status 3", inside(), CLOSE, &[3], 8);
+    after("status 4", inside(), CLOSE, &[4], 8);
     after("status 255", inside(), CLOSE, &[255], 8);
+    after("status 2 with 2 bytes", inside(), CLOSE, &[2, 0], 4);
     after(
         "1,025th outside: 7 before 9",
         {
@@ -487,6 +766,18 @@ pub fn order_of_checks() -> Vec<Case> {
         {
             let mut w = inside();
             w.close(0);
+            w.open(1);
+            w
+        },
+        WRITE,
+        &payload(1, 1),
+        10,
+    );
+    after(
+        "write repeated after an unanswered one",
+        {
+            let mut w = inside();
+            w.close(2);
             w.open(1);
             w
         },
@@ -542,6 +833,14 @@ pub fn order_of_checks() -> Vec<Case> {
         name: "same value, other key",
         bytes: same_value_other_key.end(),
         output: same("accepted 0 1"),
+    });
+
+    let mut status_2 = inside();
+    status_2.close(2);
+    cases.push(Case {
+        name: "status 2",
+        bytes: status_2.end(),
+        output: same("accepted 0"),
     });
 
     let mut notes_only = Writer::new(9);

@@ -2,7 +2,7 @@
 
 use crate::encode::Writer;
 use crate::random::Random;
-use crate::trace::{self, MAX_BYTES, MAX_NOTE};
+use crate::trace::{self, Status, MAX_BYTES, MAX_NOTE, MAX_TRANSACTIONS};
 
 /// How a trace came about.
 #[derive(Clone, Copy, Debug, PartialEq, Eq)]
@@ -13,17 +13,19 @@ pub enum Origin {
     Small,
     Medium,
     Large,
+    Unanswered,
     Damaged,
 }
 
 impl Origin {
-    pub const ALL: [Origin; 7] = [
+    pub const ALL: [Origin; 8] = [
         Origin::Case,
         Origin::Bytes,
         Origin::Records,
         Origin::Small,
         Origin::Medium,
         Origin::Large,
+        Origin::Unanswered,
         Origin::Damaged,
     ];
 
@@ -35,6 +37,7 @@ impl Origin {
             Origin::Small => "plausible, small",
             Origin::Medium => "plausible, medium",
             Origin::Large => "plausible, large",
+            Origin::Unanswered => "unanswered, interwoven",
             Origin::Damaged => "damaged",
         }
     }
@@ -45,9 +48,10 @@ pub fn any(random: &mut Random) -> (Origin, Vec<u8>) {
     match random.below(100) {
         0..=3 => (Origin::Bytes, bytes(random)),
         4..=11 => (Origin::Records, records(random)),
-        12..=63 => (Origin::Small, Shape::small(random).trace(random)),
-        64..=77 => (Origin::Medium, Shape::medium(random).trace(random)),
-        78..=81 => (Origin::Large, Shape::large(random).trace(random)),
+        12..=47 => (Origin::Small, Shape::small(random).trace(random)),
+        48..=58 => (Origin::Medium, Shape::medium(random).trace(random)),
+        59..=62 => (Origin::Large, Shape::large(random).trace(random)),
+        63..=81 => (Origin::Unanswered, Web::drawn(random).trace(random)),
         _ => (Origin::Damaged, damaged(random)),
     }
 }
@@ -96,7 +100,7 @@ fn records(random: &mut Random) -> Vec<u8> {
                 writer.write(small(random).into(), random.from_to(lowest, 30) as u64);
             }
             trace::CLOSE => {
-                let most = if random.percent(fault) { 2 } else { 1 };
+                let most = if random.percent(fault) { 3 } else { 2 };
                 writer.close(random.from_to(0, most) as u8);
             }
             trace::NOTE => writer.note(&note(random)),
@@ -145,8 +149,11 @@ pub struct Shape {
     /// Chances in percent.
     pub writes: usize,
     pub aborted: usize,
+    /// Of those that do not abort, those whose commit is not answered. Half of
+    /// them, by chance, did commit in the store; the others did not.
+    pub unanswered: usize,
     pub notes: usize,
-    /// A read that gets the last value of some committed transaction.
+    /// A read that gets the last value of some transaction of the store.
     pub stale: usize,
     /// Whether that may be a transaction whose turn is yet to come, which
     /// soon makes a cycle of reads; without, the levels differ more often.
@@ -169,6 +176,7 @@ impl Shape {
             operations: trace::MAX_OPERATIONS,
             writes: *random.pick(&[30, 50, 50, 70]),
             aborted: *random.pick(&[0, 5, 15, 30]),
+            unanswered: *random.pick(&[0, 0, 10, 30, 60]),
             notes: *random.pick(&[0, 0, 5, 20]),
             stale: *random.pick(&[0, 2, 10, 50, 100]),
             ahead: random.percent(25),
@@ -260,13 +268,32 @@ impl Shape {
                         }
                     })
                     .collect();
+                let session = *random.pick(&sessions);
+                let status = self.status(random);
                 Planned {
-                    session: *random.pick(&sessions),
-                    committed: !random.percent(self.aborted),
+                    session,
+                    status,
+                    in_store: match status {
+                        Status::Aborted => false,
+                        Status::Committed => true,
+                        Status::Unanswered => random.percent(50),
+                    },
                     operations,
                 }
             })
             .collect()
+    }
+
+    fn status(&self, random: &mut Random) -> Status {
+        if random.percent(self.aborted) {
+            Status::Aborted
+        } else if self.unanswered > 0 && random.percent(self.unanswered) {
+            // No number is drawn for a chance that there is not, so that the
+            // traces for measuring remain what they were without it.
+            Status::Unanswered
+        } else {
+            Status::Committed
+        }
     }
 
     /// Runs the transactions one after another on an imitated store.
@@ -278,10 +305,10 @@ impl Shape {
         };
         let all_writes: Vec<PlannedOperation> =
             plan.iter().flat_map(|t| writes(&t.operations)).collect();
-        // The last values that committed transactions give a key.
+        // The last values that the transactions of the store give a key.
         let finals: Vec<PlannedOperation> = plan
             .iter()
-            .filter(|t| t.committed)
+            .filter(|t| t.in_store)
             .flat_map(|t| last_writes(&t.operations))
             .collect();
         // The same, of those whose turn has been; the latest last.
@@ -311,7 +338,7 @@ impl Shape {
                 };
                 plan[turn].operations[index].value = value;
             }
-            if plan[turn].committed {
+            if plan[turn].in_store {
                 store.extend(last_writes(&plan[turn].operations));
             }
         }
@@ -329,14 +356,10 @@ impl Shape {
             writer.open(transaction.session);
             for operation in &transaction.operations {
                 maybe_note(&mut writer, random);
-                if operation.is_write {
-                    writer.write(operation.key, operation.value);
-                } else {
-                    writer.read(operation.key, operation.value);
-                }
+                operation.write(&mut writer);
             }
             maybe_note(&mut writer, random);
-            writer.close(transaction.committed.into());
+            writer.close(transaction.status as u8);
             maybe_note(&mut writer, random);
         }
         writer.end()
@@ -345,7 +368,9 @@ impl Shape {
 
 struct Planned {
     session: u16,
-    committed: bool,
+    status: Status,
+    /// Whether its writes are there to be read.
+    in_store: bool,
     operations: Vec<PlannedOperation>,
 }
 
@@ -354,6 +379,15 @@ struct PlannedOperation {
     is_write: bool,
     key: u32,
     value: u64,
+}
+
+impl PlannedOperation {
+    fn write(&self, writer: &mut Writer) {
+        match self.is_write {
+            true => writer.write(self.key, self.value),
+            false => writer.read(self.key, self.value),
+        }
+    }
 }
 
 fn writes(operations: &[PlannedOperation]) -> Vec<PlannedOperation> {
@@ -405,15 +439,157 @@ fn turns_within_sessions(random: &mut Random, plan: &[Planned]) -> Vec<usize> {
     session_turns.into_iter().map(&mut deal).collect()
 }
 
+/// Transactions of which most are unanswered, woven together by who reads whom:
+/// what counts then hangs on long or circular ways from reader to writer, which
+/// a store seldom makes.
+struct Web {
+    transactions: usize,
+    sessions: usize,
+    /// As many as transactions, or few, so that writers are rivals.
+    keys: usize,
+    /// Chances in percent.
+    aborted: usize,
+    unanswered: usize,
+    /// A read that gets the first of the two values of its writer, not the last.
+    intermediate: usize,
+    /// A transaction whose operations stand in any order, not first the reads
+    /// of others, then the writes, then the reads of its own.
+    shuffled: usize,
+}
+
+impl Web {
+    fn drawn(random: &mut Random) -> Web {
+        let transactions = match random.below(20) {
+            0 => random.from_to(100, MAX_TRANSACTIONS),
+            1..=4 => random.from_to(8, 40),
+            5..=12 => random.from_to(4, 7),
+            _ => random.from_to(2, 7),
+        };
+        let web = Web {
+            transactions,
+            sessions: *random.pick(&[2, transactions, 10 * transactions]),
+            keys: *random.pick(&[1, 2, transactions, transactions, transactions]),
+            aborted: *random.pick(&[0, 0, 10, 30]),
+            unanswered: *random.pick(&[60, 80, 95, 100, 100]),
+            intermediate: *random.pick(&[0, 0, 10, 50]),
+            shuffled: *random.pick(&[0, 0, 10, 50]),
+        };
+        match random.percent(50) {
+            true => web,
+            // Nothing amiss but what the patterns themselves make so.
+            false => Web {
+                sessions: usize::from(u16::MAX),
+                aborted: 0,
+                intermediate: 0,
+                shuffled: 0,
+                ..web
+            },
+        }
+    }
+
+    fn trace(&self, random: &mut Random) -> Vec<u8> {
+        let reads = self.reads(random);
+        let statuses = self.statuses(random);
+        let mut writer = Writer::new(first_serial(random));
+        for (reader, sources) in reads.iter().enumerate() {
+            let (own, others): (Vec<usize>, Vec<usize>) =
+                sources.iter().partition(|&&source| source == reader);
+            let mut operations: Vec<PlannedOperation> = Vec::new();
+            operations.extend(others.iter().map(|&source| self.read(random, source)));
+            operations.extend(self.writes(reader));
+            operations.extend(own.iter().map(|&source| self.read(random, source)));
+            if random.percent(self.shuffled) {
+                random.shuffle(&mut operations);
+            }
+            writer.open(random.below(self.sessions) as u16);
+            for operation in operations {
+                operation.write(&mut writer);
+            }
+            writer.close(statuses[reader] as u8);
+        }
+        writer.end()
+    }
+
+    /// Whom each transaction reads: one to three patterns, one over another.
+    fn reads(&self, random: &mut Random) -> Vec<Vec<usize>> {
+        let mut reads = vec![Vec::new(); self.transactions];
+        for _ in 0..*random.pick(&[1, 1, 1, 2, 3]) {
+            // Mostly a long stretch, or few of the long ways would be tried.
+            let last = self.transactions - 1;
+            let (first, last) = match random.percent(60) {
+                true => (0, last),
+                false => {
+                    let first = random.below(self.transactions);
+                    (first, random.from_to(first, last))
+                }
+            };
+            match random.below(10) {
+                0..=2 => (first..last).for_each(|t| reads[t].push(t + 1)),
+                3..=5 => (first..last).for_each(|t| reads[t + 1].push(t)),
+                6 | 7 => {
+                    // A ring: of two, they read each other; of one, itself.
+                    let last = last.min(first + random.below(4));
+                    (first..last).for_each(|t| reads[t].push(t + 1));
+                    reads[last].push(first);
+                }
+                8 => reads[first].push(first),
+                _ => reads[first].push(random.below(self.transactions)),
+            }
+        }
+        reads
+    }
+
+    fn statuses(&self, random: &mut Random) -> Vec<Status> {
+        let mut statuses: Vec<Status> = (0..self.transactions)
+            .map(|_| {
+                if random.percent(self.unanswered) {
+                    Status::Unanswered
+                } else if random.percent(self.aborted) {
+                    Status::Aborted
+                } else {
+                    Status::Committed
+                }
+            })
+            .collect();
+        // A chain counts as a whole if the end that reads it did commit.
+        match random.below(3) {
+            0 => statuses[0] = Status::Committed,
+            1 => statuses[self.transactions - 1] = Status::Committed,
+            _ => {}
+        }
+        statuses
+    }
+
+    /// Both writes of a transaction are of its key.
+    fn writes(&self, writer: usize) -> [PlannedOperation; 2] {
+        [1, 2].map(|which| PlannedOperation {
+            is_write: true,
+            key: (writer % self.keys) as u32,
+            value: 2 * writer as u64 + which,
+        })
+    }
+
+    fn read(&self, random: &mut Random, source: usize) -> PlannedOperation {
+        let [first, last] = self.writes(source);
+        PlannedOperation {
+            is_write: false,
+            ..match random.percent(self.intermediate) {
+                true => first,
+                false => last,
+            }
+        }
+    }
+}
+
 /// A plausible trace with one to three faults. Most leave the trace framed and
 /// numbered, so that the fault itself is what the judge has to see.
 fn damaged(random: &mut Random) -> Vec<u8> {
-    let shape = match random.below(10) {
-        0 => Shape::medium(random),
-        1 if random.percent(20) => Shape::large(random),
-        _ => Shape::small(random),
+    let mut bytes = match random.below(10) {
+        0 => Shape::medium(random).trace(random),
+        1 if random.percent(20) => Shape::large(random).trace(random),
+        2 => Web::drawn(random).trace(random),
+        _ => Shape::small(random).trace(random),
     };
-    let mut bytes = shape.trace(random);
     for _ in 0..random.from_to(1, 3) {
         if bytes.is_empty() {
             break;
@@ -480,7 +656,7 @@ fn damage(random: &mut Random, bytes: &mut Vec<u8>) {
     let at = random.below(records.len());
     let other = random.below(records.len());
     let mut renumber = true;
-    match random.below(11) {
+    match random.below(12) {
         0 => records.swap(at, other),
         1 => {
             records.swap(at, other);
@@ -506,8 +682,8 @@ fn damage(random: &mut Random, bytes: &mut Vec<u8>) {
             renumber = false;
         }
         7 => {
-            // A value or a status of 0 or 2, an end number off: rows 8 and 10.
-            let fill = random.below(3) as u8;
+            // A value or a status of 0 or 3, an end number off: rows 8 and 10.
+            let fill = random.below(4) as u8;
             let start = records[at].payload.len().saturating_sub(8);
             records[at].payload[start..].fill(0);
             if let Some(byte) = records[at].payload.get_mut(start) {
@@ -521,6 +697,14 @@ fn damage(random: &mut Random, bytes: &mut Vec<u8>) {
             }
         }
         9 => {
+            let closes: Vec<usize> = (0..records.len())
+                .filter(|&at| records[at].kind == trace::CLOSE)
+                .collect();
+            if !closes.is_empty() {
+                records[*random.pick(&closes)].payload = vec![random.below(4) as u8];
+            }
+        }
+        10 => {
             records[at].payload.push(0);
             records[at].length += 1;
         }

@@ -6,7 +6,7 @@
 
 use crate::hash::FastMap;
 use crate::report::{Finding, Level, Pair, Verdict, READ, RIVAL, SESSION, START};
-use crate::trace::{Trace, MAX_TRANSACTIONS};
+use crate::trace::{Status, Trace, MAX_TRANSACTIONS};
 
 type Set = u128;
 type Rows = [Set; MAX_TRANSACTIONS + 1];
@@ -30,14 +30,14 @@ fn members(mut set: Set) -> impl Iterator<Item = u8> {
 struct ExternalRead {
     reader: u8,
     source: u8,
-    /// Every committed transaction that writes the key read, 0 among them.
+    /// Every counted transaction that writes the key read, 0 among them.
     writers: Set,
 }
 
 /// What a trace says whatever the level.
 pub struct History {
-    /// Transaction 0 and all that committed.
-    committed: Set,
+    /// Transaction 0 and all that count as committed.
+    counted: Set,
     findings: Vec<Finding>,
     /// In the order of the trace, so those of one reader stand together.
     reads: Vec<ExternalRead>,
@@ -47,30 +47,30 @@ pub struct History {
 
 impl History {
     pub fn new(trace: &Trace) -> History {
-        let mut committed = only(0);
+        let counting = Counting::new(trace);
+        let counted = counting.counted;
         let mut session_before = EMPTY;
         let mut sessions: FastMap<u16, Set> = FastMap::default();
         for (number, transaction) in (1..).zip(&trace.transactions) {
-            if transaction.committed {
+            if counted & only(number) != 0 {
                 let earlier = sessions.entry(transaction.session).or_default();
                 session_before[usize::from(number)] = *earlier;
                 *earlier |= only(number);
-                committed |= only(number);
             }
         }
         let mut history = History {
-            committed,
+            counted,
             findings: Vec::new(),
             reads: Vec::new(),
             session_before,
             source_before: EMPTY,
         };
-        history.judge_reads(trace, &Keys::new(trace, committed));
+        history.judge_reads(trace, &counting.write_read, &Keys::new(trace, counted));
         history
     }
 
-    /// Gives every read of a committed transaction its kind.
-    fn judge_reads(&mut self, trace: &Trace, keys: &Keys) {
+    /// Gives every read of a counted transaction its kind.
+    fn judge_reads(&mut self, trace: &Trace, write_read: &[Option<u16>], keys: &Keys) {
         // The last write so far of each key, by any transaction. Transactions
         // do not overlap, so a transaction's own writes hide no other it needs.
         let mut last_write: Vec<Option<u16>> = vec![None; keys.writers.len()];
@@ -81,13 +81,12 @@ impl History {
                 continue;
             }
             let reader = operation.transaction;
-            if self.committed & only(reader) == 0 {
+            if self.counted & only(reader) == 0 {
                 continue;
             }
             let author = |write: u16| trace.operations[usize::from(write)].transaction;
             let own_last = last_write[slot].filter(|&write| author(write) == reader);
-            // None for value 0 too, which no write has.
-            let write = trace.writes.get(&(operation.key, operation.value)).copied();
+            let write = write_read[index];
             let kind = match write {
                 None if operation.value != 0 => 1,
                 Some(write) if author(write) == reader => {
@@ -99,7 +98,7 @@ impl History {
                         continue; // clean, internal
                     }
                 }
-                Some(write) if self.committed & only(author(write)) == 0 => 2,
+                Some(write) if self.counted & only(author(write)) == 0 => 2,
                 _ if own_last.is_some() => 5,
                 Some(write) if keys.written_again[usize::from(write)] => 6,
                 _ => {
@@ -128,7 +127,7 @@ impl History {
         for (row, rivals) in before.iter_mut().zip(&rival_before) {
             *row |= rivals;
         }
-        match smallest_order(&before, self.committed) {
+        match smallest_order(&before, self.counted) {
             Some(order) if self.findings.is_empty() => Verdict::Accepted(order),
             order => Verdict::Rejected {
                 findings: self.findings.clone(),
@@ -143,7 +142,7 @@ impl History {
     /// The basic pairs: start, session and read.
     fn basic(&self) -> Rows {
         let mut before = EMPTY;
-        for t in members(self.committed & !only(0)).map(usize::from) {
+        for t in members(self.counted & !only(0)).map(usize::from) {
             before[t] = only(0) | self.session_before[t] | self.source_before[t];
         }
         before
@@ -175,7 +174,7 @@ impl History {
                 }
             }
             Level::Causal => {
-                let leading = Paths::new(basic, self.committed).leading;
+                let leading = Paths::new(basic, self.counted).leading;
                 for read in &self.reads {
                     add(read, leading[usize::from(read.reader)]);
                 }
@@ -187,17 +186,17 @@ impl History {
     /// The forced pairs whose second leads to their first: those whose two
     /// lead to each other.
     fn listed(&self, before: &Rows, rival_before: &Rows) -> Vec<Pair> {
-        let mutual = Paths::new(before, self.committed).mutual;
+        let mutual = Paths::new(before, self.counted).mutual;
         // The list goes by firsts, so the rows are turned round.
         let mut seconds = EMPTY;
-        for second in members(self.committed) {
+        for second in members(self.counted) {
             for first in members(before[usize::from(second)] & mutual[usize::from(second)]) {
                 seconds[usize::from(first)] |= only(second);
             }
         }
         let count: u32 = seconds.iter().map(|row| row.count_ones()).sum();
         let mut pairs = Vec::with_capacity(count as usize);
-        for first in members(self.committed) {
+        for first in members(self.counted) {
             for second in members(seconds[usize::from(first)]) {
                 let has = |rows: &Rows| rows[usize::from(second)] & only(first) != 0;
                 let mut reasons = 0;
@@ -225,11 +224,66 @@ impl History {
     }
 }
 
+/// The transactions that count as committed, 0 among them, ascending.
+pub fn counted(trace: &Trace) -> Vec<u8> {
+    members(Counting::new(trace).counted).collect()
+}
+
+/// Which transactions count as committed, and what was looked up to know it.
+struct Counting {
+    /// Transaction 0 and all that count.
+    counted: Set,
+    /// For each read of one that counts, the write of its key and value; none
+    /// for value 0 too, which no write has.
+    write_read: Vec<Option<u16>>,
+}
+
+impl Counting {
+    /// The committed ones count from the start. The reads of each are looked at
+    /// once, when it has come to count, and the unanswered ones whose values
+    /// they read come to count by it. A read of an own value is looked at only
+    /// when its transaction counts already, so it never is the reason.
+    fn new(trace: &Trace) -> Counting {
+        let with = |status| trace.with_status(status).fold(0, |set, t| set | only(t));
+        let mut uncounted: Set = with(Status::Unanswered);
+        let mut waiting: Set = with(Status::Committed);
+        let mut counting = Counting {
+            counted: only(0) | waiting,
+            write_read: vec![None; trace.operations.len()],
+        };
+        while let Some(reader) = members(waiting).next() {
+            waiting &= !only(reader);
+            let sources = uncounted & counting.look_up(trace, reader);
+            uncounted &= !sources;
+            waiting |= sources;
+            counting.counted |= sources;
+        }
+        counting
+    }
+
+    /// Looks the reads of a transaction up, and answers whose values they read.
+    fn look_up(&mut self, trace: &Trace, reader: u8) -> Set {
+        let mut sources = 0;
+        for index in trace.operations_of(reader) {
+            let operation = &trace.operations[index];
+            if operation.is_write {
+                continue;
+            }
+            let write = trace.writes.get(&(operation.key, operation.value)).copied();
+            self.write_read[index] = write;
+            sources |= write.map_or(0, |write| {
+                only(trace.operations[usize::from(write)].transaction)
+            });
+        }
+        sources
+    }
+}
+
 /// What is known of the keys of a trace.
 struct Keys {
     /// For each operation, the number of its key among the different keys.
     slot_of: Vec<u16>,
-    /// For each key, every committed transaction that writes it, with 0.
+    /// For each key, every counted transaction that writes it, with 0.
     writers: Vec<Set>,
     /// For each operation that is a write, whether its transaction writes the
     /// key again later.
@@ -237,7 +291,7 @@ struct Keys {
 }
 
 impl Keys {
-    fn new(trace: &Trace, committed: Set) -> Keys {
+    fn new(trace: &Trace, counted: Set) -> Keys {
         let mut slots: FastMap<u32, u16> = FastMap::default();
         let mut last_write: Vec<Option<usize>> = Vec::new();
         let mut keys = Keys {
@@ -254,7 +308,7 @@ impl Keys {
             keys.slot_of.push(slot);
             if operation.is_write {
                 let slot = usize::from(slot);
-                keys.writers[slot] |= only(operation.transaction) & committed;
+                keys.writers[slot] |= only(operation.transaction) & counted;
                 if let Some(earlier) = last_write[slot].replace(index) {
                     keys.written_again[earlier] =
                         trace.operations[earlier].transaction == operation.transaction;

@@ -1,14 +1,15 @@
 //! An independent judge and writer of transaction traces.
 //!
-//! It is written from the specification alone, `01-scope.md` and the request
-//! for a writer, to be compared with the proved judge and writer: the two sides
-//! share no code, so a mistake would have to be made twice, in the same way, to
-//! stay unseen.
+//! It is written from the specification alone, `01-scope.md` and the requests
+//! for a writer and for unanswered commits, to be compared with the proved judge
+//! and writer: the two sides share no code, so a mistake would have to be made
+//! twice, in the same way, to stay unseen.
 //!
 //! * [`trace`] reads the bytes of a trace, or says why they are refused;
 //! * [`graph`] decides by forced pairs, for any trace, and is meant to be fast;
 //! * [`brute`] decides small traces by trying every order against the
-//!   published axioms, and is meant to be obviously right;
+//!   published axioms, and what counts as committed by trying every choice of
+//!   outcomes; it is meant to be obviously right;
 //! * [`report`] holds the answers and prints them as the program `judge` does;
 //! * [`writing`] writes traces from steps and turns traces into steps;
 //! * [`encode`], [`text`], [`generate`] and [`cases`] make traces, [`sequences`]

@@ -49,7 +49,8 @@ pub struct Pair {
 /// What a level says of a trace.
 #[derive(Clone, Debug, PartialEq, Eq)]
 pub enum Verdict {
-    /// The committed transactions in the smallest lawful order, 0 first.
+    /// The transactions that count as committed in the smallest lawful order, 0
+    /// first.
     Accepted(Vec<u8>),
     /// Findings by operation number, pairs by first and then second.
     Rejected {

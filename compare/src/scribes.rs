@@ -8,7 +8,7 @@ use crate::random::Random;
 use crate::sequence_cases;
 use crate::sequences::{self, Origin};
 use crate::trace::{
-    self, Operation, Refusal, Trace, Transaction, CLOSE, MAX_BYTES, MAX_OPERATIONS,
+    self, Operation, Refusal, Status, Trace, Transaction, CLOSE, MAX_BYTES, MAX_OPERATIONS,
     MAX_TRANSACTIONS, NOTE, OPEN, WRITE,
 };
 use crate::workers::{self, add_each, Difference, Extent, Tally};
@@ -489,6 +489,8 @@ fn check_steps(
     tally.full_operations += usize::from(operations.len() == MAX_OPERATIONS);
     tally.full_both +=
         usize::from(transactions.len() == MAX_TRANSACTIONS && operations.len() == MAX_OPERATIONS);
+    let is_unanswered = |t: &Transaction| t.status == Status::Unanswered;
+    tally.unanswered += usize::from(transactions.iter().any(is_unanswered));
     Ok(())
 }
 
@@ -500,11 +502,15 @@ fn meant(steps: &[Step]) -> (Vec<Transaction>, Vec<Operation>) {
         match step.kind {
             OPEN => transactions.push(Transaction {
                 session: step.detail,
-                committed: false,
+                status: Status::Aborted, // until it is closed
             }),
             CLOSE => {
                 if let Some(last) = transactions.last_mut() {
-                    last.committed = step.detail == 1;
+                    last.status = match step.detail {
+                        0 => Status::Aborted,
+                        1 => Status::Committed,
+                        _ => Status::Unanswered,
+                    };
                 }
             }
             kind => operations.push(Operation {
@@ -585,6 +591,8 @@ struct Outcomes {
     full_transactions: usize,
     full_operations: usize,
     full_both: usize,
+    /// Sequences written that have an unanswered commit.
+    unanswered: usize,
 }
 
 impl Tally for Outcomes {
@@ -605,6 +613,7 @@ impl Tally for Outcomes {
         self.full_transactions += other.full_transactions;
         self.full_operations += other.full_operations;
         self.full_both += other.full_both;
+        self.unanswered += other.unanswered;
     }
 }
 
@@ -690,6 +699,7 @@ impl Outcomes {
             ("  127 transactions", self.full_transactions),
             ("  1,024 operations", self.full_operations),
             ("  both", self.full_both),
+            ("  unanswered commits", self.unanswered),
             ("steps refused by reader too", self.refused_by_reader),
             ("rewritten as they are", self.rewritten_alike),
             ("rewritten without notes", self.notes_left_out),

@@ -71,6 +71,17 @@ fn by_hand() -> Vec<SequenceCase> {
     .concat();
     let mut cases = vec![
         written("no steps: P1", 0, &[], end_only([0; 4])),
+        written(
+            "an unanswered commit",
+            0,
+            &[Step::open(1), Step::close(2)],
+            [
+                [8, 0, 1, 0, 0, 0, 0, 0, 1, 0].as_slice(),
+                &[7, 0, 4, 0, 1, 0, 0, 0, 2],
+                &[8, 0, 5, 0, 2, 0, 0, 0, 1, 0],
+            ]
+            .concat(),
+        ),
         written("no steps, serial 1", 1, &[], end_only([1, 0, 0, 0])),
         written("no steps, last serial", u32::MAX, &[], end_only([0xff; 4])),
         written(
@@ -172,6 +183,31 @@ fn fine_points() -> Vec<SequenceCase> {
             "serial 5; T1 s9",
         ),
         noted("aborted", 0, &one(&[], 0), "T1 s9 aborted"),
+        noted("unanswered", 0, &one(&[], 2), "T1 s9 unanswered"),
+        noted(
+            "unanswered with operations, other fields filled",
+            0,
+            &one(&[Step::write(1, 5), Step::read(1, 5)], 2)
+                .into_iter()
+                .map(filled)
+                .collect::<Vec<_>>(),
+            "T1 s9 w1=5 r1=5 unanswered",
+        ),
+        noted(
+            "one of each status",
+            0,
+            &[
+                Step::open(1),
+                Step::write(1, 5),
+                Step::close(2),
+                Step::open(2),
+                Step::read(1, 5),
+                Step::close(1),
+                Step::open(3),
+                Step::close(0),
+            ],
+            "T1 w1=5 unanswered; T2 r1=5; T3 aborted",
+        ),
         noted(
             "same value, other key",
             0,
@@ -257,6 +293,14 @@ fn limits() -> Vec<SequenceCase> {
     both.push(Step::open(127));
     both.extend(&one_with_writes(MAX_OPERATIONS)[1..]);
     both.push(Step::close(1));
+    // Unanswered ones, each read by the next.
+    let mut chain = Vec::new();
+    for t in 1..=MAX_TRANSACTIONS {
+        let (session, value) = (t as u16, t as u64);
+        chain.extend([Step::open(session), Step::read(1, value - 1)]);
+        chain.extend([Step::write(1, value), Step::close(2)]);
+    }
+    let chained = |n: usize| format!("T{n} r1={} w1={n} unanswered", n - 1);
     let empty = |n: usize| format!("T{n}");
     let all_but_one = numbered(&empty, MAX_TRANSACTIONS - 1);
     let full = || one_with_writes(MAX_OPERATIONS);
@@ -278,6 +322,18 @@ fn limits() -> Vec<SequenceCase> {
             0,
             &both,
             &format!("{all_but_one}T127{}", writes(MAX_OPERATIONS)),
+        ),
+        noted(
+            "127 unanswered transactions",
+            0,
+            &chain,
+            &numbered(&chained, MAX_TRANSACTIONS),
+        ),
+        noted(
+            "1,024 operations, unanswered",
+            0,
+            &and(full(), Step::close(2)),
+            &format!("T1{} unanswered", writes(MAX_OPERATIONS)),
         ),
         refused("128 transactions", &empty_transactions(128), 9, 255),
         refused(
@@ -397,10 +453,11 @@ fn order_of_checks() -> Vec<SequenceCase> {
         7,
     );
     last(
-        "status 2 outside: 7 before 8",
-        and(outside(), Step::close(2)),
+        "status 3 outside: 7 before 8",
+        and(outside(), Step::close(3)),
         7,
     );
+    last("status 2 outside", and(outside(), Step::close(2)), 7);
     last(
         "1,025th outside: 7 before 9",
         and(closed(full(), 1), Step::write(2, 5)),
@@ -417,7 +474,21 @@ fn order_of_checks() -> Vec<SequenceCase> {
         7,
     );
     last("write of 0", and(inside(), Step::write(1, 0)), 8);
-    for status in [2, 3, 255, 256, 257, 512, 513, 32_768, u16::MAX] {
+    // Some of these are lawful in their lower byte.
+    for status in [
+        3,
+        4,
+        255,
+        256,
+        257,
+        258,
+        512,
+        513,
+        514,
+        32_768,
+        32_770,
+        u16::MAX,
+    ] {
         last(&format!("status {status}"), closed(inside(), status), 8);
     }
     last(
@@ -425,7 +496,7 @@ fn order_of_checks() -> Vec<SequenceCase> {
         and(full(), Step::write(1, 0)),
         8,
     );
-    last("status 2 when full: 8, not 9", closed(full(), 2), 8);
+    last("status 3 when full: 8, not 9", closed(full(), 3), 8);
     last(
         "1,025th repeats: 9 before 10",
         and(full(), Step::write(1, 5)),
@@ -440,6 +511,7 @@ fn order_of_checks() -> Vec<SequenceCase> {
     for (name, status) in [
         ("repeated by another", 1),
         ("repeated after an aborted one", 0),
+        ("repeated after an unanswered one", 2),
     ] {
         let steps = and(closed(inside(), status), Step::open(1));
         last(name, and(steps, Step::write(1, 1)), 10);

@@ -1,7 +1,7 @@
 //! Random sequences of steps, lawful and not, for the comparison.
 
 use crate::random::Random;
-use crate::trace::{CLOSE, MAX_OPERATIONS, MAX_TRANSACTIONS, OPEN, READ, WRITE};
+use crate::trace::{Status, CLOSE, MAX_OPERATIONS, MAX_TRANSACTIONS, OPEN, READ, WRITE};
 use crate::writing::{input_of, Step, STEP_SIZE};
 use std::collections::HashSet;
 
@@ -174,6 +174,7 @@ fn sequence(random: &mut Random, transactions: usize, operations: usize) -> Vec<
     let palette = Palette::drawn(random);
     let writes = *random.pick(&[0, 30, 50, 50, 70, 100]);
     let aborted = *random.pick(&[0, 10, 50, 100]);
+    let unanswered = *random.pick(&[0, 0, 10, 50, 100]);
     // Some transactions are left without operations.
     let busy = random.from_to(1, transactions.max(1));
     let mut counts = vec![0; transactions];
@@ -191,7 +192,11 @@ fn sequence(random: &mut Random, transactions: usize, operations: usize) -> Vec<
                 false => palette.read(random),
             });
         }
-        steps.push(Step::close(u16::from(!random.percent(aborted))));
+        let status = match random.percent(unanswered) {
+            true => Status::Unanswered as u16,
+            false => u16::from(!random.percent(aborted)),
+        };
+        steps.push(Step::close(status));
     }
     steps
 }
@@ -264,7 +269,7 @@ fn random_steps(random: &mut Random) -> Vec<Step> {
             palette.open(random)
         } else {
             match random.below(4) {
-                0 => Step::close(random.below(2) as u16),
+                0 => Step::close(random.below(3) as u16),
                 1 => palette.read(random),
                 _ => palette.write(random, &mut written),
             }
@@ -291,7 +296,7 @@ fn any_step(random: &mut Random, palette: &Palette) -> Step {
         },
         detail: match random.percent(50) {
             true => bad_status(random),
-            false => random.below(2) as u16,
+            false => random.below(3) as u16,
         },
         key: *random.pick(&palette.keys),
         value: match random.percent(30) {
@@ -311,8 +316,9 @@ fn bad_kind(random: &mut Random) -> u16 {
 
 fn bad_status(random: &mut Random) -> u16 {
     match random.below(4) {
-        0 => (random.draw() as u16).max(2),
-        _ => *random.pick(&[2, 3, 255, 256, 257, 512, 32_769, u16::MAX]),
+        0 => (random.draw() as u16).max(3),
+        // Some of these are lawful in their lower byte.
+        _ => *random.pick(&[3, 3, 4, 255, 256, 257, 258, 512, 32_770, u16::MAX]),
     }
 }
 
@@ -338,7 +344,7 @@ fn spoil(random: &mut Random, steps: &mut Vec<Step>) {
         return;
     }
     let (at, other) = (random.below(steps.len()), random.below(steps.len()));
-    match random.below(11) {
+    match random.below(12) {
         0 => steps[at].kind = bad_kind(random),
         1 => steps.insert(place, any_step(random, &palette)),
         2 => steps.swap(at, other),
@@ -352,11 +358,17 @@ fn spoil(random: &mut Random, steps: &mut Vec<Step>) {
         },
         6 => match pick_of(random, steps, |step| step.kind == CLOSE) {
             Some(close) => steps[close].detail = bad_status(random),
-            None => steps.insert(place, Step::close(2)),
+            None => steps.insert(place, Step::close(3)),
         },
         7 | 8 => repeat(random, steps),
         9 => steps.truncate(place),
-        _ => steps[at].kind = *random.pick(&[OPEN, READ, WRITE, CLOSE]),
+        10 => steps[at].kind = *random.pick(&[OPEN, READ, WRITE, CLOSE]),
+        // The last status that is lawful, or the first that is not.
+        _ => {
+            if let Some(close) = pick_of(random, steps, |step| step.kind == CLOSE) {
+                steps[close].detail = random.from_to(2, 3) as u16;
+            }
+        }
     }
 }
 

@@ -3,7 +3,7 @@
 //! ```text
 //! serial 7
 //! note "before all"
-//! T1 w1=5 aborted; T2 s1 r1=5 note "inside" r2=0
+//! T1 w1=5 unanswered; T2 s1 r1=5 note "inside" r2=0 aborted
 //! ```
 //!
 //! See [`GRAMMAR`] for the whole of it.
@@ -24,16 +24,17 @@ pub const GRAMMAR: &str = r#"Items, parted by ';' or by line ends:
                     its own number or, where that is taken, the next free one
       rK=V  wK=V    reads and writes of key K, value V, in any number
       note "text"   a note, anywhere among the reads and writes
-      committed, aborted or status N     default: committed
+      committed, aborted, unanswered or status N     default: committed
   note "text"       a note between transactions
   end N             an end record with this number; only as the last item;
                     default: the number of transactions
 In a note's text, \" is a quote, \\ a backslash, \xNN the byte with the
-hexadecimal number NN. A value 0 written, a status above 1, a wrong end number
+hexadecimal number NN. A value 0 written, a status above 2, a wrong end number
 or a note of more than 64 bytes is encoded as it stands, to be refused. Steps
 have no notes and no end record: a text with 'note' or 'end' has no steps.
 
 Example, case 16:  T1 w1=11 w2=21; T2 w1=12 w2=22; T3 r1=12 r2=21
+An unanswered commit that counts:  T1 w1=5 unanswered; T2 r1=5
 "#;
 
 /// What is wrong with a text, and where: line and byte of the line, from 1.
@@ -151,7 +152,11 @@ pub fn decode(bytes: &[u8]) -> Result<String, Refusal> {
             }
             trace::CLOSE => {
                 inside = false;
-                out.push_str(if payload[0] == 1 { "\n" } else { " aborted\n" });
+                out.push_str(match payload[0] {
+                    0 => " aborted\n",
+                    1 => "\n",
+                    _ => " unanswered\n",
+                });
             }
             trace::NOTE if inside => out.push_str(&format!(" note {}", quote(payload))),
             trace::NOTE => out.push_str(&format!("note {}\n", quote(payload))),
@@ -422,6 +427,10 @@ impl Encoder {
                     status = 0;
                     break;
                 }
+                "unanswered" => {
+                    status = 2;
+                    break;
+                }
                 "status" => {
                     status = self.tokens.number("status", u8::MAX)?;
                     break;
@@ -472,7 +481,8 @@ impl Encoder {
     fn operation(&mut self, word: &str, at: Position) -> Result<(), TextError> {
         let wrong = || {
             at.error(format!(
-                "'{word}' is no r<key>=<value>, w<key>=<value>, note, committed, aborted or status"
+                "'{word}' is no r<key>=<value>, w<key>=<value>, note, committed, aborted, \
+                 unanswered or status"
             ))
         };
         let is_write = word.starts_with('w');
@@ -516,7 +526,8 @@ mod tests {
     fn the_text_comes_back() {
         let text =
             "serial 4294967295\nnote \"a;\\\"\\\\\\x0a\\xff\"\nT1 s9 w1=5 note \"\" aborted\n\
-                    T2 r1=0 w4294967295=18446744073709551615\nT3\nnote \"z\"\n";
+                    T2 r1=0 w4294967295=18446744073709551615\nT3\nnote \"z\"\n\
+                    T4 unanswered\nT5 r1=5 note \"\" unanswered\n";
         let bytes = encode(text.as_bytes()).unwrap();
         assert_eq!(decode(&bytes).unwrap(), text);
         assert_eq!(decode(&encode(b"").unwrap()).unwrap(), "");
@@ -602,10 +613,28 @@ mod tests {
                 .unwrap_err()
                 .number
         };
-        assert_eq!(number("T1 status 2"), 8);
+        assert_eq!(number("T1 status 3"), 8);
         assert_eq!(number("T1; end 2"), 8);
         assert_eq!(number("T1 w1=0"), 8);
         assert_eq!(number("T1 w1=1 w1=1"), 10);
+    }
+
+    #[test]
+    fn a_status_has_a_word_or_a_number() {
+        for (word, status) in [("aborted", 0), ("committed", 1), ("unanswered", 2)] {
+            let by_word = encode(format!("T1 w1=5 {word}").as_bytes());
+            let by_number = encode(format!("T1 w1=5 status {status}").as_bytes());
+            assert_eq!(by_word, by_number);
+        }
+        assert_eq!(
+            error_of("T1 unanswered r1=0"),
+            "line 1, column 15: 'r1=0' is not expected here"
+        );
+        assert_eq!(
+            error_of("T1 answered"),
+            "line 1, column 4: 'answered' is no r<key>=<value>, w<key>=<value>, note, committed, \
+             aborted, unanswered or status"
+        );
     }
 
     #[test]
@@ -613,6 +642,7 @@ mod tests {
         for text in [
             "",
             "T1 w1=5; T2 s7 r1=5 aborted",
+            "T1 w1=5 unanswered; T2 r1=5; T3 s1 unanswered",
             "serial 4294967295; T1 s1; T2 s1 w4294967295=18446744073709551615; T3",
         ] {
             let input = steps(text.as_bytes()).unwrap();
@@ -625,7 +655,7 @@ mod tests {
             let input = steps(text.as_bytes()).unwrap();
             writing::write_input(&input, usize::MAX).unwrap_err().number
         };
-        assert_eq!(number("T1 status 2"), 8);
+        assert_eq!(number("T1 status 3"), 8);
         assert_eq!(number("T1 w1=0"), 8);
         assert_eq!(number("T1 w1=1 aborted; T2 w1=1"), 10);
     }

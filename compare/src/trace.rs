@@ -46,7 +46,7 @@ impl Refusal {
             5 => "serial does not follow",
             6 => "unknown kind",
             7 => "record not lawful here: inside or outside a transaction",
-            8 => "written value 0, status above 1, or wrong end number",
+            8 => "written value 0, status above 2, or wrong end number",
             9 => "128th open or 1,025th operation",
             10 => "a write repeats an earlier write's key and value",
             11 => "bytes follow the end record",
@@ -66,15 +66,31 @@ pub struct Operation {
     pub value: u64,
 }
 
+/// What a close record says of its transaction's commit, by the record's number.
+#[derive(Clone, Copy, Debug, PartialEq, Eq)]
+pub enum Status {
+    Aborted = 0,
+    Committed = 1,
+    Unanswered = 2,
+}
+
+impl Status {
+    pub const ALL: [Status; 3] = [Status::Aborted, Status::Committed, Status::Unanswered];
+
+    fn of_byte(byte: u8) -> Option<Status> {
+        Status::ALL.into_iter().find(|&status| status as u8 == byte)
+    }
+}
+
 /// A transaction. Its number is its index plus one.
 #[derive(Clone, Copy, Debug, PartialEq, Eq)]
 pub struct Transaction {
     pub session: u16,
-    pub committed: bool,
+    pub status: Status,
 }
 
 /// A trace that is not refused.
-#[derive(Debug)]
+#[derive(Clone, Debug)]
 pub struct Trace {
     pub transactions: Vec<Transaction>,
     pub operations: Vec<Operation>,
@@ -126,6 +142,20 @@ impl Trace {
         Ok(trace)
     }
 
+    /// The numbers of the transactions with this status, ascending.
+    pub fn with_status(&self, status: Status) -> impl Iterator<Item = u8> + '_ {
+        (1..)
+            .zip(&self.transactions)
+            .filter_map(move |(number, t)| (t.status == status).then_some(number))
+    }
+
+    /// The indexes of a transaction's operations: transactions do not overlap,
+    /// so they stand together.
+    pub fn operations_of(&self, transaction: u8) -> std::ops::Range<usize> {
+        let first_from = |t| self.operations.partition_point(|op| op.transaction < t);
+        first_from(transaction)..first_from(transaction + 1)
+    }
+
     /// Checks one record from row 6 on, and enters what it says.
     fn take(&mut self, record: &Record, inside: &mut bool) -> Result<(), u8> {
         let payload = record.payload;
@@ -154,7 +184,7 @@ impl Trace {
                 }
                 self.transactions.push(Transaction {
                     session: u16::from_le_bytes([payload[0], payload[1]]),
-                    committed: false,
+                    status: Status::Aborted, // until it is closed
                 });
                 *inside = true;
             }
@@ -179,11 +209,9 @@ impl Trace {
                 });
             }
             CLOSE => {
-                if payload[0] > 1 {
-                    return Err(8);
-                }
+                let status = Status::of_byte(payload[0]).ok_or(8)?;
                 if let Some(transaction) = self.transactions.last_mut() {
-                    transaction.committed = payload[0] == 1;
+                    transaction.status = status;
                 }
                 *inside = false;
             }

@@ -192,7 +192,7 @@ impl Sequence {
         if (kind == OPEN) == self.inside {
             return Err(7);
         }
-        if kind == WRITE && value == 0 || kind == CLOSE && detail > 1 {
+        if kind == WRITE && value == 0 || kind == CLOSE && detail > 2 {
             return Err(8);
         }
         if kind == OPEN && self.opened == MAX_TRANSACTIONS
@@ -213,7 +213,7 @@ impl Sequence {
             WRITE => self.writer.write(key, value),
             _ => {
                 self.inside = false;
-                self.writer.close(u8::from(detail == 1));
+                self.writer.close(detail as u8); // at most 2
             }
         }
         self.operations += usize::from(step.is_operation());

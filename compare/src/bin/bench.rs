@@ -4,7 +4,7 @@ use ferozhak_compare::encode::Writer;
 use ferozhak_compare::generate::Shape;
 use ferozhak_compare::random::Random;
 use ferozhak_compare::report::{Level, Verdict};
-use ferozhak_compare::trace::{Trace, MAX_OPERATIONS, MAX_TRANSACTIONS};
+use ferozhak_compare::trace::{Status, Trace, MAX_OPERATIONS, MAX_TRANSACTIONS};
 use ferozhak_compare::{judge_all, judge_one, Answer};
 use std::hint::black_box;
 use std::io::{self, Write as _};
@@ -154,6 +154,9 @@ fn traces() -> Vec<(String, Vec<u8>)> {
                 shape.wild = 90;
             }),
         ),
+        ("unanswered".into(), full(|shape| shape.unanswered = 40)),
+        ("slow-read-by-next".into(), read_by_next()),
+        ("slow-reads-next".into(), reads_next()),
         ("slow-chain".into(), chain()),
         ("slow-sources".into(), sources()),
         ("slow-unsettled".into(), unsettled()),
@@ -189,6 +192,7 @@ fn shaped(transactions: usize, change: impl Fn(&mut Shape)) -> Vec<u8> {
         operations: transactions * MAX_OPERATIONS / MAX_TRANSACTIONS,
         writes: 50,
         aborted: 5,
+        unanswered: 0,
         notes: 0,
         stale: 0,
         ahead: false,
@@ -205,9 +209,17 @@ enum Step {
 }
 use Step::{Read, Write};
 
-/// A trace of 127 transactions from the session and the operations of each.
-/// It is filled up to 1,024 operations with writes that nobody reads.
+/// A trace of 127 committed transactions from the session and the operations of
+/// each. It is filled up to 1,024 operations with writes that nobody reads.
 fn planned(transaction: impl Fn(u32) -> (u16, Vec<Step>)) -> Vec<u8> {
+    planned_with(|_| Status::Committed, transaction)
+}
+
+/// The same with the status of each.
+fn planned_with(
+    status: impl Fn(usize) -> Status,
+    transaction: impl Fn(u32) -> (u16, Vec<Step>),
+) -> Vec<u8> {
     let mut plan: Vec<(u16, Vec<Step>)> = (1..=127).map(transaction).collect();
     let operations: usize = plan.iter().map(|(_, steps)| steps.len()).sum();
     for extra in operations..MAX_OPERATIONS {
@@ -215,7 +227,7 @@ fn planned(transaction: impl Fn(u32) -> (u16, Vec<Step>)) -> Vec<u8> {
         steps.push(Write(1_000_000 + extra as u32, 1));
     }
     let mut writer = Writer::new(0);
-    for (session, steps) in plan {
+    for (number, (session, steps)) in (1..).zip(plan) {
         writer.open(session);
         for step in steps {
             match step {
@@ -223,9 +235,38 @@ fn planned(transaction: impl Fn(u32) -> (u16, Vec<Step>)) -> Vec<u8> {
                 Write(key, value) => writer.write(key, value),
             }
         }
-        writer.close(1);
+        writer.close(status(number) as u8);
     }
     writer.end()
+}
+
+/// 126 unanswered ones, each read by the next and the last by a committed one:
+/// the last comes to count first, so that what counts runs against the numbers.
+fn read_by_next() -> Vec<u8> {
+    let status = |t| match t {
+        MAX_TRANSACTIONS => Status::Committed,
+        _ => Status::Unanswered,
+    };
+    planned_with(status, |t| link(t, (t > 1).then(|| t - 1)))
+}
+
+/// The same chain the other way round: each reads the next, and the first is
+/// the committed one.
+fn reads_next() -> Vec<u8> {
+    let status = |t| match t {
+        1 => Status::Committed,
+        _ => Status::Unanswered,
+    };
+    planned_with(status, |t| link(t, (t < 127).then(|| t + 1)))
+}
+
+/// A transaction of such a chain, which reads four values of its source.
+fn link(t: u32, source: Option<u32>) -> (u16, Vec<Step>) {
+    let reads = source
+        .into_iter()
+        .flat_map(|source| (0..4).map(move |key| Read(key, source.into())));
+    let writes = (0..4).map(|key| Write(key, t.into()));
+    (t as u16, reads.chain(writes).collect())
 }
 
 /// Each transaction reads what the next one wrote, so that what leads to what

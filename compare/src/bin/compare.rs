@@ -7,16 +7,16 @@ use ferozhak_compare::generate::{self, Origin};
 use ferozhak_compare::process::{run_once, spawn};
 use ferozhak_compare::random::Random;
 use ferozhak_compare::report::{self, Level, Verdict};
-use ferozhak_compare::trace::{Refusal, Trace, MAX_BYTES};
+use ferozhak_compare::trace::{Refusal, Status, Trace, MAX_BYTES};
 use ferozhak_compare::workers::{self, add_each, Difference, Extent, Tally};
-use ferozhak_compare::{brute, scribes, Answer};
+use ferozhak_compare::{brute, graph, scribes, Answer};
 use std::io::{self, BufRead, BufReader, Write};
 use std::process::{Child, ChildStdin, ChildStdout, ExitCode};
 
 const USAGE: &str = "Usage:
   compare --judge COMMAND [options]    compares the program with the Rust judge: a run for each trace
   compare --stream COMMAND [options]   the same with the program `stream`: many traces a run
-  compare --self [options]             compares the Rust judge's two deciders only
+  compare --self [options]             compares the Rust judge's two deciders only, also on what counts as committed
   compare --scribe COMMAND [options]   compares the program `scribe` with the Rust writer: many items a run
   compare --writer COMMAND [options]   the same with the program `writer`: a run for each sequence of steps
   compare --rewrite COMMAND [options]  the same with the program `rewrite`: a run for each trace
@@ -188,23 +188,16 @@ impl Subject {
             }
         }
         if let (Ok(trace), Ok(verdicts)) = (&parsed, &answer) {
-            for (level, verdict) in Level::ALL.into_iter().zip(verdicts) {
-                let Some(outcome) = brute::judge(trace, level) else {
-                    break;
-                };
-                summary.brute += 1;
-                // An order exists exactly if no pair is listed, whether or not
-                // there are findings.
-                let no_pair = match &outcome.verdict {
-                    Verdict::Accepted(_) => true,
-                    Verdict::Rejected { pairs, .. } => pairs.is_empty(),
-                };
-                if outcome.verdict != *verdict || outcome.order_exists != no_pair {
-                    let exists = outcome.order_exists;
-                    let brute = format!("{level:?} {:?} order {exists}\n", outcome.verdict);
-                    let graph = format!("{level:?} {verdict:?}\n");
-                    return Err(self.differs("trying every order", brute, "the graph", graph));
-                }
+            let checked = check_counted(trace, summary)
+                .and_then(|()| check_orders(trace, verdicts, summary))
+                .and_then(|()| check_choices(trace, verdicts, summary));
+            if let Err(Deciders {
+                tried,
+                brute,
+                graph,
+            }) = checked
+            {
+                return Err(self.differs(tried, brute, "the graph", graph));
             }
         }
         match judge.judge(&self.bytes) {
@@ -235,6 +228,117 @@ impl Subject {
             answers: [(one, said), (other, ours)],
         })
     }
+}
+
+/// What the graph says, and what was tried to contradict it.
+struct Deciders {
+    tried: &'static str,
+    brute: String,
+    graph: String,
+}
+
+/// What counts as committed is the smallest closed choice of outcomes. Where
+/// there are too many to try, each unanswered one counts at least exactly if
+/// another that counts reads it.
+fn check_counted(trace: &Trace, summary: &mut Summary) -> Result<(), Deciders> {
+    let ours = graph::counted(trace);
+    for unanswered in trace.with_status(Status::Unanswered) {
+        match ours.contains(&unanswered) {
+            true => summary.counted += 1,
+            false => summary.uncounted += 1,
+        }
+    }
+    let differs = |tried, brute| Deciders {
+        tried,
+        brute,
+        graph: format!("counted {ours:?}\n"),
+    };
+    if !brute::counts_exactly(trace, &ours) {
+        let brute = "one counts that no other reads, or the reverse\n".into();
+        return Err(differs("looking for readers", brute));
+    }
+    let Some(smallest) = brute::counted(trace) else {
+        return Ok(());
+    };
+    summary.brute_counted += 1;
+    match smallest == ours {
+        true => Ok(()),
+        false => Err(differs(
+            "trying every set",
+            format!("counted {smallest:?}\n"),
+        )),
+    }
+}
+
+/// Each verdict is the one that trying every order gives, and it is acceptance
+/// exactly if some choice of outcomes is accepted.
+fn check_orders(
+    trace: &Trace,
+    verdicts: &[Verdict; 3],
+    summary: &mut Summary,
+) -> Result<(), Deciders> {
+    for (level, verdict) in Level::ALL.into_iter().zip(verdicts) {
+        let Some(outcome) = brute::judge(trace, level) else {
+            break;
+        };
+        summary.brute += 1;
+        // An order exists exactly if no pair is listed, whether or not there
+        // are findings.
+        let no_pair = match &outcome.verdict {
+            Verdict::Accepted(_) => true,
+            Verdict::Rejected { pairs, .. } => pairs.is_empty(),
+        };
+        if outcome.verdict != *verdict
+            || outcome.order_exists != no_pair
+            || outcome.some_choice != is_accepted(verdict)
+        {
+            let (exists, choice) = (outcome.order_exists, outcome.some_choice);
+            let brute = &outcome.verdict;
+            return Err(Deciders {
+                tried: "trying every order",
+                brute: format!("{level:?} {brute:?} order {exists} choice {choice}\n"),
+                graph: format!("{level:?} {verdict:?}\n"),
+            });
+        }
+    }
+    Ok(())
+}
+
+/// A trace is accepted exactly if some choice of outcomes is; here each choice
+/// is judged by the graph, as a trace without unanswered commits, so that the
+/// trace may have any size.
+fn check_choices(
+    trace: &Trace,
+    verdicts: &[Verdict; 3],
+    summary: &mut Summary,
+) -> Result<(), Deciders> {
+    // Each more doubles the time.
+    const MOST_UNANSWERED: usize = 5;
+    let unanswered = trace.with_status(Status::Unanswered).count();
+    if !(1..=MOST_UNANSWERED).contains(&unanswered) {
+        return Ok(());
+    }
+    let mut some_choice = [false; 3];
+    for choice in brute::answered(trace).into_iter().flatten() {
+        let verdicts = ferozhak_compare::judge_trace(&choice);
+        for (some, verdict) in some_choice.iter_mut().zip(&verdicts) {
+            *some |= is_accepted(verdict);
+        }
+    }
+    summary.choices += 1;
+    let accepted = verdicts.each_ref().map(is_accepted);
+    match some_choice == accepted {
+        true => Ok(()),
+        false => Err(Deciders {
+            tried: "judging every choice of outcomes",
+            brute: format!("accepted {some_choice:?}\n"),
+            graph: format!("accepted {accepted:?}\n"),
+        }),
+    }
+}
+
+fn is_accepted(verdict: &Verdict) -> bool {
+    matches!(verdict, Verdict::Accepted(_))
 }
 
 /// The program under comparison, as one worker holds it.
@@ -330,6 +434,13 @@ struct Summary {
     reasons: [[usize; 16]; 3],
     /// Verdicts checked by trying every order.
     brute: usize,
+    /// Traces whose counted transactions were checked by trying every set.
+    brute_counted: usize,
+    /// Traces of which each choice of outcomes was judged.
+    choices: usize,
+    /// Unanswered transactions that count as committed, and that do not.
+    counted: usize,
+    uncounted: usize,
 }
 
 impl Tally for Summary {
@@ -343,6 +454,10 @@ impl Tally for Summary {
             add_each(to, from);
         }
         self.brute += other.brute;
+        self.brute_counted += other.brute_counted;
+        self.choices += other.choices;
+        self.counted += other.counted;
+        self.uncounted += other.uncounted;
     }
 }
 
@@ -384,6 +499,14 @@ impl Summary {
         let mut lines = vec![
             format!("{traces} traces of seed {}, judged {judges}", extent.seed),
             format!("{} verdicts also by trying every order", self.brute),
+            format!(
+                "what counts in {} traces also by trying every set",
+                self.brute_counted
+            ),
+            format!(
+                "{} traces also by judging every choice of outcomes",
+                self.choices
+            ),
             "origins:".into(),
         ];
         for origin in Origin::ALL {
@@ -398,6 +521,10 @@ impl Summary {
                 "  {name:<4}accepted {accepted:>9}, rejected {rejected:>9}"
             ));
         }
+        lines.push(format!(
+            "unanswered transactions: counted {}, not counted {}",
+            self.counted, self.uncounted
+        ));
         lines.push("refusals (1 and 12 to 15 cannot be given by the program):".into());
         for number in 2..=11 {
             lines.push(format!("  {number:>2} {:>9}", self.refusals[number]));

@@ -1,0 +1,281 @@
+-- The way through the queue.
+use Prim.Native.Nat.{ℕ, _+_, _≤_, _<_}
+use mathlib.Core.Path.{_≡_, refl, ap, sym, _∙_}
+use mathlib.Core.Bool.{true, false, not}
+use mathlib.Core.List.{List}
+use mathlib.Core.Logic.{⊎-elim}
+use native.Mathlib.Omega.{arith}
+use native.Mathlib.Decide.{ℕ-discrete}
+use lib.ListN.{getD}
+use lib.Seq.{getD-set-other}
+use borrow.Author.Tests.{eqb-true, eq-eqb, ne-eqb}
+use Rattle.base.proofs.Tests.{clash, is-false, not-true, both, and-left, and-right, same-test, split}
+use Rattle.base.proofs.Searches.{some-at, some-of}
+use Rattle.base.proofs.Chains.{last-none}
+use Rattle.theory.specs.Reached.{Reached, from, on}
+use Rattle.theory.proofs.Reached.{reached-within}
+use Rattle.rules.specs.History.{History, tx, op, txCount, opCount, saysCommitted, isUnanswered, writeOf, takesFrom, vouches}
+use Rattle.rules.proofs.Committed.{committed-iff, committed-below}
+use Rattle.table.specs.Table.{historyOf, marked, ofTx, lastBelow, lastOf, prevOf, Held, HasTx, HasOp, Below}
+use Rattle.table.proofs.Chain.{OnChain, chain-last, chain-prev}
+use Rattle.settling.specs.Settling.{Passes, Admitted, Marks, Further, TakenUp, Gains, Gain, LookedAt, Settles}
+use Rattle.settling.proofs.Queues.{queue-few, queue-more, MarkedAs, marked-as}
+
+-- ── what an operation takes, and from whom ──
+
+module _ (x : History) (a u i : ℕ) (t : takesFrom x a u i ≡ true) where
+  takes-read : op x i .isWrite ≡ false
+  unfolding takesFrom
+  takes-read = not-true _ (and-left _ _ (and-left _ _ t))
+
+  takes-in : op x i .tx ≡ a
+  unfolding takesFrom
+  takes-in = eqb-true (op x i .tx) a (and-right _ _ (and-left _ _ t))
+
+  takes-of : op x (writeOf x (op x i .key) (op x i .value)) .tx ≡ u
+  unfolding takesFrom
+  takes-of = eqb-true (op x (writeOf x (op x i .key) (op x i .value)) .tx) u (and-right _ _ t)
+
+-- the first transaction is not unanswered
+zeroth-answered : (x : History) → isUnanswered x 0 ≡ false
+unfolding isUnanswered tx
+zeroth-answered x = refl
+
+no-op : (x : History) → op x 0 .tx ≡ 0
+unfolding op
+no-op x = refl
+
+-- ── whom operation i makes count ──
+
+-- w is the write whose value it reads
+pub wrote : (x : History) (i : ℕ) {k v w n : ℕ} → k ≡ op x i .key → v ≡ op x i .value → Below w (writeOf x k v) n
+    → w ≡ writeOf x (op x i .key) (op x i .value)
+wrote x i d e b = b .is ∙ rw (d, e)
+
+module _ {h : List ℕ} {i : ℕ} where
+  gain-none : TakenUp h i → Gain h i 0
+  gain-none t = record { none = λ z. t; some = λ z. absurd (omega arith) }
+
+  pub gain-write : op (historyOf h) i .isWrite ≡ true → Gain h i 0
+  gain-write e = gain-none (λ u t a. absurd (clash e (takes-read _ _ u i t)))
+
+  module _ {w : ℕ} (e : w ≡ writeOf (historyOf h) (op (historyOf h) i .key) (op (historyOf h) i .value)) where
+    pub gain-unwritten : w ≡ 0 → Gain h i 0
+    gain-unwritten z =
+        gain-none
+        (λ u t a. let q : u ≡ 0 = sym (rw (← e) at (takes-of _ _ u i t)) ∙ rw z (no-op (historyOf h)) in
+        absurd (clash (rw q at a) (zeroth-answered (historyOf h))))
+
+    module _ {u : ℕ} (f : u ≡ op (historyOf h) w .tx) where
+      gain-old : (isUnanswered (historyOf h) u ≡ true → marked h u ≡ true) → Gain h i 0
+      gain-old m = gain-none (λ y t a. let q : y ≡ u = sym (f ∙ (rw (← e) at (takes-of _ _ y i t))) in rw q (m (rw q at a)))
+
+      pub gain-answered : (tx (historyOf h) u .status ≡ 2 → ⊥) → Gain h i 0
+      unfolding isUnanswered
+      gain-answered d = gain-old (λ a. absurd (d (eqb-true _ 2 a)))
+
+      pub gain-marked : marked h u ≡ true → Gain h i 0
+      gain-marked m = gain-old (λ a. m)
+
+      pub gain-new : op (historyOf h) i .isWrite ≡ false → HasTx h u → tx (historyOf h) u .status ≡ 2 → marked h u ≡ false → Gain h i u
+      unfolding isUnanswered takesFrom
+      gain-new r p s m =
+          record {
+            none = λ z. absurd (omega (arith, p .from));
+            some =
+                λ z.
+                record {
+                  there = p;
+                  unanswered = eq-eqb _ 2 s;
+                  takes = both _ _ (both _ _ (ap not r) (eq-eqb (op (historyOf h) i .tx) _ refl)) (eq-eqb _ u (rw (← e) (sym f)));
+                  new = m;
+                };
+          }
+
+-- .. the transaction of a write is there
+pub writer-there : {h : List ℕ} {w u n : ℕ} → Held h → (w ≡ 0 → ⊥) → w < opCount (historyOf h) + 1 → Below u (op (historyOf h) w .tx) n → HasTx h u
+writer-there {w = w} p z l b =
+    let t = p .txs-in w (⊎-elim (λ m. m) (λ m. absurd (z (omega arith))) (split 0 w)) (omega arith) in
+    record { held = p; from = omega (arith, b .is, t .0); to = omega (arith, b .is, t .1) }
+
+-- ── it counts from now on ──
+
+pub further-none : {h q : List ℕ} {n : ℕ} → Marks h q n → Further h q n h q n
+further-none m = record { same = refl; marks = m; more = omega arith; places = λ i l. refl; kept = λ t e. e }
+
+pub further-then : {h q g p f o : List ℕ} {n r s : ℕ} → Further h q n g p r → Further g p r f o s → Further h q n f o s
+further-then a b =
+    record {
+      same = b .same ∙ a .same;
+      marks = b .marks;
+      more = omega (arith, a .more, b .more);
+      places = λ i l. b .places i (omega (arith, a .more)) ∙ a .places i l;
+      kept = λ t e. b .kept t (a .kept t e);
+    }
+
+module _ {h q : List ℕ} {n : ℕ} (m : Marks h q n) where
+  pub marks-few : n ≤ 127
+  marks-few = omega (arith, queue-few (m .queue), m .held .few)
+
+  module _ {i u : ℕ} (p : HasOp h i) (c : marked h (op (historyOf h) i .tx) ≡ true) (w : Gains h i u) where
+    reader : Passes (historyOf h) (marked h) (op (historyOf h) i .tx)
+    reader = let t = p .held .txs-in i (p .from) (p .to) in record { from = t .0; to = t .1; passes = c }
+
+    -- "other than itself": the reader is marked, u is not yet
+    gain-vouched : vouches (historyOf h) (op (historyOf h) i .tx) u ≡ true
+    unfolding vouches
+    gain-vouched =
+        both _ _ (both _ _ (w .unanswered) (ap not (ne-eqb _ u (λ e. clash (rw e at c) (w .new)))))
+        (some-of _ _ 1 i (p .from) (omega (arith, p .to)) (w .takes))
+
+    module _ {g o : List ℕ} {r : ℕ} (a : Admitted h q n u g o r) where
+      marks-u : MarkedAs h g u true
+      marks-u = marked-as 1 (omega arith) (w .there) (a .marks)
+
+      kept-on : (t : ℕ) → Dec (t ≡ u) → marked h t ≡ true → marked g t ≡ true
+      kept-on t (yes e) b = rw e (marks-u .this)
+      kept-on t (no d) b = marks-u .other t d ∙ b
+
+      right-on : (t : ℕ) → Dec (t ≡ u) → Passes (historyOf h) (marked g) t → Reached (saysCommitted (historyOf h)) (vouches (historyOf h)) t
+      right-on t (yes e) b = rw e (on (m .right _ reader) gain-vouched)
+      right-on t (no d) b = m .right t (record { from = b .from; to = b .to; passes = sym (marks-u .other t d) ∙ b .passes })
+
+      admitted-marks : Marks g o r
+      admitted-marks =
+          record {
+            held = marks-u .held;
+            right = rw (marks-u .same) (λ t. right-on t (ℕ-discrete t u));
+            said = rw (marks-u .same) (λ t b. kept-on t (ℕ-discrete t u) (m .said t b));
+            queue =
+                rw (marks-u .same, a .queue, a .end)
+                (queue-more (m .queue) _ u (w .there .from) (w .there .to) (omega (arith, marks-few)) (w .new) (marks-u .this) (marks-u .other));
+          }
+
+      pub further-one : Further h q n g o r
+      further-one =
+          record {
+            same = marks-u .same;
+            marks = admitted-marks;
+            more = omega (arith, a .end);
+            places = λ k l. rw (a .queue) (getD-set-other q n k u 0 (λ e. omega arith));
+            kept = λ t. kept-on t (ℕ-discrete t u);
+          }
+
+      pub taken-one : TakenUp g i
+      taken-one =
+          rw (marks-u .same) (λ y t b. let e : y ≡ u = sym (takes-of _ _ y i t) ∙ takes-of _ _ u i (w .takes) in rw e (marks-u .this))
+
+-- ── the operations of t ──
+
+-- a loop through them has come to operation i, or to the end, where i is 0: those above it were looked at
+pub record Looking (h : List ℕ) (t i : ℕ) : Type 0 where
+  pub on : OnChain (historyOf h) t i
+  pub up : (u k : ℕ) → i < k → k ≤ opCount (historyOf h) → takesFrom (historyOf h) t u k ≡ true → isUnanswered (historyOf h) u ≡ true
+      → marked h u ≡ true
+
+-- above the last of t's operations below n there is none
+none-taken : (x : History) (t u n j k : ℕ) → j ≡ lastBelow x t n → j < k → k < n → takesFrom x t u k ≡ true → ⊥
+unfolding lastBelow ofTx
+none-taken x t u n j k e a b c = clash (eq-eqb _ t (takes-in x t u k c)) (last-none (ofTx x t) n k (omega (arith, e)) b)
+
+module _ {h : List ℕ} {t : ℕ} where
+  pub looking-start : {r : ℕ} → Below r (lastOf (historyOf h) t) (opCount (historyOf h) + 1) → Looking h t r
+  unfolding lastOf
+  looking-start b =
+      record { on = chain-last b; up = λ u k l m c a. absurd (none-taken _ t u _ _ k (b .is) l (omega arith) c) }
+
+  pub looking-kept : {q g p : List ℕ} {n r i : ℕ} → Further h q n g p r → Looking h t i → Looking g t i
+  looking-kept f l =
+      record { on = rw (f .same) (l .on); up = rw (f .same) (λ u k a b c d. f .kept u (l .up u k a b c d)) }
+
+  pub looking-next : {i r : ℕ} → Looking h t i → 0 < i → TakenUp h i → Below r (prevOf (historyOf h) i) i → Looking h t r
+  unfolding prevOf
+  looking-next {i} {r} l z c b =
+      let e : op (historyOf h) i .tx ≡ t = l .on .of z in
+      record {
+        on = chain-prev (l .on) z b;
+        up =
+            λ u k d m f a.
+            ⊎-elim (λ j. absurd (none-taken _ t u i r k (rw e at (b .is)) d j f))
+            (λ j.
+            ⊎-elim (λ y. l .up u k y m f a) (λ y. let w : k ≡ i = omega arith in c u (rw (e, ← w) f) a) (split i k))
+            (split k i);
+      }
+
+  pub looking-end : {i : ℕ} → i ≤ 0 → Looking h t i → LookedAt h t
+  unfolding vouches
+  looking-end z l u v =
+      let s = some-at _ _ 1 (and-right _ _ v) in
+      l .up u (s .at) (omega (arith, s .from)) (omega (arith, s .to)) (s .passes) (and-left _ _ (and-left _ _ v))
+
+-- ── the queue ──
+
+-- the loop through the queue has come to place j, and has made h of the table f
+pub record Going (f h q : List ℕ) (n j : ℕ) : Type 0 where
+  pub same : historyOf h ≡ historyOf f
+  pub marks : Marks h q n
+  pub within : j ≤ n
+  pub done : (i : ℕ) → i < j → LookedAt h (getD q i 0)
+
+pub going-start : {h q : List ℕ} {n : ℕ} → Marks h q n → Going h h q n 0
+going-start m = record { same = refl; marks = m; within = omega arith; done = λ i l. absurd (omega arith) }
+
+module _ {f h q : List ℕ} {n j : ℕ} (s : Going f h q n j) where
+  pub going-next : {g p : List ℕ} {r : ℕ} → j < n → Further h q n g p r → LookedAt g (getD q j 0) → Going f g p r (j + 1)
+  going-next {g} {p} l t d =
+      record {
+        same = t .same ∙ s .same;
+        marks = t .marks;
+        within = omega (arith, t .more);
+        done =
+            λ i m.
+            rw (t .places i (omega arith))
+            (⊎-elim (λ y. rw (t .same) (λ u v. t .kept u (s .done i y u v))) (λ y. let e : i ≡ j = omega arith in rw e d) (split i j));
+      }
+
+  -- transaction 0 has no operation
+  zeroth-reads : (u : ℕ) → vouches (historyOf h) 0 u ≡ false
+  unfolding vouches
+  zeroth-reads u =
+      is-false _
+      (λ v.
+      let k = some-at _ _ 1 (and-right _ _ v) in
+      omega (arith, takes-in _ 0 u (k .at) (k .passes), s .marks .held .txs-in (k .at) (k .from) (omega (arith, k .to)) .0))
+
+  pub going-end : n ≤ j → Settles f h
+  going-end l =
+      record {
+        same = s .same;
+        settled =
+            record {
+              held = s .marks .held;
+              counts =
+                  λ t a b.
+                  same-test _ _ (λ m. committed-iff _ t .1 (s .marks .right t (record { from = a; to = b; passes = m })))
+                  (λ e. whole (committed-iff _ t .0 e) .1 a);
+            };
+      }
+    where
+      Whole : ℕ → Type 0
+      Whole t = Reached (saysCommitted (historyOf h)) (vouches (historyOf h)) t × (1 ≤ t → marked h t ≡ true)
+
+      low : (t : ℕ) → Reached (saysCommitted (historyOf h)) (vouches (historyOf h)) t → t ≤ txCount (historyOf h)
+      low t r = omega (arith, committed-below (historyOf h) t (committed-iff (historyOf h) t .1 r))
+
+      has : (t : ℕ) → saysCommitted (historyOf h) t ≡ true → Whole t
+      has t e = (from e, λ a. s .marks .said t (record { from = a; to = low t (from e); passes = e }))
+
+      looked : (t u : ℕ) → 1 ≤ t → Whole t → vouches (historyOf h) t u ≡ true → marked h u ≡ true
+      looked t u a w v =
+          let k = s .marks .queue .all t (record { from = a; to = low t (w .0); passes = w .1 a }) in
+          s .done (k .at) (omega (arith, k .to)) u (rw (k .is) v)
+
+      keeps : (t u : ℕ) → Whole t → vouches (historyOf h) t u ≡ true → Whole u
+      keeps t u w v = (
+        on (w .0) v,
+        λ a.
+            ⊎-elim (λ b. looked t u b w v) (λ b. let e : t ≡ 0 = omega arith in absurd (clash (rw e at v) (zeroth-reads u))) (split 0 t),
+      )
+
+      whole : {t : ℕ} → Reached (saysCommitted (historyOf h)) (vouches (historyOf h)) t → Whole t
+      whole r = reached-within Whole has keeps r

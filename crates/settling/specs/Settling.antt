@@ -1,0 +1,100 @@
+-- What is known while it is worked out who counts as committed.
+use Prim.Native.Nat.{ℕ, _+_, _≤_, _<_}
+use mathlib.Core.Path.{_≡_}
+use mathlib.Core.Bool.{Bool, true, false}
+use mathlib.Core.List.{List}
+use lib.ListN.{length, getD, set}
+use lib.Dec.{ltb}
+use Rattle.base.specs.Base.{_and_, count}
+use Rattle.theory.specs.Reached.{Reached}
+use Rattle.rules.specs.History.{History, op, txCount, size, saysCommitted, isUnanswered, takesFrom, vouches}
+use Rattle.table.specs.Table.{historyOf, marked, markTx, Held, HasTx, Settled, Becomes}
+
+-- ── the queue ──
+
+-- t is a transaction of x that passes s
+pub record Passes (x : History) (s : ℕ → Bool) (t : ℕ) : Type 0 where
+  pub from : 1 ≤ t
+  pub to : t ≤ txCount x
+  pub passes : s t ≡ true
+
+-- one of the first n entries of q is t
+pub record Stands (q : List ℕ) (n t : ℕ) : Type 0 where
+  pub at : ℕ
+  pub to : at < n
+  pub is : getD q at 0 ≡ t
+
+-- the first n entries of q are the transactions of x that pass s, and no more than there are of these
+pub record Queue (x : History) (s : ℕ → Bool) (q : List ℕ) (n : ℕ) : Type 0 where
+  pub room : length q ≡ 128
+  pub many : n ≡ count 1 (size x) s
+  pub each : (i : ℕ) → i < n → Passes x s (getD q i 0)
+  pub all : (t : ℕ) → Passes x s t → Stands q n t
+
+-- transaction t was marked and put behind n others: they are r now
+pub record Admitted (h q : List ℕ) (n t : ℕ) (g p : List ℕ) (r : ℕ) : Type 0 where
+  pub marks : Becomes g (markTx h t 1) (historyOf h)
+  pub queue : p ≡ set q n t
+  pub end : r ≡ n + 1
+
+-- ── those that said so ──
+
+-- t is below e and says that it committed
+unfoldable pub saidBelow : History → ℕ → ℕ → Bool
+saidBelow x e t = ltb t e and saysCommitted x t
+
+-- the transactions below e were looked at: those that said so are marked and stand in the queue. Of the others' marks nothing is known
+pub record Begun (h q : List ℕ) (n e : ℕ) : Type 0 where
+  pub held : Held h
+  pub said : (t : ℕ) → 1 ≤ t → t < e → marked h t ≡ saysCommitted (historyOf h) t
+  pub queue : Queue (historyOf h) (saidBelow (historyOf h) e) q n
+
+-- .. in g, which has the history of h
+pub record Begins (h g q : List ℕ) (n e : ℕ) : Type 0 where
+  pub same : historyOf g ≡ historyOf h
+  pub begun : Begun g q n e
+
+-- ── those whose values they read ──
+
+-- the marked ones stand in the queue: only such as count, all that said so among them
+pub record Marks (h q : List ℕ) (n : ℕ) : Type 0 where
+  pub held : Held h
+  pub right : (t : ℕ) → Passes (historyOf h) (marked h) t → Reached (saysCommitted (historyOf h)) (vouches (historyOf h)) t
+  pub said : (t : ℕ) → Passes (historyOf h) (saysCommitted (historyOf h)) t → marked h t ≡ true
+  pub queue : Queue (historyOf h) (marked h) q n
+
+-- they became g, p and r: nobody lost the mark or the place
+pub record Further (h q : List ℕ) (n : ℕ) (g p : List ℕ) (r : ℕ) : Type 0 where
+  pub same : historyOf g ≡ historyOf h
+  pub marks : Marks g p r
+  pub more : n ≤ r
+  pub places : (i : ℕ) → i < n → getD p i 0 ≡ getD q i 0
+  pub kept : (t : ℕ) → marked h t ≡ true → marked g t ≡ true
+
+-- an unanswered transaction whose value operation i reads is marked, whoever reads it
+abbrev pub TakenUp : List ℕ → ℕ → Type 0
+TakenUp h i =
+    (u : ℕ) → takesFrom (historyOf h) (op (historyOf h) i .tx) u i ≡ true → isUnanswered (historyOf h) u ≡ true → marked h u ≡ true
+
+-- operation i, read by one that counts, makes r count, which does not yet
+pub record Gains (h : List ℕ) (i r : ℕ) : Type 0 where
+  pub there : HasTx h r
+  pub unanswered : isUnanswered (historyOf h) r ≡ true
+  pub takes : takesFrom (historyOf h) (op (historyOf h) i .tx) r i ≡ true
+  pub new : marked h r ≡ false
+
+-- .. or nobody, where r is 0
+pub record Gain (h : List ℕ) (i r : ℕ) : Type 0 where
+  pub none : r ≡ 0 → TakenUp h i
+  pub some : 0 < r → Gains h i r
+
+-- every transaction that counts by t is marked
+abbrev pub LookedAt : List ℕ → ℕ → Type 0
+LookedAt h t = (u : ℕ) → vouches (historyOf h) t u ≡ true → marked h u ≡ true
+
+-- ── all ──
+
+-- g has the history of h, and its marks say who counts
+pub record Settles (h g : List ℕ) : Type 0 where
+  pub same : historyOf g ≡ historyOf h
+  pub settled : Settled g

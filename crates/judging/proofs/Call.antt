@@ -33,6 +33,8 @@ module _ {s g g0 : List ℕ} {r : Out} {k : ℕ} (w : TraceRead r g g0 s k) {lev
   unfolding reported
   call-refused n at e = when-refused level f p o k n at (reading s) (sym e ∙ w .is) ∙ sym (judged-level s level f p o a b)
 
-  pub call-read : (x y z : ℕ) → r ≡ Good x y z → {v : Answer} {f2 p2 o2 : List ℕ} → OnReading (historyOf g) level f p o f2 p2 o2 v
-      → outcome (reported v) f2 p2 o2 ≡ judged s level f p o
-  call-read x y z e d = when-read level f p o k x y z d (reading s) (sym e ∙ w .is) (w .history) ∙ sym (judged-level s level f p o a b)
+  -- m: the history behind the marks, which leave it as it was
+  pub call-read : {m : History} → m ≡ historyOf g → (x y z : ℕ) → r ≡ Good x y z → {v : Answer} {f2 p2 o2 : List ℕ}
+      → OnReading m level f p o f2 p2 o2 v → outcome (reported v) f2 p2 o2 ≡ judged s level f p o
+  call-read q x y z e d =
+      when-read level f p o k x y z d (reading s) (sym e ∙ w .is) (λ h notes n. q ∙ w .history h notes n) ∙ sym (judged-level s level f p o a b)

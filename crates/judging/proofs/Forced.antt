@@ -23,7 +23,7 @@ use Rattle.judging.specs.Judging.{Known, AtLevel}
 module _ {h k : List ℕ} {level : ℕ} (a : AtLevel h k level) {x : ℕ} (e : x ≡ txCount (historyOf h)) {b : List ℕ}
     (basics : Holds b (before (basic (historyOf h)))) where
   pub basic-below : Under (x + 1) b
-  basic-below = rw e (basic-closes (a .ready .held) basics)
+  basic-below = rw e (basic-closes (a .ready .settled .held) basics)
 
   pub told : {s : List ℕ} → Known level (x + 1) b s → Told h k s level
   told {s} w =
@@ -33,7 +33,7 @@ module _ {h k : List ℕ} {level : ℕ} (a : AtLevel h k level) {x : ℕ} (e : x
         to = a .to;
         seen =
             ifso (eqb level 3)
-            (λ t. goes-by-leads (historyOf h) level (eqb-true level 3 t) (basic-leads (a .ready .held) basics (rw e at (w .closed (eqb-true level 3 t)))))
+            (λ t. goes-by-leads (historyOf h) level (eqb-true level 3 t) (basic-leads (a .ready .settled .held) basics (rw e at (w .closed (eqb-true level 3 t)))))
             (λ t. goes-by-basic (historyOf h) level (eqb-false level 3 t) (rw (w .same (eqb-false level 3 t)) basics));
       }
 
@@ -43,12 +43,12 @@ module _ {h k : List ℕ} {level : ℕ} (a : AtLevel h k level) {x : ℕ} (e : x
     forces = basic-joined (historyOf h) level basics rivals both
 
     pub forced-below : Under (x + 1) f
-    forced-below = rw e (forced-closes (a .ready .held) level forces)
+    forced-below = rw e (forced-closes (a .ready .settled .held) level forces)
 
     pub judging : {s : List ℕ} → Holds s (via (bitOf f) (x + 1)) → Judging h k f s v level
     judging l =
-        record { ready = a .ready; forces = forces; leads = forced-leads (a .ready .held) level forces (rw e at l); rivals = rivals }
+        record { ready = a .ready; forces = forces; leads = forced-leads (a .ready .settled .held) level forces (rw e at l); rivals = rivals }
 
 -- what deciding asks for
 pub decidable : {h k f s v : List ℕ} {level : ℕ} → Judging h k f s v level → Listing h k f s v × Under (size (historyOf h)) f
-decidable {level = level} j = (told-listing j, forced-closes (j .ready .held) level (j .forces))
+decidable {level = level} j = (told-listing j, forced-closes (j .ready .settled .held) level (j .forces))

@@ -7,7 +7,7 @@ ghost use Rattle.theory.specs.Leads.{via};
 ghost use Rattle.rules.specs.History.{size, committed};
 ghost use Rattle.rules.specs.Levels.{basic, isRival, forced};
 ghost use Rattle.rules.specs.Outcome.{reported, outcome, judged};
-ghost use Rattle.table.specs.Table.{historyOf, Held};
+ghost use Rattle.table.specs.Table.{historyOf, Settled};
 ghost use Rattle.bits.specs.Bits.{bitOf, Holds, Under};
 ghost use Rattle.order.specs.Sets.{Gathered};
 ghost use Rattle.pairs.specs.Pairs.{Ready, before};
@@ -24,7 +24,7 @@ const WORDS: usize = 2306;
 
 // "Only committed transactions take part": w has those below t; t gets into it, where it is one.
 fn enter(h: &[u64], w: Words, t: usize) -> Words
-    requires { ⌜ Held (now h) × (t < 128) × Gathered (committed (historyOf (now h))) t w ⌝ }
+    requires { ⌜ Settled (now h) × (t < 128) × Gathered (committed (historyOf (now h))) t w ⌝ }
     ensures { λ r. ⌜ Gathered (committed (historyOf (now (h .entry)))) (t + 1) r ⌝ }
 {
     if reads::is_committed(h, t) {
@@ -33,9 +33,9 @@ fn enter(h: &[u64], w: Words, t: usize) -> Words
     w
 }
 
-// The committed transactions, 0 among them.
+// The transactions that count as committed, 0 among them.
 fn members(h: &[u64]) -> Words
-    requires { ⌜ Held (now h) ⌝ }
+    requires { ⌜ Settled (now h) ⌝ }
     ensures { λ r. ⌜ Gathered (committed (historyOf (now (h .entry)))) (size (historyOf (now (h .entry)))) r ⌝ }
 {
     let n = table::txs(h);
@@ -64,7 +64,7 @@ fn copy(from: &[u8], n: usize, to: &mut [u8])
 
 // The order is worked out beside the caller's buffer, so that one that is too short is not touched: "on acceptance only, 14".
 fn accept(h: &[u64], f: &[u64; 256], out: &mut [u8]) -> Answer
-    requires { ⌜ Held (now h) × Under (size (historyOf (now h))) (now f) ⌝ }
+    requires { ⌜ Settled (now h) × Under (size (historyOf (now h))) (now f) ⌝ }
     ensures { λ r. ⌜ ((level : ℕ) → Holds (now (f .entry)) (before (forced (historyOf (now (h .entry))) level)) → OnAcceptance (historyOf (now (h .entry))) level (now (out .entry)) (now (out .exit)) r) ⌝ }
 {
     let mut shown = [0u8; 128];
@@ -208,7 +208,7 @@ fn force(
 
 // ── the call ──
 
-// A trace that was read.
+// A trace that was read, with marks on those that count as committed.
 fn judge_history(
     h: &[u64],
     level: u8,
@@ -216,7 +216,7 @@ fn judge_history(
     pairs: &mut [u8],
     order: &mut [u8],
 ) -> Answer
-    requires { ⌜ Held (now h) × (1 ≤ level) × (level ≤ 3) ⌝ }
+    requires { ⌜ Settled (now h) × (1 ≤ level) × (level ≤ 3) ⌝ }
     ensures { λ r. ⌜ OnReading (historyOf (now (h .entry))) level (now (findings .entry)) (now (pairs .entry)) (now (order .entry)) (now (findings .exit)) (now (pairs .exit)) (now (order .exit)) r ⌝ }
 {
     let mut k = [0u8; 1025];
@@ -231,6 +231,7 @@ fn judge_history(
 
 // Judges the trace at a level: 1 read committed, 2 read atomicity, 3 transactional causal consistency. What each answer means, and what each buffer then
 // holds, is the outcome that the definition gives these bytes, this level and these buffers. "Order: 1, 2, then record by record."
+// Who counts as committed is worked out once, behind the reading.
 pub fn judge(
     trace: &[u8],
     level: u8,
@@ -250,6 +251,9 @@ pub fn judge(
     let read = trace::read_trace(trace, 0, &mut h);
     match read {
         Out::Bad(no, place) => Answer::Refused(no, place),
-        Out::Good(_, _, _) => judge_history(&h, level, findings, pairs, order),
+        Out::Good(_, _, _) => {
+            settling::settle(&mut h);
+            judge_history(&h, level, findings, pairs, order)
+        }
     }
 }

@@ -25,7 +25,7 @@ module _ {h k f c v : List ℕ} {level : ℕ} (j : Judging h k f c v level) wher
   H = historyOf h
 
   low : {a : ℕ} → a < size H → a < 128
-  low l = omega (arith, j .ready .held .few)
+  low l = omega (arith, j .ready .settled .held .few)
 
   module _ {a b : ℕ} (l : a < size H) (m : b < size H) where
     told-listed : isIn f c a b ≡ isListed (size H) (forced H level) a b
@@ -70,7 +70,7 @@ module _ {h k f c v : List ℕ} {level : ℕ} (j : Judging h k f c v level) wher
             record {
               forced-room = j .forces .room;
               leads-room = j .leads .room;
-              few = omega (arith, j .ready .held .few);
+              few = omega (arith, j .ready .settled .held .few);
               loops = λ a b l m e. told-loop l m e;
             };
         rivals-room = j .rivals .room;

@@ -9,7 +9,7 @@ use lib.ListN.{length, getD}
 use lib.Dec.{eqb}
 use borrow.Author.Tests.{eqb-true, eq-eqb, ltb-true, le-leb, lt-leb}
 use Rattle.base.specs.Base.{_or_, some}
-use Rattle.base.proofs.Tests.{split, clash, is-false, same-test, both, and-left, and-right, and-on, or-cases, or-on}
+use Rattle.base.proofs.Tests.{is-false, same-test, both, and-left, and-right, and-on, or-cases, or-on}
 use Rattle.base.proofs.Searches.{some-at, some-of, some-none, some-same}
 use Rattle.theory.specs.Leads.{via}
 use Rattle.theory.proofs.Leads.{via-flip}
@@ -17,9 +17,10 @@ use Rattle.theory.proofs.Same.{via-same}
 use Rattle.rules.specs.History.{History, op, opCount, size, committed}
 use Rattle.rules.specs.Reads.{sourceOf, isExternal, readsFrom}
 use Rattle.rules.specs.Levels.{isStart, isSession, isRead, basic, leads}
+use Rattle.rules.proofs.Committed.{committed-below}
 use Rattle.table.specs.Table.{historyOf, ofTx, Held, HasTx, HasOp}
 use Rattle.table.proofs.Chain.{OnChain}
-use Rattle.reads.proofs.Fitting.{past-committed, source-less}
+use Rattle.reads.proofs.Fitting.{source-less}
 use Rattle.reads.proofs.Entries.{external-says, judged-external, judged-reads}
 use Rattle.bits.specs.Bits.{bitOf, Holds, Under, nothing, either}
 use Rattle.bits.proofs.Tables.{holds-same}
@@ -30,7 +31,7 @@ use Rattle.pairs.proofs.Marking.{cell-is, cell-has}
 
 module _ {h k : List ℕ} {i : ℕ} (p : Ready h k) (o : HasOp h i) where
   pub byte-in : i < length k
-  byte-in = omega (arith, o .to, p .held .most, p .judged .room)
+  byte-in = omega (arith, o .to, p .settled .held .most, p .judged .room)
 
   -- 8 and more: a clean external read; less: another operation
   pub byte-clean : 8 ≤ getD k i 0 → isExternal (historyOf h) i ≡ true
@@ -47,7 +48,7 @@ module _ {h k : List ℕ} {i : ℕ} (p : Ready h k) (o : HasOp h i) where
 
   -- the source is a row of a table
   pub byte-row : isExternal (historyOf h) i ≡ true → getD k i 0 - 8 < 128
-  byte-row t = omega (arith, byte-source t, source-less h i (p .held), p .held .few)
+  byte-row t = omega (arith, byte-source t, source-less h i (p .settled .held), p .settled .held .few)
 
 -- a clean external read of t's from a: one comparison
 pub byte-from : {h k : List ℕ} {t i : ℕ} → Ready h k → OnChain (historyOf h) t i → 0 < i → (a : ℕ)
@@ -56,11 +57,8 @@ byte-from {t = t} {i = i} p o l a = judged-reads (p .judged) i l (o .to) t a ∙
 
 -- ── transactions that the history has ──
 
-pub committed-in : (h : History) (t : ℕ) → committed h t ≡ true → t < size h
-committed-in h t e = ⊎-elim (λ l. l) (λ g. absurd (clash e (past-committed h t (omega arith)))) (split t (size h))
-
 pub committed-has : {h : List ℕ} → Held h → (t : ℕ) → 0 < t → committed (historyOf h) t ≡ true → HasTx h t
-committed-has {h} p t a e = record { held = p; from = a; to = omega (arith, committed-in (historyOf h) t e) }
+committed-has {h} p t a e = record { held = p; from = a; to = omega (arith, committed-below (historyOf h) t e) }
 
 -- ── pairs are of such transactions ──
 
@@ -69,13 +67,13 @@ unfolding isStart
 start-below h a b e =
     let z = eqb-true a 0 (and-left _ _ (and-left _ _ e)) in
     let l = ltb-true 0 b (and-right _ _ (and-left _ _ e)) in
-    (omega arith, committed-in h b (and-right _ _ e))
+    (omega arith, committed-below h b (and-right _ _ e))
 
 pub session-below : (h : History) (a b : ℕ) → isSession h a b ≡ true → (a < b) × (b < size h)
 unfolding isSession
 session-below h a b e =
     let c = and-left _ _ e in
-    (ltb-true a b (and-right _ _ (and-left _ _ (and-left _ _ c))), committed-in h b (and-right _ _ c))
+    (ltb-true a b (and-right _ _ (and-left _ _ (and-left _ _ c))), committed-below h b (and-right _ _ c))
 
 pub precedes-below : (h : History) (a b : ℕ) → precedes h a b ≡ true → (a < b) × (b < size h)
 unfolding precedes

@@ -7,16 +7,16 @@ use Rattle.base.specs.Base.{_and_, _or_, some}
 use Rattle.rules.specs.History.{History, op, opCount, size}
 use Rattle.rules.specs.Reads.{sourceOf, isExternal}
 use Rattle.rules.specs.Levels.{isStart, isSession}
-use Rattle.table.specs.Table.{historyOf, Held}
+use Rattle.table.specs.Table.{historyOf, Settled}
 use Rattle.reads.specs.Verdicts.{Judged}
 
 -- row b of a table has the bits of what stands before b
 unfoldable pub before : (ℕ → ℕ → Bool) → ℕ → ℕ → Bool
 before f b a = f a b
 
--- h is a history's table, and k has what is to be known of its operations
+-- h is a history's table, with marks on those that count as committed, and k has what is to be known of its operations
 pub record Ready (h k : List ℕ) : Type 0 where
-  pub held : Held h
+  pub settled : Settled h
   pub judged : Judged k (historyOf h)
 
 -- ── what is marked ──

@@ -4,7 +4,7 @@ ghost use Prim.Native.Nat.{_≤_, _<_};
 ghost use lib.ListN.{length};
 ghost use Rattle.rules.specs.History.{txCount};
 ghost use Rattle.rules.specs.Levels.{isStart, isSession, isRead, basic};
-ghost use Rattle.table.specs.Table.{historyOf, Held, HasOp};
+ghost use Rattle.table.specs.Table.{historyOf, HasOp, Settled};
 ghost use Rattle.bits.specs.Bits.{bitOf, Holds, either};
 ghost use Rattle.pairs.specs.Pairs.{Ready, before, precedes, orderBit, orderRow, orders, readBit, readBits};
 
@@ -12,7 +12,7 @@ ghost use Rattle.pairs.specs.Pairs.{Ready, before, precedes, orderBit, o
 
 // "start (0 before every other)"
 pub fn is_start(h: &[u64], a: usize, b: usize) -> bool
-    requires { ⌜ Held (now h) ⌝ }
+    requires { ⌜ Settled (now h) ⌝ }
     ensures { λ r. ⌜ r ≡ isStart (historyOf (now (h .entry))) a b ⌝ }
 {
     if a != 0 {
@@ -26,7 +26,7 @@ pub fn is_start(h: &[u64], a: usize, b: usize) -> bool
 
 // "session (an earlier transaction before each later one of its session)"
 pub fn is_session(h: &[u64], a: usize, b: usize) -> bool
-    requires { ⌜ Held (now h) ⌝ }
+    requires { ⌜ Settled (now h) ⌝ }
     ensures { λ r. ⌜ r ≡ isSession (historyOf (now (h .entry))) a b ⌝ }
 {
     if a == 0 {
@@ -66,7 +66,7 @@ pub fn is_read(h: &[u64], k: &[u8], a: usize, b: usize) -> bool
 
 // Whether a stands before b by start or by session.
 fn precedes(h: &[u64], a: usize, b: usize) -> bool
-    requires { ⌜ Held (now h) ⌝ }
+    requires { ⌜ Settled (now h) ⌝ }
     ensures { λ r. ⌜ r ≡ precedes (historyOf (now (h .entry))) a b ⌝ }
 {
     if is_start(h, a, b) {
@@ -77,7 +77,7 @@ fn precedes(h: &[u64], a: usize, b: usize) -> bool
 
 // Row b gets the bit a, where a stands before b by start or by session.
 fn mark_order(h: &[u64], t: &mut [u64], a: usize, b: usize)
-    requires { ⌜ Held (now h) × (length (now t) ≡ 256) × (a < 128) × (b < 128) ⌝ }
+    requires { ⌜ Settled (now h) × (length (now t) ≡ 256) × (a < 128) × (b < 128) ⌝ }
     ensures { λ r. ⌜ Holds (now (t .exit)) (either (bitOf (now (t .entry))) (orderBit (historyOf (now (h .entry))) b a)) ⌝ }
 {
     if precedes(h, a, b) {
@@ -87,7 +87,7 @@ fn mark_order(h: &[u64], t: &mut [u64], a: usize, b: usize)
 
 // .. for each a before b: all earlier ones of a session, not only the neighbour.
 fn mark_order_row(h: &[u64], t: &mut [u64], b: usize)
-    requires { ⌜ Held (now h) × (length (now t) ≡ 256) × (b < 128) ⌝ }
+    requires { ⌜ Settled (now h) × (length (now t) ≡ 256) × (b < 128) ⌝ }
     ensures { λ r. ⌜ Holds (now (t .exit)) (either (bitOf (now (t .entry))) (orderRow (historyOf (now (h .entry))) b)) ⌝ }
 {
     let mut a = 0;
@@ -98,7 +98,7 @@ fn mark_order_row(h: &[u64], t: &mut [u64], b: usize)
 }
 
 fn mark_orders(h: &[u64], t: &mut [u64])
-    requires { ⌜ Held (now h) × (length (now t) ≡ 256) ⌝ }
+    requires { ⌜ Settled (now h) × (length (now t) ≡ 256) ⌝ }
     ensures { λ r. ⌜ Holds (now (t .exit)) (either (bitOf (now (t .entry))) (orders (historyOf (now (h .entry))))) ⌝ }
 {
     let n = table::txs(h);

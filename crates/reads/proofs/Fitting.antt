@@ -2,25 +2,19 @@
 use Prim.Native.Nat.{ℕ, _+_, _<_, _≤_}
 use mathlib.Core.Path.{_≡_, refl, ap, sym}
 use mathlib.Core.Bool.{Bool, true, false}
-use mathlib.Core.List.{List, _∷_}
+use mathlib.Core.List.{List}
 use mathlib.Core.Logic.{⊎-elim}
 use native.Mathlib.Omega.{arith}
 use native.Mathlib.Decide.{ℕ-discrete}
-use lib.ListN.{List·getD-eq-default}
 use lib.Dec.{ltb, eqb}
 use borrow.Author.Tests.{eq-eqb, ne-eqb, lt-ltb}
 use Rattle.base.specs.Base.{_and_, _or_, pick, firstFit}
 use Rattle.base.proofs.Tests.{known, clash, and-no-right, pick-on, pick-off, split}
 use Rattle.base.proofs.Searches.{some-end}
-use Rattle.rules.specs.History.{History, tx, op, txCount, opCount, zeroth, noTx, committed, writeOf}
+use Rattle.rules.specs.History.{History, op, txCount, opCount, committed, writeOf}
 use Rattle.rules.specs.Reads.{writesAt, wroteBetween, originOf, sourceOf, kindBy, kindOf}
 use Rattle.table.specs.Table.{historyOf, Held, HasOp}
 use Rattle.table.proofs.Words.{write-less, op-has-tx}
-
--- past the last transaction none is committed
-pub past-committed : (h : History) (t : ℕ) → txCount h < t → committed h t ≡ false
-unfolding committed tx
-past-committed h t l = rw (List·getD-eq-default (zeroth ∷ h .txs) noTx {n = t} (omega arith))
 
 -- ── where a value comes from ──
 

@@ -3,7 +3,7 @@ ghost use Prim.Native.Nat.{_+_, _≤_, _<_};
 ghost use lib.ListN.{length};
 ghost use Rattle.rules.specs.History.{op, txCount, opCount, committed};
 ghost use Rattle.rules.specs.Reads.{wroteBetween, originOf, sourceOf, kindBy, kindOf};
-ghost use Rattle.table.specs.Table.{historyOf, Held, HasTx, HasOp, Below};
+ghost use Rattle.table.specs.Table.{historyOf, Held, HasTx, HasOp, Settled, Below};
 ghost use Rattle.reads.specs.Verdicts.{writesKeyAt, wroteUpTo, verdictOf, Classified};
 
 // The six kinds of unclean reads. A clean read has the kind 0.
@@ -19,9 +19,9 @@ const NOT_MY_OWN: u8 = 5;
 
 const INTERMEDIATE: u8 = 6;
 
-// Whether transaction t is committed, as 0 is.
+// Whether transaction t counts as committed, as 0 does (document 02, "commits nobody answered").
 pub fn is_committed(h: &[u64], t: usize) -> bool
-    requires { ⌜ Held (now h) ⌝ }
+    requires { ⌜ Settled (now h) ⌝ }
     ensures { λ r. ⌜ r ≡ committed (historyOf (now (h .entry))) t ⌝ }
 {
     if t == 0 {
@@ -30,7 +30,7 @@ pub fn is_committed(h: &[u64], t: usize) -> bool
     if table::txs(h) < t {
         return false;
     }
-    table::status_of(h, t) == 1
+    table::is_marked(h, t)
 }
 
 // Whether operation i is a write of x.
@@ -132,7 +132,7 @@ fn own_kind(h: &[u64], i: usize, x: u64, v: u64, w: usize) -> u8
 // own: .. its write is in another, committed transaction, and t wrote x before the read." "Intermediate: that write is in another committed transaction,
 // which later wrote x again."
 fn other_kind(h: &[u64], i: usize, x: u64, v: u64, w: usize, u: usize) -> u8
-    requires { ⌜ HasOp (now h) i × HasOp (now h) w × (v ≡ 0 → ⊥) × HasTx (now h) u × (u ≡ op (historyOf (now h)) i .tx → ⊥) ⌝ }
+    requires { ⌜ Settled (now h) × HasOp (now h) i × HasOp (now h) w × (v ≡ 0 → ⊥) × HasTx (now h) u × (u ≡ op (historyOf (now h)) i .tx → ⊥) ⌝ }
     ensures { λ r. ⌜ r ≡ kindBy (historyOf (now (h .entry))) i (op (historyOf (now (h .entry))) i .tx) x v w u ⌝ }
 {
     if !is_committed(h, u) {
@@ -149,7 +149,7 @@ fn other_kind(h: &[u64], i: usize, x: u64, v: u64, w: usize, u: usize) -> u8
 
 // The kind of read i, whose value write number w wrote; 0 where it is clean.
 fn kind_of(h: &[u64], i: usize, w: usize) -> u8
-    requires { ⌜ HasOp (now h) i × (w ≡ originOf (historyOf (now h)) i) ⌝ }
+    requires { ⌜ Settled (now h) × HasOp (now h) i × (w ≡ originOf (historyOf (now h)) i) ⌝ }
     ensures { λ r. ⌜ r ≡ kindOf (historyOf (now (h .entry))) i ⌝ }
 {
     let x = table::key_of(h, i);
@@ -166,7 +166,7 @@ fn kind_of(h: &[u64], i: usize, w: usize) -> u8
 
 // What is to be known of operation i. Its value's write is searched for once.
 pub fn verdict_of(h: &[u64], i: usize) -> u8
-    requires { ⌜ HasOp (now h) i ⌝ }
+    requires { ⌜ Settled (now h) × HasOp (now h) i ⌝ }
     ensures { λ r. ⌜ r ≡ verdictOf (historyOf (now (h .entry))) i ⌝ }
 {
     if table::is_write(h, i) {
@@ -190,7 +190,7 @@ pub fn verdict_of(h: &[u64], i: usize) -> u8
 
 // A byte for each operation.
 pub fn classify(h: &[u64], k: &mut [u8])
-    requires { ⌜ Held (now h) × (length (now k) ≡ 1025) ⌝ }
+    requires { ⌜ Settled (now h) × (length (now k) ≡ 1025) ⌝ }
     ensures { λ r. ⌜ Classified (now (k .entry)) (now (k .exit)) (historyOf (now (h .entry))) ⌝ }
 {
     let n = table::ops(h);

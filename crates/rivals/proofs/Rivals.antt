@@ -15,6 +15,7 @@ use Rattle.theory.specs.Leads.{via}
 use Rattle.rules.specs.History.{History, op, opCount, size, committed}
 use Rattle.rules.specs.Reads.{sourceOf, isExternal}
 use Rattle.rules.specs.Levels.{basic, writesKey, sees, settles, isRival, forced}
+use Rattle.rules.proofs.Committed.{committed-below}
 use Rattle.table.specs.Table.{historyOf, lastOf, prevOf, Held, Below}
 use Rattle.table.proofs.Chain.{OnChain, sought-last, sought-prev}
 use Rattle.reads.proofs.Fitting.{source-less}
@@ -22,7 +23,7 @@ use Rattle.bits.specs.Bits.{bitOf, Holds, Under, nothing, either}
 use Rattle.bits.proofs.Tables.{holds-same}
 use Rattle.pairs.specs.Pairs.{before, cell, across}
 use Rattle.pairs.proofs.Marking.{cell-is, cell-has, Marking, mark-chain, mark-down}
-use Rattle.pairs.proofs.Pairs.{committed-in, basic-under, before-under, before-via}
+use Rattle.pairs.proofs.Pairs.{basic-under, before-under, before-via}
 use Rattle.rivals.specs.Rivals.{seenFrom, isAbove, canRival, fits, isHitOf, hitBit, hitBits, settlesIn, rivalBit, rivalBits, rivalsOf, rivals}
 use Rattle.rivals.proofs.Hits.{hit-tx, hit-external, hit-fits, fits-hit, last-hit-of}
 use Rattle.rivals.proofs.Seen.{sees-above}
@@ -201,7 +202,7 @@ module _ {h : List ℕ} (p : Held h) (level : ℕ) where
       let i = r .1 in
       some-of (λ t3. rivalsOf (historyOf h) level t3 x y) (size (historyOf h)) 1 (op (historyOf h) (i .at) .tx)
       (p .txs-in (i .at) (i .from) (omega (arith, i .to)) .0) (omega (arith, p .txs-in (i .at) (i .from) (omega (arith, i .to)) .1))
-      (some-of (λ t2. rivalBits (historyOf h) level (op (historyOf h) (i .at) .tx) t2 x y) (size (historyOf h)) 0 y (omega arith) (committed-in (historyOf h) y (r .0))
+      (some-of (λ t2. rivalBits (historyOf h) level (op (historyOf h) (i .at) .tx) t2 x y) (size (historyOf h)) 0 y (omega arith) (committed-below (historyOf h) y (r .0))
       (some-of (λ j. rivalBit (historyOf h) level (op (historyOf h) (i .at) .tx) y j x y) (opCount (historyOf h) + 1) 1 (i .at) (i .from) (i .to)
       (rival-bit (historyOf h) level y x (i .at) (r .0) (i .passes)))))
 
@@ -217,7 +218,7 @@ module _ {h : List ℕ} (p : Held h) (level : ℕ) where
     rival-under e =
         let r = rival-at (historyOf h) level a b e in
         let i = r .1 .at in
-        (committed-in (historyOf h) a (r .0), omega (arith, settled (historyOf h) level a b i (r .1 .passes) .source, source-less h i p))
+        (committed-below (historyOf h) a (r .0), omega (arith, settled (historyOf h) level a b i (r .1 .passes) .source, source-less h i p))
 
     pub forced-under : forced (historyOf h) level a b ≡ true → (a < size (historyOf h)) × (b < size (historyOf h))
     unfolding forced

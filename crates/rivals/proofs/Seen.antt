@@ -97,7 +97,7 @@ pub told-bit : {h k s : List ℕ} {level t2 t3 : ℕ} → Told h k s level → H
     → pairsFor (historyOf h) level t2 t3 ≡ bitOf s t3 t2
 unfolding before
 told-bit {t2 = t2} {t3 = t3} p o l =
-    let few = p .ready .held .few in
+    let few = p .ready .settled .held .few in
     sym (p .seen .is t3 t2 (omega (arith, o .to)) (omega arith))
 
 module _ (h : History) (t2 t3 : ℕ) where

@@ -14,7 +14,7 @@ returns c =
     let o = c .before in
     let s = o .before .before .before in
     λ level w.
-    accept-short (s .before .before .before .pre .0) (s .txs .ensures) _ (o .before .before .members .ensures) level w (o .order-all .ensures) _ (c .if1 .taken)
+    accept-short (s .before .before .before .pre .0 .held) (s .txs .ensures) _ (o .before .before .members .ensures) level w (o .order-all .ensures) _ (c .if1 .taken)
 
 slice-aggregate-copy : tie.Need-slice-aggregate-copy
 slice-aggregate-copy c = sym (appended-length (c .before .before .order-all .ensures))
@@ -30,7 +30,7 @@ returns-2 c =
     let o = d .before in
     let s = o .before .before .before in
     λ level w.
-    accept-fits (s .before .before .before .pre .0) (s .txs .ensures) _ (o .before .before .members .ensures) level w (o .order-all .ensures) _ (d .if1 .left)
+    accept-fits (s .before .before .before .pre .0 .held) (s .txs .ensures) _ (o .before .before .members .ensures) level w (o .order-all .ensures) _ (d .if1 .left)
     (c .before .before .copy .ensures)
 
 pub accept-spec : {M : Type 1} → statement M

@@ -28,13 +28,15 @@ returns-3 c =
 returns-4 : tie.Need-returns-4
 returns-4 c =
     let j = c .before .before .before .before .before .before in
-    let e = j .before .before .before .before .before in
+    let s = j .before .before .before .before .before .before in
+    let e = s .before .before in
     let r = e .before .before .before in
     let i = r .before .before in
     let ifx = i .before in
-    call-read (r .read-trace .ensures) (ifx .if1 .left) (i .if2 .left) _ _ _ _ _ _ (e .enum-told .given .1) (j .judge-history .ensures)
+    call-read (r .read-trace .ensures) (ifx .if1 .left) (i .if2 .left) _ _ _ (s .settle .ensures .1) _ _ _ (e .enum-told .given .1) (j .judge-history .ensures)
 
 pub judge-spec : {M : Type 1} → statement M
 judge-spec =
     tie.close
-    (tie.spec returns returns-2 (λ c. search needs) (λ c κs. search needs) (λ c. search needs) (λ c. search needs) (λ c. search needs) (λ c κs. search needs) returns-3 (λ c. search needs) (λ c. search needs) (λ c. search needs) returns-4)
+    (tie.spec returns returns-2 (λ c. search needs) (λ c κs. search needs) (λ c. search needs) (λ c. search needs) (λ c. search needs) (λ c κs. search needs)
+    (λ c. search needs) (λ c κs. search needs) returns-3 (λ c. search needs) (λ c. search needs) (λ c. search needs) returns-4)

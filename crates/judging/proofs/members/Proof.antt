@@ -20,7 +20,7 @@ loop-holds c = (omega arith, gather-start _ (c .none .ensures))
 
 enter-requires : tie.Need-enter-requires Inv-loop μ-loop
 enter-requires c κs =
-    let s = c .before .before .before .before .before in (s .pre, omega (arith, s .pre .few), c .before .loop .inv .1)
+    let s = c .before .before .before .before .before in (s .pre, omega (arith, s .pre .held .few), c .before .loop .inv .1)
 
 loop-again : tie.Need-loop-again Inv-loop μ-loop
 loop-again c = (omega arith, c .enter .ensures)
@@ -34,4 +34,4 @@ returns c =
 pub members-spec : {M : Type 1} → statement M
 members-spec =
     tie.close
-    (tie.spec Inv-loop μ-loop (λ c κs. search needs) (λ c κs. search needs) loop-holds enter-requires (λ c. omega (arith, c .before .before .before .before .before .before .pre .few)) (λ c. omega arith) loop-again returns)
+    (tie.spec Inv-loop μ-loop (λ c κs. search needs) (λ c κs. search needs) loop-holds enter-requires (λ c. omega (arith, c .before .before .before .before .before .before .pre .held .few)) (λ c. omega arith) loop-again returns)

@@ -30,20 +30,20 @@ loop-again c = (
 returns : tie.Need-returns Inv-loop μ-loop
 returns c =
     let s = c .before .loop .inv .1 in
-    let p = c .before .before .before .before .before .pre .held .most in
+    let p = c .before .before .before .before .before .pre .settled .held .most in
     (size-end _ _ _ s (omega (arith, c .before .before .ops .ensures)) ∙ ap length (sym (findings-listed _)), omega (arith, counting-most _ s, p))
 
 pub count-findings-spec : {M : Type 1} → statement M
 count-findings-spec =
     tie.close
-    (tie.spec Inv-loop μ-loop (λ c κs. c .before .before .pre .held) (λ c. (omega arith, size-start _ _ _))
+    (tie.spec Inv-loop μ-loop (λ c κs. c .before .before .pre .settled .held) (λ c. (omega arith, size-start _ _ _))
     (λ c. let p = c .before .before .before .before .before .before .pre in
-    omega (arith, p .judged .room, p .held .most, c .before .before .before .ops .ensures))
+    omega (arith, p .judged .room, p .settled .held .most, c .before .before .before .ops .ensures))
     (λ c κs. search needs) (λ c κs. search needs) (λ c. omega arith)
     (λ c. omega (
       arith,
       pick-most _ 1 (c .weight .ensures),
       counting-most _ (c .before .before .before .before .loop .inv .1),
-      c .before .before .before .before .before .before .before .before .pre .held .most,
+      c .before .before .before .before .before .before .before .before .pre .settled .held .most,
     ))
     (λ c. omega arith) (λ c. omega arith) loop-again returns)

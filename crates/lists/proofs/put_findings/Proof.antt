@@ -18,7 +18,7 @@ put-finding-requires : tie.Need-put-finding-requires Inv-loop μ-loop
 put-finding-requires c κs =
     let p = c .before .before .before .before .before .before .before .pre in (
       p .0,
-      record { held = p .0 .held; from = omega arith; to = omega (arith, c .before .before .before .ops .ensures) },
+      record { held = p .0 .settled .held; from = omega arith; to = omega (arith, c .before .before .before .ops .ensures) },
       fill-room _ _ _ _ _ (c .before .before .loop .inv .1) (findings-fit _ _ (p .1)) (omega (arith, c .before .before .before .ops .ensures)),
     )
 
@@ -35,11 +35,11 @@ returns c = rw (list-listed _) (fill-end _ _ _ _ _ (c .before .loop .inv .1) (om
 pub put-findings-spec : {M : Type 1} → statement M
 put-findings-spec =
     tie.close
-    (tie.spec Inv-loop μ-loop (λ c κs. c .before .before .before .pre .0 .held) (λ c. (omega arith, fill-start _ _ _ _ _ (omega arith)))
+    (tie.spec Inv-loop μ-loop (λ c κs. c .before .before .before .pre .0 .settled .held) (λ c. (omega arith, fill-start _ _ _ _ _ (omega arith)))
     put-finding-requires
     (λ c. omega (
       arith,
       c .before .before .before .before .before .before .ops .ensures,
-      c .before .before .before .before .before .before .before .before .before .before .pre .0 .held .most,
+      c .before .before .before .before .before .before .before .before .before .before .pre .0 .settled .held .most,
     ))
     (λ c. omega arith) loop-again (λ c. appended-length (c .before .loop .inv .1 .is)) returns)

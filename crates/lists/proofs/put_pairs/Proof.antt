@@ -34,7 +34,7 @@ returns c = fill-end _ _ _ _ _ (c .before .loop .inv) (omega (arith, c .before .
 pub put-pairs-spec : {M : Type 1} → statement M
 put-pairs-spec =
     tie.close
-    (tie.spec Inv-loop μ-loop (λ c κs. c .before .before .before .before .before .before .pre .0 .ready .held)
+    (tie.spec Inv-loop μ-loop (λ c κs. c .before .before .before .before .before .before .pre .0 .ready .settled .held)
     (λ c. fill-start _ _ _ _ _ (omega arith)) put-row-requires
     (λ c. omega (
       arith,

@@ -44,7 +44,7 @@ put-row-spec =
     tie.close
     (tie.spec Inv-loop μ-loop
     (λ c κs. let p = c .before .before .before .before .before .before .pre in (p .0 .tables .leads-room, omega (arith, p .1, p .0 .tables .few)))
-    returns (λ c κs. c .before .before .before .before .before .before .before .before .pre .0 .ready .held)
+    returns (λ c κs. c .before .before .before .before .before .before .before .before .pre .0 .ready .settled .held)
     (λ c. fill-start _ _ _ _ _ (omega (arith, c .before .before .before .before .before .before .before .before .before .pre .2)))
     put-pair-requires
     (λ c. omega (

@@ -21,12 +21,12 @@ abbrev μ-loop : tie.MeasureT-loop
 returns : tie.Need-returns Inv-loop μ-loop
 returns c =
     let e = c .if1 .taken in
-    rw e (sym (read-zero (c .before .before .before .pre .0 .held) _))
+    rw e (sym (read-zero (c .before .before .before .pre .0 .settled .held) _))
 
 last-op-requires : tie.Need-last-op-requires Inv-loop μ-loop
 last-op-requires c κs =
     let p = c .before .before .before .pre in
-    record { held = p .0 .held; from = omega arith; to = p .2 }
+    record { held = p .0 .settled .held; from = omega arith; to = p .2 }
 
 loop-holds : tie.Need-loop-holds Inv-loop μ-loop
 loop-holds c = walk-start _ _ _ (reads-of _ _ _) (c .last-op .ensures)
@@ -34,7 +34,7 @@ loop-holds c = walk-start _ _ _ (reads-of _ _ _) (c .last-op .ensures)
 shared-slice-read-if2 : tie.Need-shared-slice-read-if2 Inv-loop μ-loop
 shared-slice-read-if2 c =
     let p = c .before .before .before .before .before .before .before .pre .0 in
-    byte-in p (chain-has (p .held) (c .before .before .loop .inv .on) (omega arith))
+    byte-in p (chain-has (p .settled .held) (c .before .before .loop .inv .on) (omega arith))
 
 returns-2 : tie.Need-returns-2 Inv-loop μ-loop
 unfolding isRead
@@ -46,7 +46,7 @@ returns-2 c =
 
 prev-op-requires : tie.Need-prev-op-requires Inv-loop μ-loop
 prev-op-requires c κs =
-    let p = c .before .before .before .before .before .before .before .before .pre .0 .held in
+    let p = c .before .before .before .before .before .before .before .before .pre .0 .settled .held in
     chain-has p (c .before .before .before .loop .inv .on) (omega arith)
 
 loop-again : tie.Need-loop-again Inv-loop μ-loop

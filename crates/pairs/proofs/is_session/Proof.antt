@@ -35,12 +35,12 @@ returns-4 c =
 session-of-requires : tie.Need-session-of-requires
 session-of-requires c κs =
     let p = c .before .before .before .before .before .before .before .pre in
-    committed-has p _ (omega arith) (granted (c .before .before .before .is-committed .ensures) (c .before .before .if3 .left))
+    committed-has (p .held) _ (omega arith) (granted (c .before .before .before .is-committed .ensures) (c .before .before .if3 .left))
 
 session-of-requires-2 : tie.Need-session-of-requires-2
 session-of-requires-2 c κs =
     let p = c .before .before .before .before .before .before .before .before .pre in
-    committed-has p _ (omega arith) (granted (c .before .before .is-committed2 .ensures) (c .before .if4 .left))
+    committed-has (p .held) _ (omega arith) (granted (c .before .before .is-committed2 .ensures) (c .before .if4 .left))
 
 returns-5 : tie.Need-returns-5
 unfolding isSession _and_

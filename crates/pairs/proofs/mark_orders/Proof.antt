@@ -23,7 +23,7 @@ loop-holds c = mark-start _ _ _ (c .before .before .before .pre .1)
 mark-order-row-requires : tie.Need-mark-order-row-requires Inv-loop μ-loop
 mark-order-row-requires c κs =
     let p = c .before .before .before .before .before .before .pre in
-    (p .0, c .before .before .loop .inv .room, omega (arith, c .before .before .before .txs .ensures, p .0 .few))
+    (p .0, c .before .before .loop .inv .room, omega (arith, c .before .before .before .txs .ensures, p .0 .held .few))
 
 loop-again : tie.Need-loop-again Inv-loop μ-loop
 loop-again c = mark-up _ _ (omega arith) (c .before .before .before .before .before .loop .inv) (c .before .before .mark-order-row .ensures)

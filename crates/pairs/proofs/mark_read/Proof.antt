@@ -10,7 +10,7 @@ use Rattle.pairs.proofs.mark_read.Tie as tie
 set-bit-requires : tie.Need-set-bit-requires
 set-bit-requires c κs =
     let p = c .before .before .before .before .before .before .before .pre in
-    (p .2, omega (arith, c .tx-of .ensures .below, p .0 .held .few), byte-row (p .0) (p .1) (byte-clean (p .0) (p .1) (c .before .before .if1 .taken)))
+    (p .2, omega (arith, c .tx-of .ensures .below, p .0 .settled .held .few), byte-row (p .0) (p .1) (byte-clean (p .0) (p .1) (c .before .before .if1 .taken)))
 
 returns : tie.Need-returns
 unfolding readBit

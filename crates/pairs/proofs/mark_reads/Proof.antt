@@ -23,7 +23,7 @@ loop-holds c = (omega arith, mark-start _ _ _ (c .before .before .before .before
 mark-read-requires : tie.Need-mark-read-requires Inv-loop μ-loop
 mark-read-requires c κs =
     let p = c .before .before .before .before .before .before .before .pre .0 in
-    (p, record { held = p .held; from = c .before .before .loop .inv .0; to = omega arith }, c .before .before .loop .inv .1 .room)
+    (p, record { held = p .settled .held; from = c .before .before .loop .inv .0; to = omega arith }, c .before .before .loop .inv .1 .room)
 
 loop-again : tie.Need-loop-again Inv-loop μ-loop
 loop-again c =

@@ -23,17 +23,18 @@ loop-holds c =
 
 verdict-of-requires : tie.Need-verdict-of-requires Inv-loop μ-loop
 verdict-of-requires c κs =
-    record { held = c .before .before .before .before .before .pre .0; from = c .before .loop .inv .0; to = omega arith }
+    let p = c .before .before .before .before .before .pre .0 in
+    (p, record { held = p .held; from = c .before .loop .inv .0; to = omega arith })
 
 slice-write-k : tie.Need-slice-write-k Inv-loop μ-loop
 slice-write-k c =
-    omega (arith, c .before .before .before .before .before .before .pre .1, c .before .before .before .before .before .before .pre .0 .most, c .before .before .loop .inv .1, appended-length (c .before .before .loop .inv .2 .is))
+    omega (arith, c .before .before .before .before .before .before .pre .1, c .before .before .before .before .before .before .pre .0 .held .most, c .before .before .loop .inv .1, appended-length (c .before .before .loop .inv .2 .is))
 
 loop-again : tie.Need-loop-again Inv-loop μ-loop
 unfolding verdictAt
 loop-again c =
     let room : c .before .before .loop .i < length (c .before .before .loop .k) =
-    omega (arith, c .before .before .before .before .before .before .pre .1, c .before .before .before .before .before .before .pre .0 .most, c .before .before .loop .inv .1, appended-length (c .before .before .loop .inv .2 .is)) in (
+    omega (arith, c .before .before .before .before .before .before .pre .1, c .before .before .before .before .before .before .pre .0 .held .most, c .before .before .loop .inv .1, appended-length (c .before .before .loop .inv .2 .is)) in (
       omega arith,
       omega arith,
       fill-step _ _ _ _ _ (c .before .before .loop .inv .2) (omega arith) (rw (← c .verdict-of .ensures) (one _ _ _ room)),
@@ -55,7 +56,7 @@ classify-spec =
     (tie.spec
     Inv-loop
     μ-loop
-    (λ c κs. c .before .before .pre .0)
+    (λ c κs. c .before .before .pre .0 .held)
     loop-holds
     verdict-of-requires
     slice-write-k

@@ -10,20 +10,20 @@ use Rattle.reads.proofs.other_kind.Tie as tie
 returns : tie.Need-returns
 unfolding pick
 returns c =
-    kind-other _ _ _ _ _ _ (c .before .before .before .pre .2) (c .before .before .before .pre .1 .from) _ (c .before .before .before .pre .4) false _ _
+    kind-other _ _ _ _ _ _ (c .before .before .before .pre .3) (c .before .before .before .pre .2 .from) _ (c .before .before .before .pre .5) false _ _
     (sym (c .before .is-committed .ensures) ∙ not-true (c .before .is-committed .result) (c .if1 .taken)) refl refl
 
 returns-2 : tie.Need-returns-2
 unfolding pick
 returns-2 c =
-    kind-other _ _ _ _ _ _ (c .before .before .before .before .before .pre .2) (c .before .before .before .before .before .pre .1 .from) _ (c .before .before .before .before .before .pre .4) true true _
+    kind-other _ _ _ _ _ _ (c .before .before .before .before .before .pre .3) (c .before .before .before .before .before .pre .2 .from) _ (c .before .before .before .before .before .pre .5) true true _
     (sym (c .before .before .before .is-committed .ensures) ∙ not-false (c .before .before .before .is-committed .result) (c .before .before .if1 .left))
     (sym (c .before .wrote-before .ensures) ∙ c .if2 .taken) refl
 
 returns-3 : tie.Need-returns-3
 unfolding pick
 returns-3 c =
-    kind-other _ _ _ _ _ _ (c .before .before .before .before .before .before .before .pre .2) (c .before .before .before .before .before .before .before .pre .1 .from) _ (c .before .before .before .before .before .before .before .pre .4) true false true
+    kind-other _ _ _ _ _ _ (c .before .before .before .before .before .before .before .pre .3) (c .before .before .before .before .before .before .before .pre .2 .from) _ (c .before .before .before .before .before .before .before .pre .5) true false true
     (sym (c .before .before .before .before .before .is-committed .ensures) ∙ not-false (c .before .before .before .before .before .is-committed .result) (c .before .before .before .before .if1 .left))
     (sym (c .before .before .before .wrote-before .ensures) ∙ c .before .before .if2 .left)
     (sym (c .before .wrote-after .ensures) ∙ c .if3 .taken)
@@ -31,7 +31,7 @@ returns-3 c =
 returns-4 : tie.Need-returns-4
 unfolding pick
 returns-4 c =
-    kind-other _ _ _ _ _ _ (c .before .before .before .before .before .before .before .pre .2) (c .before .before .before .before .before .before .before .pre .1 .from) _ (c .before .before .before .before .before .before .before .pre .4) true false false
+    kind-other _ _ _ _ _ _ (c .before .before .before .before .before .before .before .pre .3) (c .before .before .before .before .before .before .before .pre .2 .from) _ (c .before .before .before .before .before .before .before .pre .5) true false false
     (sym (c .before .before .before .before .before .is-committed .ensures) ∙ not-false (c .before .before .before .before .before .is-committed .result) (c .before .before .before .before .if1 .left))
     (sym (c .before .before .before .wrote-before .ensures) ∙ c .before .before .if2 .left)
     (sym (c .before .wrote-after .ensures) ∙ c .if3 .left)

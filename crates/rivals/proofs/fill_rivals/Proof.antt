@@ -5,7 +5,7 @@ use Rattle.rivals.proofs.fill_rivals.Tie as tie
 
 returns : tie.Need-returns
 returns c =
-    let p = c .before .before .before .before .before .before .before .before .before .before .before .before .pre .0 .ready .held in
+    let p = c .before .before .before .before .before .before .before .before .before .before .before .before .pre .0 .ready .settled .held in
     rivals-filled p _ (c .before .before .before .before .before .before .clear .ensures) (c .before .before .mark-rivals .ensures)
 
 pub fill-rivals-spec : {M : Type 1} → statement M

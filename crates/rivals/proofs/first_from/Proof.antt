@@ -24,11 +24,11 @@ loop-holds c = firsts-start _ _ _ (reads-of _ _ _) (c .before .ops .ensures) (c 
 earlier-requires : tie.Need-earlier-requires Inv-loop μ-loop
 earlier-requires c κs =
     let p = c .before .before .before .before .before .before .pre in
-    (byte-in (p .0) (chain-has (p .0 .held) (c .before .loop .inv .on) (c .loop-test .taken)), omega (arith, p .2, p .0 .held .few))
+    (byte-in (p .0) (chain-has (p .0 .settled .held) (c .before .loop .inv .on) (c .loop-test .taken)), omega (arith, p .2, p .0 .settled .held .few))
 
 prev-op-requires : tie.Need-prev-op-requires Inv-loop μ-loop
 prev-op-requires c κs =
-    chain-has (c .before .before .before .before .before .before .before .pre .0 .held) (c .before .before .loop .inv .on) (c .before .loop-test .taken)
+    chain-has (c .before .before .before .before .before .before .before .pre .0 .settled .held) (c .before .before .loop .inv .on) (c .before .loop-test .taken)
 
 loop-again : tie.Need-loop-again Inv-loop μ-loop
 loop-again c =

@@ -30,25 +30,25 @@ loop-holds c =
 shared-slice-read-set-bit : tie.Need-shared-slice-read-set-bit Inv-loop μ-loop
 shared-slice-read-set-bit c =
     let p = c .before .before .before .before .before .before .before .before .before .before .pre .0 in
-    byte-in p (chain-has (p .held) (marks-on (c .before .before .before .loop .inv)) (c .before .before .loop-test .taken))
+    byte-in p (chain-has (p .settled .held) (marks-on (c .before .before .before .loop .inv)) (c .before .before .loop-test .taken))
 
 sub-set-bit : tie.Need-sub-set-bit Inv-loop μ-loop
 sub-set-bit c =
     let p = c .before .before .before .before .before .before .before .before .before .before .pre .0 in
     let m = c .before .before .before .loop .inv in
     let l = c .before .before .loop-test .taken in
-    omega (arith, byte-source p (chain-has (p .held) (marks-on m) l) (marks-external m l))
+    omega (arith, byte-source p (chain-has (p .settled .held) (marks-on m) l) (marks-external m l))
 
 set-bit-requires : tie.Need-set-bit-requires Inv-loop μ-loop
 set-bit-requires c κs =
     let p = c .before .before .before .before .before .before .before .before .before .before .pre in
     let m = c .before .before .before .loop .inv in
     let l = c .before .before .loop-test .taken in
-    (m .rest .room, byte-row (p .0) (chain-has (p .0 .held) (marks-on m) l) (marks-external m l), omega (arith, p .3, p .0 .held .few))
+    (m .rest .room, byte-row (p .0) (chain-has (p .0 .settled .held) (marks-on m) l) (marks-external m l), omega (arith, p .3, p .0 .settled .held .few))
 
 prev-op-requires : tie.Need-prev-op-requires Inv-loop μ-loop
 prev-op-requires c κs =
-    let p = c .before .before .before .before .before .before .before .before .before .before .before .before .before .before .pre .0 .held in
+    let p = c .before .before .before .before .before .before .before .before .before .before .before .before .before .before .pre .0 .settled .held in
     chain-has p (marks-on (c .before .before .before .before .before .before .before .loop .inv)) (c .before .before .before .before .before .before .loop-test .taken)
 
 next-hit-requires-2 : tie.Need-next-hit-requires-2 Inv-loop μ-loop
@@ -64,7 +64,7 @@ loop-again c =
     let p = c .before .before .before .before .before .before .before .before .before .before .before .before .before .before .before .before .pre .0 in
     let m = c .before .before .before .before .before .before .before .before .before .loop .inv in
     let l = c .before .before .before .before .before .before .before .before .loop-test .taken in
-    let e = byte-source p (chain-has (p .held) (marks-on m) l) (marks-external m l) in
+    let e = byte-source p (chain-has (p .settled .held) (marks-on m) l) (marks-external m l) in
     let b = c .before .before .before .before .before .set-bit .ensures in
     marks-next _ _ _ _ m l (cell-on _ _ _ _ _ (marks-fits m l) (omega (arith, e)) refl b) (c .before .prev-op .ensures) (c .next-hit2 .ensures)
 

@@ -24,7 +24,7 @@ mark-rivals-of-requires : tie.Need-mark-rivals-of-requires Inv-loop μ-loop
 mark-rivals-of-requires c κs =
     let p = c .before .before .before .before .before .before .before .before .pre .0 in
     let l = c .before .before .loop .inv in
-    (p, l .1 .room, record { held = p .ready .held; from = l .0; to = omega (arith, c .before .before .before .txs .ensures) })
+    (p, l .1 .room, record { held = p .ready .settled .held; from = l .0; to = omega (arith, c .before .before .before .txs .ensures) })
 
 loop-again : tie.Need-loop-again Inv-loop μ-loop
 loop-again c =

@@ -24,7 +24,7 @@ reads-holds c = (refl, hunt-start _ _ _ _ _ (c .before .before .before .pre .2))
 writes-to-try-requires : tie.Need-writes-to-try-requires Inv-writes μ-writes Inv-reads μ-reads
 writes-to-try-requires c κs =
     let p = c .before .before .before .before .before .pre in
-    (p .0, p .1, chain-has (p .0 .held) (c .before .reads .inv .1 .on) (omega arith), p .3)
+    (p .0, p .1, chain-has (p .0 .settled .held) (c .before .reads .inv .1 .on) (omega arith), p .3)
 
 writes-holds : tie.Need-writes-holds Inv-writes μ-writes Inv-reads μ-reads
 writes-holds c =
@@ -33,14 +33,14 @@ writes-holds c =
 
 writes-same-key-requires : tie.Need-writes-same-key-requires Inv-writes μ-writes Inv-reads μ-reads
 writes-same-key-requires c κs =
-    let p = c .before .before .before .before .before .before .before .before .pre .0 .held in
+    let p = c .before .before .before .before .before .before .before .before .pre .0 .settled .held in
     let t = c .before .writes .inv .1 in
     let l = c .writes-test .taken in
     (record { held = p; from = l; to = t .to }, chain-has p (c .before .before .before .before .reads .inv .1 .on) (omega arith), t .stands l)
 
 prev-op-requires : tie.Need-prev-op-requires Inv-writes μ-writes Inv-reads μ-reads
 prev-op-requires c κs =
-    let p = c .before .before .before .before .before .before .before .before .before .before .pre .0 .held in
+    let p = c .before .before .before .before .before .before .before .before .before .before .pre .0 .settled .held in
     record { held = p; from = c .before .before .writes-test .taken; to = c .before .before .before .writes .inv .1 .to }
 
 writes-again : tie.Need-writes-again Inv-writes μ-writes Inv-reads μ-reads
@@ -51,7 +51,7 @@ writes-again c =
 
 prev-op-requires-2 : tie.Need-prev-op-requires-2 Inv-writes μ-writes Inv-reads μ-reads
 prev-op-requires-2 c κs =
-    chain-has (c .before .before .before .before .before .before .before .before .pre .0 .held) (c .before .before .before .before .reads .inv .1 .on) (omega arith)
+    chain-has (c .before .before .before .before .before .before .before .before .pre .0 .settled .held) (c .before .before .before .before .reads .inv .1 .on) (omega arith)
 
 reads-again : tie.Need-reads-again Inv-writes μ-writes Inv-reads μ-reads
 reads-again c =

@@ -9,7 +9,7 @@ use Rattle.rivals.proofs.seen_from.Tie as tie
 bit-requires : tie.Need-bit-requires
 bit-requires c κs =
     let p = c .before .before .before .pre in
-    let few = p .0 .ready .held .few in
+    let few = p .0 .ready .settled .held .few in
     (p .0 .seen .room, omega (arith, p .1 .to, few), omega (arith, p .2, few))
 
 returns : tie.Need-returns

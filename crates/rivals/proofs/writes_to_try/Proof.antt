@@ -19,7 +19,7 @@ returns-2 c =
 bit-requires : tie.Need-bit-requires
 bit-requires c κs =
     let p = c .before .before .before .before .before .before .pre in
-    let few = p .0 .held .few in
+    let few = p .0 .settled .held .few in
     let row = byte-row (p .0) (p .2) (byte-clean (p .0) (p .2) (c .before .if1 .left)) in
     (p .1, omega (arith, p .3), omega (arith, p .3))
 

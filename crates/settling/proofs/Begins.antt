@@ -18,6 +18,7 @@ use Rattle.settling.proofs.Queues.{queue-none, queue-few, queue-same, q
 -- ── one transaction more ──
 
 module _ (x : History) (t : ℕ) where
+  -- t is not below itself; with it, those below t + 1 are those below t, and it where it said so
   not-yet : saidBelow x t t ≡ false
   unfolding saidBelow
   not-yet = and-no-left _ _ (le-ltb t t (omega arith))
@@ -57,6 +58,7 @@ module _ {h q : List ℕ} {n t : ℕ} (p : HasTx h t) (s : Begun h q n t) where
   pub begun-room : n < 128
   begun-room = omega (arith, queue-few (s .queue), p .held .few)
 
+  -- t has its mark, and the queue is told
   begin-next : {g o : List ℕ} {r : ℕ} {b : Bool} → MarkedAs h g t b → b ≡ saysCommitted (historyOf h) t
       → Queue (historyOf h) (saidBelow (historyOf h) (t + 1)) o r → Begins h g o r (t + 1)
   begin-next m e k =
@@ -73,6 +75,7 @@ module _ {h q : List ℕ} {n t : ℕ} (p : HasTx h t) (s : Begun h q n t) where
             };
       }
 
+  -- its status is c
   module _ {c : ℕ} (i : c ≡ tx (historyOf h) t .status) where
     says : c ≡ 1 → saysCommitted (historyOf h) t ≡ true
     unfolding saysCommitted
@@ -89,7 +92,8 @@ module _ {h q : List ℕ} {n t : ℕ} (p : HasTx h t) (s : Begun h q n t) where
       (rw (a .queue, a .end)
       (queue-more (s .queue) _ t (p .from) (p .to) begun-room (not-yet _ t) (said-here _ t e) (said-other _ t)))
 
-  pub begin-not : {g : List ℕ} {c : ℕ} → c ≡ tx (historyOf h) t .status → (c ≡ 1 → ⊥) → Becomes g (markTx h t 0) (historyOf h) → Begins h g q n (t + 1)
+  pub begin-not : {g : List ℕ} {c : ℕ} → c ≡ tx (historyOf h) t .status → (c ≡ 1 → ⊥) → Becomes g (markTx h t 0) (historyOf h)
+      → Begins h g q n (t + 1)
   begin-not i d b =
       let e = says-not i d in
       begin-next (marked-as 0 (omega arith) p b) (sym e) (queue-same (s .queue) _ (λ k _ _. said-not _ t e k (ℕ-discrete k t)))

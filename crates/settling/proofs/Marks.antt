@@ -36,7 +36,7 @@ module _ (x : History) (a u i : ℕ) (t : takesFrom x a u i ≡ true) where
   unfolding takesFrom
   takes-of = eqb-true (op x (writeOf x (op x i .key) (op x i .value)) .tx) u (and-right _ _ t)
 
--- the first transaction is not unanswered
+-- transaction 0 is not unanswered, and is where a write that is not there belongs
 zeroth-answered : (x : History) → isUnanswered x 0 ≡ false
 unfolding isUnanswered tx
 zeroth-answered x = refl
@@ -93,7 +93,8 @@ module _ {h : List ℕ} {i : ℕ} where
           }
 
 -- .. the transaction of a write is there
-pub writer-there : {h : List ℕ} {w u n : ℕ} → Held h → (w ≡ 0 → ⊥) → w < opCount (historyOf h) + 1 → Below u (op (historyOf h) w .tx) n → HasTx h u
+pub writer-there : {h : List ℕ} {w u n : ℕ} → Held h → (w ≡ 0 → ⊥) → w < opCount (historyOf h) + 1 → Below u (op (historyOf h) w .tx) n
+    → HasTx h u
 writer-there {w = w} p z l b =
     let t = p .txs-in w (⊎-elim (λ m. m) (λ m. absurd (z (omega arith))) (split 0 w)) (omega arith) in
     record { held = p; from = omega (arith, b .is, t .0); to = omega (arith, b .is, t .1) }

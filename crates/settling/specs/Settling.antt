@@ -24,7 +24,7 @@ pub record Stands (q : List ℕ) (n t : ℕ) : Type 0 where
   pub to : at < n
   pub is : getD q at 0 ≡ t
 
--- the first n entries of q are the transactions of x that pass s, and no more than there are of these
+-- the first n entries of q are the transactions of x that pass s, each once: they are as many
 pub record Queue (x : History) (s : ℕ → Bool) (q : List ℕ) (n : ℕ) : Type 0 where
   pub room : length q ≡ 128
   pub many : n ≡ count 1 (size x) s
@@ -76,14 +76,14 @@ abbrev pub TakenUp : List ℕ → ℕ → Type 0
 TakenUp h i =
     (u : ℕ) → takesFrom (historyOf h) (op (historyOf h) i .tx) u i ≡ true → isUnanswered (historyOf h) u ≡ true → marked h u ≡ true
 
--- operation i, read by one that counts, makes r count, which does not yet
+-- operation i takes a value of r, which is unanswered and not marked yet
 pub record Gains (h : List ℕ) (i r : ℕ) : Type 0 where
   pub there : HasTx h r
   pub unanswered : isUnanswered (historyOf h) r ≡ true
   pub takes : takesFrom (historyOf h) (op (historyOf h) i .tx) r i ≡ true
   pub new : marked h r ≡ false
 
--- .. or nobody, where r is 0
+-- .. or r is 0, and nobody is gained by operation i
 pub record Gain (h : List ℕ) (i r : ℕ) : Type 0 where
   pub none : r ≡ 0 → TakenUp h i
   pub some : 0 < r → Gains h i r

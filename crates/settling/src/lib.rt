@@ -26,8 +26,7 @@ fn admit(h: &mut [u64], q: &mut [u8; 128], n: usize, t: usize) -> usize
 
 // ── those that said so ──
 
-// Transaction t counts where its close says that it committed. Elsewhere it gets no mark, or loses it: of
-// a table that was read nothing is known about marks.
+// Transaction t counts where its close says that it committed. Elsewhere it loses the mark that it may have: reading promises nothing about marks.
 fn admit_if_said(h: &mut [u64], q: &mut [u8; 128], n: usize, t: usize) -> usize
     requires { ⌜ HasTx (now h) t × Begun (now h) (now q) n t ⌝ }
     ensures { λ r. ⌜ Begins (now (h .entry)) (now (h .exit)) (now (q .exit)) r (t + 1) ⌝ }
@@ -39,7 +38,7 @@ fn admit_if_said(h: &mut [u64], q: &mut [u8; 128], n: usize, t: usize) -> usize
     n
 }
 
-// .. each of them; the queue has none yet.
+// .. each transaction of the table. Answers how many the queue has.
 fn admit_said(h: &mut [u64], q: &mut [u8; 128]) -> usize
     requires { ⌜ Held (now h) × (length (now q) ≡ 128) ⌝ }
     ensures { λ r. ⌜ Marks (now (h .exit)) (now (q .exit)) r × (historyOf (now (h .exit)) ≡ historyOf (now (h .entry))) ⌝ }
@@ -57,7 +56,7 @@ fn admit_said(h: &mut [u64], q: &mut [u8; 128]) -> usize
 // ── those whose values they read ──
 
 // The transaction that comes to count by operation i of one that counts: the unanswered one whose value i reads; 0 where there is none or it counts
-// already. So none comes to count by itself: "other than itself" needs no test here.
+// already. A transaction that counts gains nothing by reading its own values, so "other than itself" needs no test.
 fn gained_by(h: &[u64], i: usize) -> usize
     requires { ⌜ HasOp (now h) i ⌝ }
     ensures { λ r. ⌜ Gain (now (h .entry)) i r ⌝ }
@@ -79,7 +78,7 @@ fn gained_by(h: &[u64], i: usize) -> usize
     u
 }
 
-// The one that comes to count by operation i, where there is one, is marked and looked at later.
+// The one that comes to count by operation i, where there is one, is let in.
 fn admit_writer(h: &mut [u64], q: &mut [u8; 128], n: usize, i: usize) -> usize
     requires { ⌜ HasOp (now h) i × Marks (now h) (now q) n × (marked (now h) (op (historyOf (now h)) i .tx) ≡ true) ⌝ }
     ensures { λ r. ⌜ Further (now (h .entry)) (now (q .entry)) n (now (h .exit)) (now (q .exit)) r × TakenUp (now (h .exit)) i ⌝ }
@@ -91,7 +90,7 @@ fn admit_writer(h: &mut [u64], q: &mut [u8; 128], n: usize, i: usize) -> usize
     admit(h, q, n, u)
 }
 
-// Every operation of t, which counts, is looked at, from its last down.
+// .. by any operation of t, which counts: only its own are looked at, from its last down.
 fn admit_writers(h: &mut [u64], q: &mut [u8; 128], n: usize, t: usize) -> usize
     requires { ⌜ HasTx (now h) t × Marks (now h) (now q) n × (marked (now h) t ≡ true) ⌝ }
     ensures { λ r. ⌜ Further (now (h .entry)) (now (q .entry)) n (now (h .exit)) (now (q .exit)) r × LookedAt (now (h .exit)) t ⌝ }
@@ -105,7 +104,7 @@ fn admit_writers(h: &mut [u64], q: &mut [u8; 128], n: usize, t: usize) -> usize
     m
 }
 
-// On from each of the queue's n, which said so: the queue grows while it is gone through, so that those who come to count are looked at too.
+// .. by any that counts: the queue of n grows while it is gone through, so that those who come to count are looked at in turn.
 fn admit_on(h: &mut [u64], q: &mut [u8; 128], n: usize)
     requires { ⌜ Marks (now h) (now q) n ⌝ }
     ensures { λ r. ⌜ Settles (now (h .entry)) (now (h .exit)) ⌝ }

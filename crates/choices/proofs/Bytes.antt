@@ -19,26 +19,26 @@ use Rattle.demand1.proofs.Histories.{inside-current}
 use Rattle.demand1.proofs.Events.{Framed, passes-framed, exactly}
 use Rattle.demand1.proofs.Steps.{inside, next-is, next-after, next-not-end, not-end, is-end, after-within}
 use Rattle.demand1.proofs.Refusals.{refusal-none}
-use Rattle.choices.specs.Choices.{outcomeOf, chosen, chosenReading, isUnansweredClose, answeredAt, answeredFrom, answered, Unanswered, Answered}
+use Rattle.choices.specs.Choices.{outcomeOf, chosen, chosenReading, isUnansweredClose, chosenAt, chosenFrom, chosenBytes, Unanswered, Answered}
 use Rattle.choices.proofs.Agree.{same-byte}
 use Rattle.choices.proofs.Turns.{none-refuses, by-turn}
 use Rattle.choices.proofs.Replaced.{unanswered-close, close-unanswered, close-length, keeping, at-status, at-other, from-refused, from-end, from-on, from-length}
 use Rattle.choices.proofs.Walks.{walk-by}
 
 module _ (f : ℕ → Bool) (s : List ℕ) where
-  answered-length : length (answered f s) ≡ length s
-  unfolding answered
+  answered-length : length (chosenBytes f s) ≡ length s
+  unfolding chosenBytes
   answered-length = from-length f s (length s + 1) begin
 
   -- ── it is read into the chosen history ──
 
-  walk-answered : walk (length s + 1) (answered f s) begin ≡ chosenReading f (walk (length s + 1) s begin)
-  unfolding answered chosen numbered
-  walk-answered = walk-by f s (length s + 1) begin (answered f s) (record { long = answered-length; same = λ i l. refl })
+  walk-answered : walk (length s + 1) (chosenBytes f s) begin ≡ chosenReading f (walk (length s + 1) s begin)
+  unfolding chosenBytes chosen numbered
+  walk-answered = walk-by f s (length s + 1) begin (chosenBytes f s) (record { long = answered-length; same = λ i l. refl })
 
-  pub reading-answered : reading (answered f s) ≡ chosenReading f (reading s)
+  pub reading-chosen : reading (chosenBytes f s) ≡ chosenReading f (reading s)
   unfolding reading chosenReading
-  reading-answered =
+  reading-chosen =
       rw (answered-length, walk-answered)
       (sym (pick-of (chosenReading f) (ltb 32768 (length s)) (refused 2 32768) (walk (length s + 1) s begin)))
 
@@ -46,19 +46,19 @@ module _ (f : ℕ → Bool) (s : List ℕ) where
 
   -- a record that passes and is not the end
   from-past : (k : ℕ) (st : State) → Passes s st → (kind s (st .at) ≡ 5 → ⊥)
-      → answeredFrom (suc k) f s st ≡ answeredAt f s st (answeredFrom k f s (after s st))
+      → chosenFrom (suc k) f s st ≡ chosenAt f s st (chosenFrom k f s (after s st))
   from-past k st p d = from-on f s k st (le-ltb 0 (refusalNo s st) (omega (arith, refusal-none s st .1 p))) (not-end s st p d)
 
-  -- a byte of the answered trace is what it is from a state on that reading comes to, with fuel for what is left
+  -- a byte of the trace with the chosen outcomes is what it is from a state on that reading comes to, with fuel for what is left
   byte-from : {st : State} → Reaches s st → (i v : ℕ) → st .at + 8 ≤ i
-      → ((k : ℕ) → length s < st .at + suc k → getD (answeredFrom (suc k) f s st) i 0 ≡ v) → getD (answered f s) i 0 ≡ v
-  unfolding answered
+      → ((k : ℕ) → length s < st .at + suc k → getD (chosenFrom (suc k) f s st) i 0 ≡ v) → getD (chosenBytes f s) i 0 ≡ v
+  unfolding chosenBytes
   byte-from start i v l h = rw (add-one (length s)) (h (length s) (omega arith))
   byte-from (on {st} {next} r p n) i v l h =
       byte-from r i v (omega (arith, moved, room .0))
       (λ k m.
       same-byte i (from-past k st p (next-not-end n))
-      ∙ at-other f s st (answeredFrom k f s (after s st)) i (λ q. omega (arith, moved, room .0)) ∙ later k m)
+      ∙ at-other f s st (chosenFrom k f s (after s st)) i (λ q. omega (arith, moved, room .0)) ∙ later k m)
     where
       room : (st .at + 8 ≤ after s st .at) × (after s st .at ≤ length s)
       room = after-within s st p
@@ -66,17 +66,17 @@ module _ (f : ℕ → Bool) (s : List ℕ) where
       moved : next .at ≡ after s st .at
       moved = ap (λ (x : State). x .at) (next-is s st p n)
 
-      later : (k : ℕ) → length s < st .at + suc k → getD (answeredFrom k f s (after s st)) i 0 ≡ v
+      later : (k : ℕ) → length s < st .at + suc k → getD (chosenFrom k f s (after s st)) i 0 ≡ v
       later zero m = absurd (omega (arith, room .0, room .1))
-      later (suc k) m = ap (λ (x : State). getD (answeredFrom (suc k) f s x) i 0) (sym (next-is s st p n)) ∙ h k (omega (arith, moved, room .0))
+      later (suc k) m = ap (λ (x : State). getD (chosenFrom (suc k) f s x) i 0) (sym (next-is s st p n)) ∙ h k (omega (arith, moved, room .0))
 
   -- the status of a close that is reached
-  replaced : (st : State) → Unanswered s st → getD (answered f s) (st .at + 8) 0 ≡ outcomeOf f (txCount (st .history))
+  replaced : (st : State) → Unanswered s st → getD (chosenBytes f s) (st .at + 8) 0 ≡ outcomeOf f (txCount (st .history))
   replaced st u =
       byte-from (u .reached) (st .at + 8) (outcomeOf f (txCount (st .history))) (omega arith)
       (λ k m.
       same-byte (st .at + 8) (from-past k st (u .passes) (λ q. omega (arith, u .closes)))
-      ∙ at-status f s st (answeredFrom k f s (after s st)) (close-unanswered framed (u .closes) (u .unanswered))
+      ∙ at-status f s st (chosenFrom k f s (after s st)) (close-unanswered framed (u .closes) (u .unanswered))
       (omega (arith, from-length f s k (after s st), close-length framed (u .closes), framed .sized .there))
       ∙ ap (outcomeOf f) (inside-current (st .history) (inside s st (u .passes) (close-outside (u .closes)))))
     where
@@ -85,7 +85,7 @@ module _ (f : ℕ → Bool) (s : List ℕ) where
 
   -- any other byte
   module _ (i : ℕ) (d : (st : State) → Unanswered s st → i ≡ st .at + 8 → ⊥) where
-    at-elsewhere : {st : State} → Reaches s st → Passes s st → (b : List ℕ) → getD (answeredAt f s st b) i 0 ≡ getD b i 0
+    at-elsewhere : {st : State} → Reaches s st → Passes s st → (b : List ℕ) → getD (chosenAt f s st b) i 0 ≡ getD b i 0
     at-elsewhere {st} r p b =
         ifso (isUnansweredClose (eventIn s st))
         (λ t.
@@ -93,18 +93,18 @@ module _ (f : ℕ → Bool) (s : List ℕ) where
         at-other f s st b i (d st (record { reached = r; passes = p; closes = c .0; unanswered = c .1 })))
         (λ t. same-byte i (keeping f s st b t))
 
-    from-elsewhere : (k : ℕ) {st : State} → Reaches s st → getD (answeredFrom k f s st) i 0 ≡ getD s i 0
-    unfolding answeredFrom
+    from-elsewhere : (k : ℕ) {st : State} → Reaches s st → getD (chosenFrom k f s st) i 0 ≡ getD s i 0
+    unfolding chosenFrom
     from-elsewhere zero r = refl
     from-elsewhere (suc k) {st} r =
         by-turn s st (λ t. same-byte i (from-refused f s k st t)) (λ t e. same-byte i (from-end f s k st e))
         (λ t e.
         let p = none-refuses s st t in
-        same-byte i (from-on f s k st t e) ∙ at-elsewhere r p (answeredFrom k f s (after s st))
+        same-byte i (from-on f s k st t e) ∙ at-elsewhere r p (chosenFrom k f s (after s st))
         ∙ from-elsewhere k (on r p (next-after s st p (λ q. clash (is-end s st p q) e))))
 
-  pub answered-is : Answered f s (answered f s)
-  unfolding answered
+  pub answered-is : Answered f s (chosenBytes f s)
+  unfolding chosenBytes
   answered-is =
       record {
         same-length = answered-length;
@@ -124,4 +124,4 @@ module _ (f : ℕ → Bool) (s : List ℕ) where
 
   -- whatever meets the condition is read so
   pub answered-reading : {b : List ℕ} → Answered f s b → reading b ≡ chosenReading f (reading s)
-  answered-reading {b} x = ap reading (answered-one b (answered f s) x answered-is) ∙ reading-answered
+  answered-reading {b} x = ap reading (answered-one b (chosenBytes f s) x answered-is) ∙ reading-chosen

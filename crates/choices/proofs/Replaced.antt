@@ -1,4 +1,4 @@
--- Which bytes the answered trace has.
+-- Which bytes the trace with the chosen outcomes has.
 use Prim.Native.Nat.{ℕ, zero, suc, _+_, _<_}
 use mathlib.Core.Path.{_≡_, refl, ap, _∙_}
 use mathlib.Core.Bool.{Bool, true, false, false≢true}
@@ -16,7 +16,7 @@ use Rattle.rules.specs.Reading.{State, eventIn, refusalNo, isEnd, after}
 use Rattle.demand1.specs.Rows.{len, kind, status, close-not-7}
 use Rattle.demand1.proofs.Events.{Framed, Shape, open-record, read-record, write-record, close-record, end-record, note-record, shape, close-event, exactly}
 use Rattle.demand1.proofs.Steps.{after-within}
-use Rattle.choices.specs.Choices.{outcomeOf, isUnansweredClose, answeredAt, answeredFrom}
+use Rattle.choices.specs.Choices.{outcomeOf, isUnansweredClose, chosenAt, chosenFrom}
 use Rattle.choices.proofs.Turns.{none-refuses, by-turn}
 
 -- ── a close with status 2 ──
@@ -44,24 +44,24 @@ module _ {s : List ℕ} {at : ℕ} (w : Framed s at) where
 -- ── the bytes with one status replaced ──
 
 module _ (f : ℕ → Bool) (s : List ℕ) (st : State) where
-  replacing : (b : List ℕ) → isUnansweredClose (eventIn s st) ≡ true → answeredAt f s st b ≡ set b (st .at + 8) (outcomeOf f (current (st .history)))
-  unfolding answeredAt
+  replacing : (b : List ℕ) → isUnansweredClose (eventIn s st) ≡ true → chosenAt f s st b ≡ set b (st .at + 8) (outcomeOf f (current (st .history)))
+  unfolding chosenAt
   replacing b t = pick-on (isUnansweredClose (eventIn s st)) (set b (st .at + 8) (outcomeOf f (current (st .history)))) b t
 
-  pub keeping : (b : List ℕ) → isUnansweredClose (eventIn s st) ≡ false → answeredAt f s st b ≡ b
-  unfolding answeredAt
+  pub keeping : (b : List ℕ) → isUnansweredClose (eventIn s st) ≡ false → chosenAt f s st b ≡ b
+  unfolding chosenAt
   keeping b t = pick-off (isUnansweredClose (eventIn s st)) (set b (st .at + 8) (outcomeOf f (current (st .history)))) b t
 
-  at-length : (b : List ℕ) → length (answeredAt f s st b) ≡ length b
+  at-length : (b : List ℕ) → length (chosenAt f s st b) ≡ length b
   at-length b =
       ifso (isUnansweredClose (eventIn s st)) (λ t. ap length (replacing b t) ∙ length-set b (st .at + 8) (outcomeOf f (current (st .history))))
       (λ t. ap length (keeping b t))
 
   pub at-status : (b : List ℕ) → isUnansweredClose (eventIn s st) ≡ true → st .at + 8 < length b
-      → getD (answeredAt f s st b) (st .at + 8) 0 ≡ outcomeOf f (current (st .history))
+      → getD (chosenAt f s st b) (st .at + 8) 0 ≡ outcomeOf f (current (st .history))
   at-status b t l = rw (replacing b t) (getD-set-same b (st .at + 8) (outcomeOf f (current (st .history))) 0 l)
 
-  pub at-other : (b : List ℕ) (i : ℕ) → (i ≡ st .at + 8 → ⊥) → getD (answeredAt f s st b) i 0 ≡ getD b i 0
+  pub at-other : (b : List ℕ) (i : ℕ) → (i ≡ st .at + 8 → ⊥) → getD (chosenAt f s st b) i 0 ≡ getD b i 0
   at-other b i d =
       ifso (isUnansweredClose (eventIn s st))
       (λ t. rw (replacing b t) (getD-set-other b (st .at + 8) i (outcomeOf f (current (st .history))) 0 d)) (λ t. rw (keeping b t))
@@ -71,40 +71,40 @@ module _ (f : ℕ → Bool) (s : List ℕ) (st : State) where
 module _ (f : ℕ → Bool) (s : List ℕ) where
   module _ (k : ℕ) (st : State) where
     abbrev rest : List ℕ
-    rest = answeredAt f s st (answeredFrom k f s (after s st))
+    rest = chosenAt f s st (chosenFrom k f s (after s st))
 
     -- at a record that is refused, and at the end, nothing is left to replace
-    stopped : ltb 0 (refusalNo s st) or isEnd (eventIn s st) ≡ true → answeredFrom (suc k) f s st ≡ s
-    unfolding answeredFrom
+    stopped : ltb 0 (refusalNo s st) or isEnd (eventIn s st) ≡ true → chosenFrom (suc k) f s st ≡ s
+    unfolding chosenFrom
     stopped t = pick-on (ltb 0 (refusalNo s st) or isEnd (eventIn s st)) s rest t
 
-    pub from-refused : ltb 0 (refusalNo s st) ≡ true → answeredFrom (suc k) f s st ≡ s
+    pub from-refused : ltb 0 (refusalNo s st) ≡ true → chosenFrom (suc k) f s st ≡ s
     from-refused t = stopped (or-left (ltb 0 (refusalNo s st)) (isEnd (eventIn s st)) t)
 
-    pub from-end : isEnd (eventIn s st) ≡ true → answeredFrom (suc k) f s st ≡ s
+    pub from-end : isEnd (eventIn s st) ≡ true → chosenFrom (suc k) f s st ≡ s
     from-end t = stopped (or-right (ltb 0 (refusalNo s st)) (isEnd (eventIn s st)) t)
 
     -- at any other, its own status and those behind it
-    pub from-on : ltb 0 (refusalNo s st) ≡ false → isEnd (eventIn s st) ≡ false → answeredFrom (suc k) f s st ≡ rest
-    unfolding answeredFrom
+    pub from-on : ltb 0 (refusalNo s st) ≡ false → isEnd (eventIn s st) ≡ false → chosenFrom (suc k) f s st ≡ rest
+    unfolding chosenFrom
     from-on t e =
         pick-off (ltb 0 (refusalNo s st) or isEnd (eventIn s st)) s rest
         (or-on (ltb 0 (refusalNo s st)) (isEnd (eventIn s st)) t ∙ e)
 
-  pub from-length : (k : ℕ) (st : State) → length (answeredFrom k f s st) ≡ length s
-  unfolding answeredFrom
+  pub from-length : (k : ℕ) (st : State) → length (chosenFrom k f s st) ≡ length s
+  unfolding chosenFrom
   from-length zero st = refl
   from-length (suc k) st =
       by-turn s st (λ t. ap length (from-refused k st t)) (λ t e. ap length (from-end k st e))
-      (λ t e. ap length (from-on k st t e) ∙ at-length f s st (answeredFrom k f s (after s st)) ∙ from-length k (after s st))
+      (λ t e. ap length (from-on k st t e) ∙ at-length f s st (chosenFrom k f s (after s st)) ∙ from-length k (after s st))
 
   -- no byte before the state's own status changes
-  pub from-before : (k : ℕ) (st : State) (i : ℕ) → i < st .at + 8 → getD (answeredFrom k f s st) i 0 ≡ getD s i 0
-  unfolding answeredFrom
+  pub from-before : (k : ℕ) (st : State) (i : ℕ) → i < st .at + 8 → getD (chosenFrom k f s st) i 0 ≡ getD s i 0
+  unfolding chosenFrom
   from-before zero st i l = refl
   from-before (suc k) st i l =
       by-turn s st (λ t. rw (from-refused k st t)) (λ t e. rw (from-end k st e))
       (λ t e.
       rw (from-on k st t e)
-      (at-other f s st (answeredFrom k f s (after s st)) i (λ q. omega arith)
+      (at-other f s st (chosenFrom k f s (after s st)) i (λ q. omega arith)
       ∙ from-before k (after s st) i (omega (arith, after-within s st (none-refuses s st t) .0))))

@@ -17,7 +17,7 @@ use Rattle.demand1.proofs.Readings.{reads-iff}
 use Rattle.demand2.specs.Accepted.{CommittedCount, Accepts, AcceptsTrace}
 use Rattle.demand2.proofs.Counts.{counts-iff}
 use Rattle.demand2.proofs.Accepted.{committed-number}
-use Rattle.choices.specs.Choices.{chosen, chosenReading, answered, Answered}
+use Rattle.choices.specs.Choices.{chosen, chosenReading, chosenBytes, Answered}
 use Rattle.choices.specs.Accepting.{TraceAccepted, TraceByChoice}
 use Rattle.choices.proofs.Chosen.{chosen-lawful}
 use Rattle.choices.proofs.Alike.{Within, clean-within, order-within}
@@ -70,7 +70,7 @@ module _ (s : List ℕ) (level room : ℕ) where
       let x = answered-is f s in
       record {
         choice = f;
-        bytes = answered f s;
+        bytes = chosenBytes f s;
         answered = x;
         accepted =
             record {

@@ -15,7 +15,7 @@ use Rattle.rules.specs.declared.Event.the-variants.{Close}
 use Rattle.demand1.specs.Rows.{status}
 use Rattle.demand1.proofs.Events.{Framed, passes-framed, close-event}
 use Rattle.demand1.proofs.Steps.{after-within}
-use Rattle.choices.specs.Choices.{outcomeOf, chosenReading, isUnansweredClose, answeredAt, answeredFrom}
+use Rattle.choices.specs.Choices.{outcomeOf, chosenReading, isUnansweredClose, chosenAt, chosenFrom}
 use Rattle.choices.proofs.Chosen.{status-chosen}
 use Rattle.choices.proofs.Agree.{same-byte, Agree, agree-kind, agree-framed, agree-event}
 use Rattle.choices.proofs.Turns.{walk-refused, walk-end, walk-on, none-refuses, by-turn, eventBy, event-kept, end-kept, chosenState, refusal-same, refusal-by, end-by, after-by, finished-by}
@@ -27,10 +27,10 @@ unfolding le
 one-byte s at = omega arith
 
 module _ (f : ℕ → Bool) (s : List ℕ) where
-  -- b goes on from a state as the answered trace does
+  -- b goes on from a state as the trace with the chosen outcomes does
   pub record GoesOn (k : ℕ) (st : State) (b : List ℕ) : Type 0 where
     pub long : length b ≡ length s
-    pub same : (i : ℕ) → st .at ≤ i → getD b i 0 ≡ getD (answeredFrom k f s st) i 0
+    pub same : (i : ℕ) → st .at ≤ i → getD b i 0 ≡ getD (chosenFrom k f s st) i 0
 
   module _ (k : ℕ) (st : State) (b : List ℕ) (g : GoesOn k st b) where
     -- the header of the record there is that of s
@@ -38,7 +38,7 @@ module _ (f : ℕ → Bool) (s : List ℕ) where
     header = record { long = g .long; same = λ i l h. g .same i l ∙ from-before f s k st i h }
 
     -- where nothing is left to replace, the whole record is
-    stays : answeredFrom k f s st ≡ s → eventAt b (st .at) ≡ eventAt s (st .at)
+    stays : chosenFrom k f s st ≡ s → eventAt b (st .at) ≡ eventAt s (st .at)
     stays q = agree-event header (record { long = g .long; same = λ i l h. g .same i l ∙ same-byte i q })
 
   -- ── a record that passes and is not the end ──
@@ -48,10 +48,10 @@ module _ (f : ℕ → Bool) (s : List ℕ) where
     framed = passes-framed (none-refuses s st t)
 
     abbrev behind : List ℕ
-    behind = answeredFrom k f s (after s st)
+    behind = chosenFrom k f s (after s st)
 
     -- its bytes, and those behind it
-    byte : (i : ℕ) → st .at ≤ i → getD b i 0 ≡ getD (answeredAt f s st behind) i 0
+    byte : (i : ℕ) → st .at ≤ i → getD b i 0 ≡ getD (chosenAt f s st behind) i 0
     byte i l = g .same i l ∙ same-byte i (from-on f s k st t e)
 
     -- a close with status 2 gets the chosen one
@@ -81,7 +81,7 @@ module _ (f : ℕ → Bool) (s : List ℕ) where
     event = ifso (isUnansweredClose (eventIn s st)) event-replaced event-stays
 
     -- behind it nothing of it is replaced: b goes on
-    beyond : (i : ℕ) → after s st .at ≤ i → getD (answeredAt f s st behind) i 0 ≡ getD behind i 0
+    beyond : (i : ℕ) → after s st .at ≤ i → getD (chosenAt f s st behind) i 0 ≡ getD behind i 0
     unfolding after
     beyond i l =
         ifso (isUnansweredClose (eventIn s st))

@@ -49,18 +49,18 @@ isUnansweredClose Note = false
 isUnansweredClose Other = false
 
 -- the bytes b with the status byte of the record that reading s has come to replaced, where it is a close with status 2
-unfoldable pub answeredAt : (ℕ → Bool) → List ℕ → State → List ℕ → List ℕ
-answeredAt f s st b = pick (isUnansweredClose (eventIn s st)) (set b (st .at + 8) (outcomeOf f (current (st .history)))) b
+unfoldable pub chosenAt : (ℕ → Bool) → List ℕ → State → List ℕ → List ℕ
+chosenAt f s st b = pick (isUnansweredClose (eventIn s st)) (set b (st .at + 8) (outcomeOf f (current (st .history)))) b
 
 -- s with each status 2 from a state on replaced, record by record: it goes as far as reading goes, as `walk` does
-unfoldable pub answeredFrom : ℕ → (ℕ → Bool) → List ℕ → State → List ℕ
-answeredFrom zero f s st = s
-answeredFrom (suc k) f s st =
-    pick (ltb 0 (refusalNo s st) or isEnd (eventIn s st)) s (answeredAt f s st (answeredFrom k f s (after s st)))
+unfoldable pub chosenFrom : ℕ → (ℕ → Bool) → List ℕ → State → List ℕ
+chosenFrom zero f s st = s
+chosenFrom (suc k) f s st =
+    pick (ltb 0 (refusalNo s st) or isEnd (eventIn s st)) s (chosenAt f s st (chosenFrom k f s (after s st)))
 
 -- the trace with each status 2 replaced by the chosen one
-unfoldable pub answered : (ℕ → Bool) → List ℕ → List ℕ
-answered f s = answeredFrom (length s + 1) f s begin
+unfoldable pub chosenBytes : (ℕ → Bool) → List ℕ → List ℕ
+chosenBytes f s = chosenFrom (length s + 1) f s begin
 
 -- ── the same as a condition, apart from what computes ──
 

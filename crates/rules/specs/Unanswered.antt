@@ -9,42 +9,42 @@ use Rattle.rules.specs.Traces.{whole, block, T, U, r, w}
 use Rattle.rules.specs.Edges.{as-they-should}
 
 -- a trace, and the numbers of those that count
-pub record Counted : Type 0 where
+pub record CountCase : Type 0 where
   pub bytes : List ℕ
   pub who : List ℕ
 
-abbrev counted : List ℕ → List ℕ → Counted
-counted b l = record { bytes = b; who = l }
+abbrev countCase : List ℕ → List ℕ → CountCase
+countCase b l = record { bytes = b; who = l }
 
-abbrev pub countedTable : List Counted
-countedTable =
+abbrev pub countTable : List CountCase
+countTable =
     -- nobody reads it; a committed one does, before it or behind it
-    counted (whole 1 (U 1 (w 1 5 ∷ []))) (0 ∷ [])
-    ∷ counted (whole 3 (T 1 (r 1 5 ∷ []) ++ U 2 (w 1 5 ∷ w 2 6 ∷ []) ++ U 3 (w 3 7 ∷ []))) (0 ∷ 1 ∷ 2 ∷ [])
-    ∷ counted (whole 2 (U 1 (w 1 5 ∷ []) ++ T 2 (r 1 5 ∷ []))) (0 ∷ 1 ∷ 2 ∷ [])
+    countCase (whole 1 (U 1 (w 1 5 ∷ []))) (0 ∷ [])
+    ∷ countCase (whole 3 (T 1 (r 1 5 ∷ []) ++ U 2 (w 1 5 ∷ w 2 6 ∷ []) ++ U 3 (w 3 7 ∷ []))) (0 ∷ 1 ∷ 2 ∷ [])
+    ∷ countCase (whole 2 (U 1 (w 1 5 ∷ []) ++ T 2 (r 1 5 ∷ []))) (0 ∷ 1 ∷ 2 ∷ [])
     -- its key with another value, its value of another key; the initial value
-    ∷ counted (whole 2 (U 1 (w 1 5 ∷ w 2 6 ∷ []) ++ T 2 (r 1 6 ∷ r 2 5 ∷ r 1 0 ∷ []))) (0 ∷ 2 ∷ [])
+    ∷ countCase (whole 2 (U 1 (w 1 5 ∷ w 2 6 ∷ []) ++ T 2 (r 1 6 ∷ r 2 5 ∷ r 1 0 ∷ []))) (0 ∷ 2 ∷ [])
     -- a committed one writes what another wrote to another key
-    ∷ counted (whole 2 (U 1 (w 1 5 ∷ []) ++ T 2 (w 2 5 ∷ []))) (0 ∷ 2 ∷ [])
+    ∷ countCase (whole 2 (U 1 (w 1 5 ∷ []) ++ T 2 (w 2 5 ∷ []))) (0 ∷ 2 ∷ [])
     -- "other than itself": it reads its own value, and nobody else does
-    ∷ counted (whole 1 (U 1 (w 1 5 ∷ r 1 5 ∷ []))) (0 ∷ [])
+    ∷ countCase (whole 1 (U 1 (w 1 5 ∷ r 1 5 ∷ []))) (0 ∷ [])
     -- an aborted one reads it
-    ∷ counted (whole 2 (U 1 (w 1 5 ∷ []) ++ block 2 0 (r 1 5 ∷ []))) (0 ∷ [])
+    ∷ countCase (whole 2 (U 1 (w 1 5 ∷ []) ++ block 2 0 (r 1 5 ∷ []))) (0 ∷ [])
     -- another unanswered one does, which nobody reads; which a committed one reads
-    ∷ counted (whole 2 (U 1 (w 1 5 ∷ []) ++ U 2 (r 1 5 ∷ []))) (0 ∷ [])
-    ∷ counted (whole 3 (U 1 (w 1 5 ∷ []) ++ U 2 (r 1 5 ∷ w 2 7 ∷ []) ++ T 3 (r 2 7 ∷ []))) (0 ∷ 1 ∷ 2 ∷ 3 ∷ [])
+    ∷ countCase (whole 2 (U 1 (w 1 5 ∷ []) ++ U 2 (r 1 5 ∷ []))) (0 ∷ [])
+    ∷ countCase (whole 3 (U 1 (w 1 5 ∷ []) ++ U 2 (r 1 5 ∷ w 2 7 ∷ []) ++ T 3 (r 2 7 ∷ []))) (0 ∷ 1 ∷ 2 ∷ 3 ∷ [])
     -- "the smallest such set is meant": two read each other, and nobody else does; a committed one does
-    ∷ counted (whole 2 (U 1 (r 2 7 ∷ w 1 5 ∷ []) ++ U 2 (r 1 5 ∷ w 2 7 ∷ []))) (0 ∷ [])
-    ∷ counted (whole 3 (U 1 (r 2 7 ∷ w 1 5 ∷ []) ++ U 2 (r 1 5 ∷ w 2 7 ∷ []) ++ T 3 (r 1 5 ∷ []))) (0 ∷ 1 ∷ 2 ∷ 3 ∷ [])
+    ∷ countCase (whole 2 (U 1 (r 2 7 ∷ w 1 5 ∷ []) ++ U 2 (r 1 5 ∷ w 2 7 ∷ []))) (0 ∷ [])
+    ∷ countCase (whole 3 (U 1 (r 2 7 ∷ w 1 5 ∷ []) ++ U 2 (r 1 5 ∷ w 2 7 ∷ []) ++ T 3 (r 1 5 ∷ []))) (0 ∷ 1 ∷ 2 ∷ 3 ∷ [])
     -- a chain whose readers come later; earlier; one that an aborted one breaks
-    ∷ counted (whole 5 (U 1 (w 1 1 ∷ []) ++ U 2 (r 1 1 ∷ w 2 2 ∷ []) ++ U 3 (r 2 2 ∷ w 3 3 ∷ []) ++ U 4 (r 3 3 ∷ w 4 4 ∷ []) ++ T 5 (r 4 4 ∷ [])))
+    ∷ countCase (whole 5 (U 1 (w 1 1 ∷ []) ++ U 2 (r 1 1 ∷ w 2 2 ∷ []) ++ U 3 (r 2 2 ∷ w 3 3 ∷ []) ++ U 4 (r 3 3 ∷ w 4 4 ∷ []) ++ T 5 (r 4 4 ∷ [])))
     (0 ∷ 1 ∷ 2 ∷ 3 ∷ 4 ∷ 5 ∷ [])
-    ∷ counted (whole 5 (T 1 (r 1 1 ∷ []) ++ U 2 (w 1 1 ∷ r 2 2 ∷ []) ++ U 3 (w 2 2 ∷ r 3 3 ∷ []) ++ U 4 (w 3 3 ∷ r 4 4 ∷ []) ++ U 5 (w 4 4 ∷ [])))
+    ∷ countCase (whole 5 (T 1 (r 1 1 ∷ []) ++ U 2 (w 1 1 ∷ r 2 2 ∷ []) ++ U 3 (w 2 2 ∷ r 3 3 ∷ []) ++ U 4 (w 3 3 ∷ r 4 4 ∷ []) ++ U 5 (w 4 4 ∷ [])))
     (0 ∷ 1 ∷ 2 ∷ 3 ∷ 4 ∷ 5 ∷ [])
-    ∷ counted (whole 4 (U 1 (w 1 1 ∷ []) ++ block 2 0 (r 1 1 ∷ w 2 2 ∷ []) ++ U 3 (r 2 2 ∷ w 3 3 ∷ []) ++ T 4 (r 3 3 ∷ []))) (0 ∷ 3 ∷ 4 ∷ [])
+    ∷ countCase (whole 4 (U 1 (w 1 1 ∷ []) ++ block 2 0 (r 1 1 ∷ w 2 2 ∷ []) ++ U 3 (r 2 2 ∷ w 3 3 ∷ []) ++ T 4 (r 3 3 ∷ []))) (0 ∷ 3 ∷ 4 ∷ [])
     -- a reader whose read is unclean: intermediate; not its own
-    ∷ counted (whole 2 (U 1 (w 1 5 ∷ w 1 6 ∷ []) ++ T 2 (r 1 5 ∷ []))) (0 ∷ 1 ∷ 2 ∷ [])
-    ∷ counted (whole 2 (U 1 (w 1 5 ∷ []) ++ T 2 (w 1 6 ∷ r 1 5 ∷ []))) (0 ∷ 1 ∷ 2 ∷ [])
+    ∷ countCase (whole 2 (U 1 (w 1 5 ∷ w 1 6 ∷ []) ++ T 2 (r 1 5 ∷ []))) (0 ∷ 1 ∷ 2 ∷ [])
+    ∷ countCase (whole 2 (U 1 (w 1 5 ∷ []) ++ T 2 (w 1 6 ∷ r 1 5 ∷ []))) (0 ∷ 1 ∷ 2 ∷ [])
     ∷ []
 
 -- who counts in what was read
@@ -52,9 +52,9 @@ unfoldable pub whoCounts : Reading → List ℕ
 whoCounts (refused n p) = []
 whoCounts (read h notes) = those 0 (size h) (committed h)
 
-abbrev pub countedSo : Counted → Counted
-countedSo c = counted (c .bytes) (whoCounts (reading (c .bytes)))
+abbrev pub countedSo : CountCase → CountCase
+countedSo c = countCase (c .bytes) (whoCounts (reading (c .bytes)))
 
-pub as-counted : map countedSo countedTable ≡ countedTable
+pub as-counted : map countedSo countTable ≡ countTable
 unfolding as-they-should whoCounts
 as-counted = refl

@@ -1,13 +1,13 @@
 -- Two histories that differ in who counts only: what carries over from the one with fewer, where its readers' sources are the same.
-use Prim.Native.Nat.{ℕ, _+_}
+use Prim.Native.Nat.{ℕ}
 use mathlib.Core.Path.{_≡_, refl, ap, sym, _∙_}
-use mathlib.Core.Bool.{Bool, true}
+use mathlib.Core.Bool.{Bool}
 use mathlib.Core.Logic.{inl, inr, ⊎-elim}
 use native.Mathlib.Omega.{arith}
 use Rattle.base.specs.Base.{_and_}
 use Rattle.base.proofs.Tests.{both, and-left, and-right}
 use Rattle.rules.specs.History.{History, Op, tx, op, txCount, opCount, committed}
-use Rattle.demand1.specs.Lawful.{IsOp, IsWrite, LawfulHistory}
+use Rattle.demand1.specs.Lawful.{IsWrite, LawfulHistory}
 use Rattle.demand2.specs.Counts.{ReadsValueOf, Counts}
 use Rattle.demand2.specs.Kinds.{WriteIn, WriteOf, JudgedRead, FromOther, Fits, thin-air, aborted, future, not-my-last, not-my-own, intermediate, AllClean}
 use Rattle.demand2.specs.Axiom.{Member, SO, from-0, in-session, Source, initial, written, ReadFrom, WR, Writes, initially, later, SoWr, Causal, one, more, Sees, earlier, direct, causal, HasOrder, ByTest}

@@ -14,6 +14,7 @@ use Rattle.base.specs.Base.{numbered}
 use Rattle.base.proofs.Tests.{ifso, clash, pick-of}
 use Rattle.rules.specs.History.{txCount}
 use Rattle.rules.specs.Reading.{State, begin, eventIn, refusalNo, after, refused, walk, reading}
+use Rattle.rules.proofs.Walking.{by-turn}
 use Rattle.demand1.specs.Rows.{kind, close-outside, Passes, Reaches, start, on}
 use Rattle.demand1.proofs.Histories.{inside-current}
 use Rattle.demand1.proofs.Events.{Framed, passes-framed, exactly}
@@ -21,7 +22,7 @@ use Rattle.demand1.proofs.Steps.{inside, next-is, next-after, next-not-end, not
 use Rattle.demand1.proofs.Refusals.{refusal-none}
 use Rattle.choices.specs.Choices.{outcomeOf, chosen, chosenReading, isUnansweredClose, chosenAt, chosenFrom, chosenBytes, Unanswered, Answered}
 use Rattle.choices.proofs.Agree.{same-byte}
-use Rattle.choices.proofs.Turns.{none-refuses, by-turn}
+use Rattle.choices.proofs.Turns.{none-refuses}
 use Rattle.choices.proofs.Replaced.{unanswered-close, close-unanswered, close-length, keeping, at-status, at-other, from-refused, from-end, from-on, from-length}
 use Rattle.choices.proofs.Walks.{walk-by}
 

@@ -1,7 +1,7 @@
 -- A history is accepted exactly if some choice of outcomes for its unanswered transactions makes it accepted.
 use Prim.Native.Nat.{ℕ}
-use mathlib.Core.Path.{_≡_, refl, ap, sym, _∙_}
-use mathlib.Core.Bool.{Bool, true}
+use mathlib.Core.Path.{_≡_, sym, _∙_}
+use mathlib.Core.Bool.{Bool}
 use mathlib.Core.Logic.{_↔_}
 use lib.Dec.{eqb}
 use native.Mathlib.Omega.{arith}

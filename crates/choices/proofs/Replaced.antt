@@ -13,11 +13,12 @@ use Rattle.base.proofs.Tests.{ifso, or-left, or-right, or-on, pick-on, pick-off
 use Rattle.rules.specs.History.{current}
 use Rattle.rules.specs.Records.{eventAt}
 use Rattle.rules.specs.Reading.{State, eventIn, refusalNo, isEnd, after}
+use Rattle.rules.proofs.Walking.{by-turn}
 use Rattle.demand1.specs.Rows.{len, kind, status, close-not-7}
 use Rattle.demand1.proofs.Events.{Framed, Shape, open-record, read-record, write-record, close-record, end-record, note-record, shape, close-event, exactly}
 use Rattle.demand1.proofs.Steps.{after-within}
 use Rattle.choices.specs.Choices.{outcomeOf, isUnansweredClose, chosenAt, chosenFrom}
-use Rattle.choices.proofs.Turns.{none-refuses, by-turn}
+use Rattle.choices.proofs.Turns.{none-refuses}
 
 -- ── a close with status 2 ──
 

@@ -1,7 +1,7 @@
 -- For any bytes: a trace is accepted exactly if it is so with some choice of outcomes in place of each status 2.
 use Prim.Native.Nat.{ℕ, _<_, _≤_}
 use mathlib.Core.Path.{_≡_, refl, ap, sym, _∙_}
-use mathlib.Core.Bool.{Bool, true}
+use mathlib.Core.Bool.{Bool}
 use mathlib.Core.List.{List}
 use mathlib.Core.Logic.{_↔_}
 use native.Mathlib.Omega.{arith}
@@ -14,7 +14,7 @@ use Rattle.demand1.specs.Lawful.{LawfulHistory}
 use Rattle.demand1.specs.Rows.{ReadInto}
 use Rattle.demand1.proofs.Lawful.{lawful-history}
 use Rattle.demand1.proofs.Readings.{reads-iff}
-use Rattle.demand2.specs.Accepted.{CommittedCount, Accepts, AcceptsTrace}
+use Rattle.demand2.specs.Accepted.{Accepts}
 use Rattle.demand2.proofs.Counts.{counts-iff}
 use Rattle.demand2.proofs.Accepted.{committed-number}
 use Rattle.choices.specs.Choices.{chosen, chosenReading, chosenBytes, Answered}

@@ -1,5 +1,5 @@
 -- One turn of reading, with and without the chosen outcomes: the same rows refuse, and what is entered is the same but for the chosen outcome.
-use Prim.Native.Nat.{ℕ, suc, _+_}
+use Prim.Native.Nat.{ℕ, _+_}
 use mathlib.Core.Path.{_≡_, refl, ap, sym, _∙_}
 use mathlib.Core.Bool.{Bool, true, false, false≢true}
 use mathlib.Core.List.{List}
@@ -7,11 +7,10 @@ use native.Mathlib.Omega.{arith}
 use lib.Dec.{ltb, eqb}
 use lib.ListN.{length}
 use borrow.Author.Tests.{ltb-false, eqb-true, eqb-false, le-ltb}
-use Rattle.base.specs.Base.{pick}
-use Rattle.base.proofs.Tests.{ifso, pick-on, pick-off, pick-of}
+use Rattle.base.proofs.Tests.{ifso, pick-of}
 use Rattle.rules.specs.History.{History, current}
 use Rattle.rules.specs.Records.{eventAt}
-use Rattle.rules.specs.Reading.{misplaced, unlawful, excess, repeats, stepRows, entered, isEnd, textAt, State, eventIn, refusalNo, after, Reading, refused, read, finished, walk}
+use Rattle.rules.specs.Reading.{misplaced, unlawful, excess, repeats, stepRows, entered, isEnd, textAt, State, eventIn, refusalNo, after, refused, read, finished}
 use Rattle.rules.specs.declared.Event.{Event}
 use Rattle.rules.specs.declared.Event.the-variants.{Open, Read, Write, Close, End, Note, Other}
 use Rattle.demand1.specs.Rows.{len, Passes}
@@ -23,29 +22,6 @@ use Rattle.choices.proofs.Agree.{Agree, agree-len, agree-serial, agree-
 -- ── a turn of the walk ──
 
 module _ (s : List ℕ) (st : State) where
-  -- what comes where no row refuses
-  abbrev next : ℕ → Reading
-  next g = pick (isEnd (eventIn s st)) (finished s (after s st)) (walk g s (after s st))
-
-  pub walk-refused : (g : ℕ) → ltb 0 (refusalNo s st) ≡ true → walk (suc g) s st ≡ refused (refusalNo s st) (st .at)
-  unfolding walk
-  walk-refused g t = pick-on (ltb 0 (refusalNo s st)) (refused (refusalNo s st) (st .at)) (next g) t
-
-  walk-next : (g : ℕ) → ltb 0 (refusalNo s st) ≡ false → walk (suc g) s st ≡ next g
-  unfolding walk
-  walk-next g t = pick-off (ltb 0 (refusalNo s st)) (refused (refusalNo s st) (st .at)) (next g) t
-
-  pub walk-end : (g : ℕ) → ltb 0 (refusalNo s st) ≡ false → isEnd (eventIn s st) ≡ true → walk (suc g) s st ≡ finished s (after s st)
-  walk-end g t e = walk-next g t ∙ pick-on (isEnd (eventIn s st)) (finished s (after s st)) (walk g s (after s st)) e
-
-  pub walk-on : (g : ℕ) → ltb 0 (refusalNo s st) ≡ false → isEnd (eventIn s st) ≡ false → walk (suc g) s st ≡ walk g s (after s st)
-  walk-on g t e = walk-next g t ∙ pick-off (isEnd (eventIn s st)) (finished s (after s st)) (walk g s (after s st)) e
-
-  -- by cases: the record is refused, it is the end, or the walk goes on
-  pub by-turn : {P : Type 0} → (ltb 0 (refusalNo s st) ≡ true → P) → (ltb 0 (refusalNo s st) ≡ false → isEnd (eventIn s st) ≡ true → P)
-      → (ltb 0 (refusalNo s st) ≡ false → isEnd (eventIn s st) ≡ false → P) → P
-  by-turn r e n = ifso (ltb 0 (refusalNo s st)) r (λ t. ifso (isEnd (eventIn s st)) (e t) (n t))
-
   -- where no row refuses, the record passes
   pub none-refuses : ltb 0 (refusalNo s st) ≡ false → Passes s st
   none-refuses t = refusal-none s st .0 (let l = ltb-false 0 (refusalNo s st) t in omega arith)

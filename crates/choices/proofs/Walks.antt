@@ -12,13 +12,14 @@ use Rattle.rules.specs.History.{current}
 use Rattle.rules.specs.Records.{eventAt}
 use Rattle.rules.specs.Reading.{State, eventIn, refusalNo, isEnd, after, refused, finished, walk}
 use Rattle.rules.specs.declared.Event.the-variants.{Close}
+use Rattle.rules.proofs.Walking.{walk-refused, walk-end, walk-on, by-turn}
 use Rattle.demand1.specs.Rows.{status}
 use Rattle.demand1.proofs.Events.{Framed, passes-framed, close-event}
 use Rattle.demand1.proofs.Steps.{after-within}
 use Rattle.choices.specs.Choices.{outcomeOf, chosenReading, isUnansweredClose, chosenAt, chosenFrom}
 use Rattle.choices.proofs.Chosen.{status-chosen}
 use Rattle.choices.proofs.Agree.{same-byte, Agree, agree-kind, agree-framed, agree-event}
-use Rattle.choices.proofs.Turns.{walk-refused, walk-end, walk-on, none-refuses, by-turn, eventBy, event-kept, end-kept, chosenState, refusal-same, refusal-by, end-by, after-by, finished-by}
+use Rattle.choices.proofs.Turns.{none-refuses, eventBy, event-kept, end-kept, chosenState, refusal-same, refusal-by, end-by, after-by, finished-by}
 use Rattle.choices.proofs.Replaced.{unanswered-close, close-length, keeping, at-status, at-other, from-refused, from-end, from-on, from-length, from-before}
 
 -- a number of one byte

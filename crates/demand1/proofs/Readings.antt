@@ -1,6 +1,7 @@
 -- A trace is read exactly if its records pass up to an end record that is its last, and refused exactly on the table's rows.
 use Prim.Native.Nat.{ℕ, zero, suc, _+_, _<_, _≤_}
 use mathlib.Core.Path.{_≡_, refl, ap, sym, _∙_}
+use mathlib.Core.Bool.{false}
 use mathlib.Core.List.{List}
 use mathlib.Core.Logic.{_⊎_, inl, inr, ⊎-elim, _↔_}
 use native.Mathlib.Omega.{arith}
@@ -8,10 +9,10 @@ use native.Mathlib.Numerals.{add-one}
 use lib.Dec.{ltb}
 use lib.ListN.{length}
 use borrow.Author.Tests.{lt-ltb, le-ltb}
-use Rattle.base.specs.Base.{pick}
 use Rattle.base.proofs.Tests.{split, pick-on, pick-off}
 use Rattle.rules.specs.History.{History}
-use Rattle.rules.specs.Reading.{State, begin, after, eventIn, isEnd, refusalNo, Reading, refused, read, finished, walk, reading, Stretch}
+use Rattle.rules.specs.Reading.{State, begin, after, refusalNo, Reading, refused, read, finished, walk, reading, Stretch}
+use Rattle.rules.proofs.Walking as turns
 use Rattle.demand1.specs.Rows.{kind, behind, lengthField, numberOf, Passes, Reaches, start, on, Refuses, too-long, at-record, bytes-behind, ReadInto, to-the-end, OneOutcome}
 use Rattle.demand1.proofs.Events.{same-or}
 use Rattle.demand1.proofs.Steps.{next-is, next-after, next-not-end, end-after, is-end, not-end, after-within}
@@ -25,28 +26,19 @@ module _ (s : List ℕ) (st : State) where
 
   -- ── one step of the walk ──
 
-  -- where no row refuses
-  abbrev next : ℕ → Reading
-  next g = pick (isEnd (eventIn s st)) (finished s (after s st)) (walk g s (after s st))
-
   -- a row refuses
   walk-refused : (g : ℕ) {n : ℕ} → refusalNo s st ≡ n → 0 < n → walk (suc g) s st ≡ refused n (st .at)
-  unfolding walk
-  walk-refused g {n} e l =
-      pick-on (ltb 0 (refusalNo s st)) (refused (refusalNo s st) (st .at)) (next g) (rw e (lt-ltb 0 n l)) ∙ ap (λ (m : ℕ). refused m (st .at)) e
+  walk-refused g {n} e l = turns.walk-refused s st g (rw e (lt-ltb 0 n l)) ∙ ap (λ (m : ℕ). refused m (st .at)) e
 
-  -- the record passes: what comes then
-  walk-next : (g : ℕ) → Passes s st → walk (suc g) s st ≡ next g
-  unfolding walk
-  walk-next g p =
-      pick-off (ltb 0 (refusalNo s st)) (refused (refusalNo s st) (st .at)) (next g) (le-ltb 0 (refusalNo s st) (omega (arith, refusal-none s st .1 p)))
+  -- the record passes: it is the end, or the walk goes on
+  none-refuses : Passes s st → ltb 0 (refusalNo s st) ≡ false
+  none-refuses p = le-ltb 0 (refusalNo s st) (omega (arith, refusal-none s st .1 p))
 
-  -- it is the end, or the walk goes on
   walk-end : (g : ℕ) → Passes s st → kind s (st .at) ≡ 5 → walk (suc g) s st ≡ finished s (after s st)
-  walk-end g p k = walk-next g p ∙ pick-on _ (finished s (after s st)) (walk g s (after s st)) (is-end s st p k)
+  walk-end g p k = turns.walk-end s st g (none-refuses p) (is-end s st p k)
 
   walk-on : (g : ℕ) → Passes s st → (kind s (st .at) ≡ 5 → ⊥) → walk (suc g) s st ≡ walk g s (after s st)
-  walk-on g p d = walk-next g p ∙ pick-off _ (finished s (after s st)) (walk g s (after s st)) (not-end s st p d)
+  walk-on g p d = turns.walk-on s st g (none-refuses p) (not-end s st p d)
 
   -- bytes follow the end, or none
   finished-behind : behind s (st .at) < length s → finished s (after s st) ≡ refused 11 (behind s (st .at))

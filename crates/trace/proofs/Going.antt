@@ -14,6 +14,7 @@ use Rattle.rules.specs.History.{History, current, empty}
 use Rattle.rules.specs.Records.{nextAt, eventAt}
 use Rattle.rules.specs.Reading.{Stretch, State, refused, read, begin, isEnd, textAt, entered, refusalNo, after, finished, walk, reading}
 use Rattle.rules.specs.declared.Event.{Event}
+use Rattle.rules.proofs.Walking as turns
 use Rattle.rules.specs.declared.Event.the-variants as E
 use Rattle.table.specs.Table.{historyOf, Held, HoldsHistory, cleared, Becomes}
 use Rattle.steps.specs.Steps.{put}
@@ -39,8 +40,8 @@ module _ (f : ℕ) (s g : List ℕ) (at serial : ℕ) (h : History) (notes : Lis
 
   module _ (t : ltb 0 (noAt s at serial h) ≡ true) where
     walk-refused : walk (suc f) s (stateAt at serial h notes) ≡ refused (noAt s at serial h) at
-    unfolding walk noAt refusalNo pick
-    walk-refused = rw t
+    unfolding noAt refusalNo
+    walk-refused = turns.walk-refused s (stateAt at serial h notes) f t
 
     record-refused : recordFrom (suc f) s (stateAt at serial h notes) g ≡ g
     unfolding recordFrom noAt refusalNo pick
@@ -48,16 +49,16 @@ module _ (f : ℕ) (s g : List ℕ) (at serial : ℕ) (h : History) (notes : Lis
 
   module _ (t : ltb 0 (noAt s at serial h) ≡ false) where
     walk-end : isEnd (eventAt s at) ≡ true → walk (suc f) s (stateAt at serial h notes) ≡ finished s next
-    unfolding walk noAt refusalNo pick
-    walk-end u = rw (t, u)
+    unfolding noAt refusalNo
+    walk-end u = turns.walk-end s (stateAt at serial h notes) f t u
 
     record-end : isEnd (eventAt s at) ≡ true → recordFrom (suc f) s (stateAt at serial h notes) g ≡ table
     unfolding recordFrom noAt refusalNo pick
     record-end u = rw (t, u)
 
     walk-on : isEnd (eventAt s at) ≡ false → walk (suc f) s (stateAt at serial h notes) ≡ walk f s next
-    unfolding walk noAt refusalNo pick
-    walk-on u = rw (t, u)
+    unfolding noAt refusalNo
+    walk-on u = turns.walk-on s (stateAt at serial h notes) f t u
 
     record-on : isEnd (eventAt s at) ≡ false → recordFrom (suc f) s (stateAt at serial h notes) g ≡ recordFrom f s next table
     unfolding recordFrom noAt refusalNo pick

@@ -13,7 +13,7 @@ use Rattle.theory.specs.Reached.{from}
 use Rattle.rules.specs.History.{History, tx, txCount, saysCommitted}
 use Rattle.table.specs.Table.{historyOf, markTx, Held, HasTx, Becomes}
 use Rattle.settling.specs.Settling.{Queue, Admitted, saidBelow, Begun, Begins, Marks}
-use Rattle.settling.proofs.Queues.{queue-none, queue-few, queue-same, queue-more, MarkedAs, marked-as}
+use Rattle.settling.proofs.Queues.{queue-none, queue-few, queue-same, queue-more, remarked-then, MarkedAs, marked-as}
 
 -- ── one transaction more ──
 
@@ -51,7 +51,7 @@ module _ (x : History) (t : ℕ) where
 
 pub begun-start : {h q : List ℕ} → Held h → length q ≡ 128 → Begun h q 0 1
 begun-start {h} p l =
-    record { held = p; said = λ t a b. absurd (omega arith); queue = queue-none l (none-said (historyOf h)) }
+    record { held = p; said = λ t a b. absurd (omega arith); tops = λ t a b. absurd (omega arith); queue = queue-none l (none-said (historyOf h)) }
 
 module _ {h q : List ℕ} {n t : ℕ} (p : HasTx h t) (s : Begun h q n t) where
   -- there is room for it
@@ -63,15 +63,16 @@ module _ {h q : List ℕ} {n t : ℕ} (p : HasTx h t) (s : Begun h q n t) where
       → Queue (historyOf h) (saidBelow (historyOf h) (t + 1)) o r → Begins h g o r (t + 1)
   begin-next m e k =
       record {
-        same = m .same;
+        remarked = m .remarked;
         begun =
             record {
               held = m .held;
               said =
                   λ i a b.
-                  rw (m .same)
+                  rw (m .remarked .same)
                   (⊎-elim (λ l. m .other i (λ z. omega arith) ∙ s .said i a l) (λ l. let z : i ≡ t = omega arith in rw z (m .this ∙ e)) (split i t));
-              queue = rw (m .same) k;
+              tops = λ i a b. m .tops i (λ d. ⊎-elim (λ l. s .tops i a l) (λ l. absurd (d (omega arith))) (split i t));
+              queue = rw (m .remarked .same) k;
             };
       }
 
@@ -105,10 +106,11 @@ begun-end {h} {e = e} l s =
       held = s .held;
       right = λ t p. from (sym (s .said t (p .from) (omega (arith, p .to))) ∙ p .passes);
       said = λ t p. s .said t (p .from) (omega (arith, p .to)) ∙ p .passes;
+      tops = λ t a b. s .tops t a (omega arith);
       queue =
           queue-same (s .queue) _
           (λ t a b. s .said t a (omega arith) ∙ sym (all-said (historyOf h) t e (omega arith)));
     }
 
 pub begins-then : {h g f q o : List ℕ} {n e m d : ℕ} → Begins h g q n e → Begins g f o m d → Begins h f o m d
-begins-then a b = record { same = b .same ∙ a .same; begun = b .begun }
+begins-then a b = record { remarked = remarked-then (a .remarked) (b .remarked); begun = b .begun }

@@ -1,3 +1,4 @@
 pub mod Queues
 pub mod Begins
 pub mod Marks
+pub mod One

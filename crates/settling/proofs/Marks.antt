@@ -18,8 +18,8 @@ use Rattle.rules.specs.History.{History, tx, op, txCount, opCount, saysCommitte
 use Rattle.rules.proofs.Committed.{committed-iff, committed-below}
 use Rattle.table.specs.Table.{historyOf, marked, ofTx, lastBelow, lastOf, prevOf, Held, HasTx, HasOp, Below}
 use Rattle.table.proofs.Chain.{OnChain, chain-last, chain-prev}
-use Rattle.settling.specs.Settling.{Passes, Admitted, Marks, Further, TakenUp, Gains, Gain, LookedAt, Settles}
-use Rattle.settling.proofs.Queues.{queue-few, queue-more, MarkedAs, marked-as}
+use Rattle.settling.specs.Settling.{Passes, Admitted, Remarked, Marks, Further, TakenUp, Gains, Gain, LookedAt, Ends, Settles}
+use Rattle.settling.proofs.Queues.{queue-few, queue-more, remarked-none, remarked-then, word-whole, MarkedAs, marked-as}
 
 -- ── what an operation takes, and from whom ──
 
@@ -102,12 +102,12 @@ writer-there {w = w} p z l b =
 -- ── it counts from now on ──
 
 pub further-none : {h q : List ℕ} {n : ℕ} → Marks h q n → Further h q n h q n
-further-none m = record { same = refl; marks = m; more = omega arith; places = λ i l. refl; kept = λ t e. e }
+further-none m = record { remarked = remarked-none; marks = m; more = omega arith; places = λ i l. refl; kept = λ t e. e }
 
 pub further-then : {h q g p f o : List ℕ} {n r s : ℕ} → Further h q n g p r → Further g p r f o s → Further h q n f o s
 further-then a b =
     record {
-      same = b .same ∙ a .same;
+      remarked = remarked-then (a .remarked) (b .remarked);
       marks = b .marks;
       more = omega (arith, a .more, b .more);
       places = λ i l. b .places i (omega (arith, a .more)) ∙ a .places i l;
@@ -145,17 +145,18 @@ module _ {h q : List ℕ} {n : ℕ} (m : Marks h q n) where
       admitted-marks =
           record {
             held = marks-u .held;
-            right = rw (marks-u .same) (λ t. right-on t (ℕ-discrete t u));
-            said = rw (marks-u .same) (λ t b. kept-on t (ℕ-discrete t u) (m .said t b));
+            right = rw (marks-u .remarked .same) (λ t. right-on t (ℕ-discrete t u));
+            said = rw (marks-u .remarked .same) (λ t b. kept-on t (ℕ-discrete t u) (m .said t b));
+            tops = rw (marks-u .remarked .same) (λ t a b. marks-u .tops t (λ d. m .tops t a b));
             queue =
-                rw (marks-u .same, a .queue, a .end)
+                rw (marks-u .remarked .same, a .queue, a .end)
                 (queue-more (m .queue) _ u (w .there .from) (w .there .to) (omega (arith, marks-few)) (w .new) (marks-u .this) (marks-u .other));
           }
 
       pub further-one : Further h q n g o r
       further-one =
           record {
-            same = marks-u .same;
+            remarked = marks-u .remarked;
             marks = admitted-marks;
             more = omega (arith, a .end);
             places = λ k l. rw (a .queue) (getD-set-other q n k u 0 (λ e. omega arith));
@@ -164,7 +165,7 @@ module _ {h q : List ℕ} {n : ℕ} (m : Marks h q n) where
 
       pub taken-one : TakenUp g i
       taken-one =
-          rw (marks-u .same) (λ y t b. let e : y ≡ u = sym (takes-of _ _ y i t) ∙ takes-of _ _ u i (w .takes) in rw e (marks-u .this))
+          rw (marks-u .remarked .same) (λ y t b. let e : y ≡ u = sym (takes-of _ _ y i t) ∙ takes-of _ _ u i (w .takes) in rw e (marks-u .this))
 
 -- ── the operations of t ──
 
@@ -187,7 +188,7 @@ module _ {h : List ℕ} {t : ℕ} where
 
   pub looking-kept : {q g p : List ℕ} {n r i : ℕ} → Further h q n g p r → Looking h t i → Looking g t i
   looking-kept f l =
-      record { on = rw (f .same) (l .on); up = rw (f .same) (λ u k a b c d. f .kept u (l .up u k a b c d)) }
+      record { on = rw (f .remarked .same) (l .on); up = rw (f .remarked .same) (λ u k a b c d. f .kept u (l .up u k a b c d)) }
 
   pub looking-next : {i r : ℕ} → Looking h t i → 0 < i → TakenUp h i → Below r (prevOf (historyOf h) i) i → Looking h t r
   unfolding prevOf
@@ -213,25 +214,25 @@ module _ {h : List ℕ} {t : ℕ} where
 
 -- the loop through the queue has come to place j, and has made h of the table f
 pub record Going (f h q : List ℕ) (n j : ℕ) : Type 0 where
-  pub same : historyOf h ≡ historyOf f
+  pub remarked : Remarked f h
   pub marks : Marks h q n
   pub within : j ≤ n
   pub done : (i : ℕ) → i < j → LookedAt h (getD q i 0)
 
 pub going-start : {h q : List ℕ} {n : ℕ} → Marks h q n → Going h h q n 0
-going-start m = record { same = refl; marks = m; within = omega arith; done = λ i l. absurd (omega arith) }
+going-start m = record { remarked = remarked-none; marks = m; within = omega arith; done = λ i l. absurd (omega arith) }
 
 module _ {f h q : List ℕ} {n j : ℕ} (s : Going f h q n j) where
   pub going-next : {g p : List ℕ} {r : ℕ} → j < n → Further h q n g p r → LookedAt g (getD q j 0) → Going f g p r (j + 1)
   going-next {g} {p} l t d =
       record {
-        same = t .same ∙ s .same;
+        remarked = remarked-then (s .remarked) (t .remarked);
         marks = t .marks;
         within = omega (arith, t .more);
         done =
             λ i m.
             rw (t .places i (omega arith))
-            (⊎-elim (λ y. rw (t .same) (λ u v. t .kept u (s .done i y u v))) (λ y. let e : i ≡ j = omega arith in rw e d) (split i j));
+            (⊎-elim (λ y. rw (t .remarked .same) (λ u v. t .kept u (s .done i y u v))) (λ y. let e : i ≡ j = omega arith in rw e d) (split i j));
       }
 
   -- transaction 0 has no operation
@@ -243,10 +244,10 @@ module _ {f h q : List ℕ} {n j : ℕ} (s : Going f h q n j) where
       let k = some-at _ _ 1 (and-right _ _ v) in
       omega (arith, takes-in _ 0 u (k .at) (k .passes), s .marks .held .txs-in (k .at) (k .from) (omega (arith, k .to)) .0))
 
-  pub going-end : n ≤ j → Settles f h
+  pub going-end : n ≤ j → Ends f h
   going-end l =
       record {
-        same = s .same;
+        remarked = s .remarked;
         settled =
             record {
               held = s .marks .held;
@@ -255,6 +256,7 @@ module _ {f h q : List ℕ} {n j : ℕ} (s : Going f h q n j) where
                   same-test _ _ (λ m. committed-iff _ t .1 (s .marks .right t (record { from = a; to = b; passes = m })))
                   (λ e. whole (committed-iff _ t .0 e) .1 a);
             };
+        tops = s .marks .tops;
       }
     where
       Whole : ℕ → Type 0
@@ -280,3 +282,19 @@ module _ {f h q : List ℕ} {n j : ℕ} (s : Going f h q n j) where
 
       whole : {t : ℕ} → Reached (saysCommitted (historyOf h)) (vouches (historyOf h)) t → Whole t
       whole r = reached-within Whole has keeps r
+
+-- ── all ──
+
+-- the first pass made g of h, and the way through the queue f of g
+pub settles : {h g f : List ℕ} → Remarked h g → Ends g f → Settles h f
+settles {f = f} a e =
+    let r = remarked-then a (e .remarked) in
+    record {
+      same = r .same;
+      settled = e .settled;
+      words =
+          λ t i l.
+          let m : t ≤ txCount (historyOf f) = rw (r .same) l in
+          rw (← r .under t, ← r .same) (word-whole f t _ (e .tops t i m) (e .settled .counts t i m));
+      rest = r .rest;
+    }

@@ -1,13 +1,13 @@
 -- What is known while it is worked out who counts as committed.
-use Prim.Native.Nat.{ℕ, _+_, _≤_, _<_}
+use Prim.Native.Nat.{ℕ, _+_, _*_, _%_, _≤_, _<_}
 use mathlib.Core.Path.{_≡_}
 use mathlib.Core.Bool.{Bool, true, false}
 use mathlib.Core.List.{List}
 use lib.ListN.{length, getD, set}
 use lib.Dec.{ltb}
-use Rattle.base.specs.Base.{_and_, count}
+use Rattle.base.specs.Base.{_and_, pick, count}
 use Rattle.theory.specs.Reached.{Reached}
-use Rattle.rules.specs.History.{History, op, txCount, size, saysCommitted, isUnanswered, takesFrom, vouches}
+use Rattle.rules.specs.History.{History, op, txCount, size, saysCommitted, isUnanswered, takesFrom, vouches, committed}
 use Rattle.table.specs.Table.{historyOf, marked, markTx, Held, HasTx, Settled, Becomes}
 
 -- ── the queue ──
@@ -37,6 +37,18 @@ pub record Admitted (h q : List ℕ) (n t : ℕ) (g p : List ℕ) (r : ℕ) : Ty
   pub queue : p ≡ set q n t
   pub end : r ≡ n + 1
 
+-- ── marks ──
+
+-- g is h, but for what stands from bit 29 on in the words of transactions
+pub record Remarked (h g : List ℕ) : Type 0 where
+  pub same : historyOf g ≡ historyOf h
+  pub under : (k : ℕ) → getD g k 0 % 536870912 ≡ getD h k 0 % 536870912
+  pub rest : (k : ℕ) → (1 ≤ k → k ≤ txCount (historyOf h) → ⊥) → getD g k 0 ≡ getD h k 0
+
+-- nothing stands above the place of the mark in the word of t
+abbrev pub MarkTops : List ℕ → ℕ → Type 0
+MarkTops h t = getD h t 0 < 1073741824
+
 -- ── those that said so ──
 
 -- t is below e and says that it committed
@@ -47,11 +59,12 @@ saidBelow x e t = ltb t e and saysCommitted x t
 pub record Begun (h q : List ℕ) (n e : ℕ) : Type 0 where
   pub held : Held h
   pub said : (t : ℕ) → 1 ≤ t → t < e → marked h t ≡ saysCommitted (historyOf h) t
+  pub tops : (t : ℕ) → 1 ≤ t → t < e → MarkTops h t
   pub queue : Queue (historyOf h) (saidBelow (historyOf h) e) q n
 
--- .. in g, which has the history of h
+-- .. in g, which is h but for marks
 pub record Begins (h g q : List ℕ) (n e : ℕ) : Type 0 where
-  pub same : historyOf g ≡ historyOf h
+  pub remarked : Remarked h g
   pub begun : Begun g q n e
 
 -- ── those whose values they read ──
@@ -61,11 +74,12 @@ pub record Marks (h q : List ℕ) (n : ℕ) : Type 0 where
   pub held : Held h
   pub right : (t : ℕ) → Passes (historyOf h) (marked h) t → Reached (saysCommitted (historyOf h)) (vouches (historyOf h)) t
   pub said : (t : ℕ) → Passes (historyOf h) (saysCommitted (historyOf h)) t → marked h t ≡ true
+  pub tops : (t : ℕ) → 1 ≤ t → t ≤ txCount (historyOf h) → MarkTops h t
   pub queue : Queue (historyOf h) (marked h) q n
 
 -- they became g, p and r: nobody lost the mark or the place
 pub record Further (h q : List ℕ) (n : ℕ) (g p : List ℕ) (r : ℕ) : Type 0 where
-  pub same : historyOf g ≡ historyOf h
+  pub remarked : Remarked h g
   pub marks : Marks g p r
   pub more : n ≤ r
   pub places : (i : ℕ) → i < n → getD p i 0 ≡ getD q i 0
@@ -92,9 +106,19 @@ pub record Gain (h : List ℕ) (i r : ℕ) : Type 0 where
 abbrev pub LookedAt : List ℕ → ℕ → Type 0
 LookedAt h t = (u : ℕ) → vouches (historyOf h) t u ≡ true → marked h u ≡ true
 
+-- the queue was gone through, which made g of h: everyone that counts is marked
+pub record Ends (h g : List ℕ) : Type 0 where
+  pub remarked : Remarked h g
+  pub settled : Settled g
+  pub tops : (t : ℕ) → 1 ≤ t → t ≤ txCount (historyOf g) → MarkTops g t
+
 -- ── all ──
 
--- g has the history of h, and its marks say who counts
+-- g has the history of h, and its marks say who counts. Every word of g is told: a transaction's is what stands under the mark in h, and the mark that it
+-- is due; any other is that of h
 pub record Settles (h g : List ℕ) : Type 0 where
   pub same : historyOf g ≡ historyOf h
   pub settled : Settled g
+  pub words : (t : ℕ) → 1 ≤ t → t ≤ txCount (historyOf h)
+      → getD g t 0 ≡ getD h t 0 % 536870912 + 536870912 * pick (committed (historyOf h) t) 1 0
+  pub rest : (k : ℕ) → (1 ≤ k → k ≤ txCount (historyOf h) → ⊥) → getD g k 0 ≡ getD h k 0

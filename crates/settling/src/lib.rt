@@ -7,7 +7,7 @@ ghost use Prim.Native.Nat.{_+_, _<_};
 ghost use lib.ListN.{length};
 ghost use Rattle.rules.specs.History.{op};
 ghost use Rattle.table.specs.Table.{historyOf, marked, Held, HasTx, HasOp};
-ghost use Rattle.settling.specs.Settling.{Admitted, Begun, Begins, Marks, Further, Gain, TakenUp, LookedAt, Settles};
+ghost use Rattle.settling.specs.Settling.{Admitted, Remarked, Begun, Begins, Marks, Further, Gain, TakenUp, LookedAt, Ends, Settles};
 
 // What a close says. "Status 2 now means unanswered."
 const COMMITTED: u64 = 1;
@@ -41,7 +41,7 @@ fn admit_if_said(h: &mut [u64], q: &mut [u8; 128], n: usize, t: usize) -> usize
 // .. each transaction of the table. Answers how many the queue has.
 fn admit_said(h: &mut [u64], q: &mut [u8; 128]) -> usize
     requires { ⌜ Held (now h) × (length (now q) ≡ 128) ⌝ }
-    ensures { λ r. ⌜ Marks (now (h .exit)) (now (q .exit)) r × (historyOf (now (h .exit)) ≡ historyOf (now (h .entry))) ⌝ }
+    ensures { λ r. ⌜ Marks (now (h .exit)) (now (q .exit)) r × Remarked (now (h .entry)) (now (h .exit)) ⌝ }
 {
     let last = table::txs(h);
     let mut n = 0;
@@ -107,7 +107,7 @@ fn admit_writers(h: &mut [u64], q: &mut [u8; 128], n: usize, t: usize) -> usize
 // .. by any that counts: the queue of n grows while it is gone through, so that those who come to count are looked at in turn.
 fn admit_on(h: &mut [u64], q: &mut [u8; 128], n: usize)
     requires { ⌜ Marks (now h) (now q) n ⌝ }
-    ensures { λ r. ⌜ Settles (now (h .entry)) (now (h .exit)) ⌝ }
+    ensures { λ r. ⌜ Ends (now (h .entry)) (now (h .exit)) ⌝ }
 {
     let mut m = n;
     let mut j = 0;

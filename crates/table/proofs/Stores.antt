@@ -255,10 +255,10 @@ module _ (h : List ℕ) (t c : ℕ) (p : HasTx h t) (small : c < 2) where
   abbrev mark-end : List ℕ
   mark-end = set h t (getD h t 0 % 536870912 + 536870912 * c)
 
-  mark-word : getD mark-end t 0 ≡ getD h t 0 % 536870912 + 536870912 * c
+  pub mark-word : getD mark-end t 0 ≡ getD h t 0 % 536870912 + 536870912 * c
   mark-word = getD-set-same h t _ 0 (omega (arith, p .to, p .held .few, p .held .room))
 
-  mark-elsewhere : (k : ℕ) → (k ≡ t → ⊥) → getD mark-end k 0 ≡ getD h k 0
+  pub mark-elsewhere : (k : ℕ) → (k ≡ t → ⊥) → getD mark-end k 0 ≡ getD h k 0
   mark-elsewhere k b = getD-set-other h t k _ 0 b
 
   mark-count : getD mark-end 0 0 ≡ getD h 0 0

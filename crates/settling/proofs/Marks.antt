@@ -18,7 +18,7 @@ use Rattle.rules.specs.History.{History, tx, op, txCount, opCount, saysCommitte
 use Rattle.rules.proofs.Committed.{committed-iff, committed-below}
 use Rattle.table.specs.Table.{historyOf, marked, ofTx, lastBelow, lastOf, prevOf, Held, HasTx, HasOp, Below}
 use Rattle.table.proofs.Chain.{OnChain, chain-last, chain-prev}
-use Rattle.settling.specs.Settling.{Passes, Admitted, Remarked, Marks, Further, TakenUp, Gains, Gain, LookedAt, Ends, Settles}
+use Rattle.settling.specs.Settling.{TxPassing, Admitted, Remarked, Marks, Further, TakenUp, Gains, Gain, LookedAt, Ends, Settles}
 use Rattle.settling.proofs.Queues.{queue-few, queue-more, remarked-none, remarked-then, word-whole, MarkedAs, marked-as}
 
 -- ── what an operation takes, and from whom ──
@@ -119,7 +119,7 @@ module _ {h q : List ℕ} {n : ℕ} (m : Marks h q n) where
   marks-few = omega (arith, queue-few (m .queue), m .held .few)
 
   module _ {i u : ℕ} (p : HasOp h i) (c : marked h (op (historyOf h) i .tx) ≡ true) (w : Gains h i u) where
-    reader : Passes (historyOf h) (marked h) (op (historyOf h) i .tx)
+    reader : TxPassing (historyOf h) (marked h) (op (historyOf h) i .tx)
     reader = let t = p .held .txs-in i (p .from) (p .to) in record { from = t .0; to = t .1; passes = c }
 
     -- "other than itself": the reader is marked, u is not yet
@@ -137,7 +137,7 @@ module _ {h q : List ℕ} {n : ℕ} (m : Marks h q n) where
       kept-on t (yes e) b = rw e (marks-u .this)
       kept-on t (no d) b = marks-u .other t d ∙ b
 
-      right-on : (t : ℕ) → Dec (t ≡ u) → Passes (historyOf h) (marked g) t → Reached (saysCommitted (historyOf h)) (vouches (historyOf h)) t
+      right-on : (t : ℕ) → Dec (t ≡ u) → TxPassing (historyOf h) (marked g) t → Reached (saysCommitted (historyOf h)) (vouches (historyOf h)) t
       right-on t (yes e) b = rw e (on (m .right _ reader) gain-vouched)
       right-on t (no d) b = m .right t (record { from = b .from; to = b .to; passes = sym (marks-u .other t d) ∙ b .passes })
 

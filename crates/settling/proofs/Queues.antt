@@ -16,7 +16,7 @@ use Rattle.base.proofs.Searches.{count-same, count-zero, count-most, count-less
 use Rattle.rules.specs.History.{History, txCount, size}
 use Rattle.table.specs.Table.{historyOf, marked, markTx, Held, HasTx, Becomes}
 use Rattle.table.proofs.Stores.{mark-word, mark-elsewhere, mark-this, mark-other}
-use Rattle.settling.specs.Settling.{Passes, Stands, Queue, Remarked, MarkTops}
+use Rattle.settling.specs.Settling.{TxPassing, Stands, Queue, Remarked, MarkTops}
 
 -- ── the queue ──
 
@@ -54,11 +54,11 @@ module _ {x : History} {s : ℕ → Bool} {q : List ℕ} {n : ℕ} (k : Queue x 
     place-new : getD (set q n u) n 0 ≡ u
     place-new = getD-set-same q n u 0 (omega (arith, k .room))
 
-    passes-on : (t : ℕ) → Passes x s t → Passes x r t
+    passes-on : (t : ℕ) → TxPassing x s t → TxPassing x r t
     passes-on t p =
         record { from = p .from; to = p .to; passes = rest t (λ e. clash (rw e at (p .passes)) old) ∙ p .passes }
 
-    stands-on : (t : ℕ) → Dec (t ≡ u) → Passes x r t → Stands (set q n u) (n + 1) t
+    stands-on : (t : ℕ) → Dec (t ≡ u) → TxPassing x r t → Stands (set q n u) (n + 1) t
     stands-on t (yes e) p = record { at = n; to = omega arith; is = place-new ∙ sym e }
     stands-on t (no d) p =
         let o = k .all t (record { from = p .from; to = p .to; passes = sym (rest t d) ∙ p .passes }) in

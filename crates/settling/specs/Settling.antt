@@ -13,7 +13,7 @@ use Rattle.table.specs.Table.{historyOf, marked, markTx, Held, HasTx, Settled, 
 -- ── the queue ──
 
 -- t is a transaction of x that passes s
-pub record Passes (x : History) (s : ℕ → Bool) (t : ℕ) : Type 0 where
+pub record TxPassing (x : History) (s : ℕ → Bool) (t : ℕ) : Type 0 where
   pub from : 1 ≤ t
   pub to : t ≤ txCount x
   pub passes : s t ≡ true
@@ -28,8 +28,8 @@ pub record Stands (q : List ℕ) (n t : ℕ) : Type 0 where
 pub record Queue (x : History) (s : ℕ → Bool) (q : List ℕ) (n : ℕ) : Type 0 where
   pub room : length q ≡ 128
   pub many : n ≡ count 1 (size x) s
-  pub each : (i : ℕ) → i < n → Passes x s (getD q i 0)
-  pub all : (t : ℕ) → Passes x s t → Stands q n t
+  pub each : (i : ℕ) → i < n → TxPassing x s (getD q i 0)
+  pub all : (t : ℕ) → TxPassing x s t → Stands q n t
 
 -- transaction t was marked and put behind n others: they are r now
 pub record Admitted (h q : List ℕ) (n t : ℕ) (g p : List ℕ) (r : ℕ) : Type 0 where
@@ -72,8 +72,8 @@ pub record Begins (h g q : List ℕ) (n e : ℕ) : Type 0 where
 -- the marked ones stand in the queue: only such as count, all that said so among them
 pub record Marks (h q : List ℕ) (n : ℕ) : Type 0 where
   pub held : Held h
-  pub right : (t : ℕ) → Passes (historyOf h) (marked h) t → Reached (saysCommitted (historyOf h)) (vouches (historyOf h)) t
-  pub said : (t : ℕ) → Passes (historyOf h) (saysCommitted (historyOf h)) t → marked h t ≡ true
+  pub right : (t : ℕ) → TxPassing (historyOf h) (marked h) t → Reached (saysCommitted (historyOf h)) (vouches (historyOf h)) t
+  pub said : (t : ℕ) → TxPassing (historyOf h) (saysCommitted (historyOf h)) t → marked h t ≡ true
   pub tops : (t : ℕ) → 1 ≤ t → t ≤ txCount (historyOf h) → MarkTops h t
   pub queue : Queue (historyOf h) (marked h) q n
 

@@ -9,6 +9,6 @@ use Rattle.table.specs.Table.{Below, Becomes}
 pub below-one : {r q x n : ℕ} → Below r x n → Below q x n → r ≡ q
 below-one a b = a .is ∙ sym (b .is)
 
--- of `clear`, `put_tx`, `close_tx`, `put_read` and `put_write`
+-- of `clear`, `put_tx`, `close_tx`, `mark`, `put_read` and `put_write`
 pub becomes-one : {h k g : List ℕ} {x : History} → Becomes h g x → Becomes k g x → h ≡ k
 becomes-one a b = a .is ∙ sym (b .is)

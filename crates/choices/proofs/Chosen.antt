@@ -1,7 +1,7 @@
 -- Laws of a history with chosen outcomes: what stays, what changes, and how it grows.
 use Prim.Native.Nat.{ℕ, zero, suc, _+_, _<_, _≤_}
 use mathlib.Core.Path.{_≡_, refl, ap, sym, _∙_}
-use mathlib.Core.Bool.{Bool, true, false}
+use mathlib.Core.Bool.{Bool}
 use mathlib.Core.List.{List, [], _∷_, _++_}
 use mathlib.Core.Logic.{⊎-elim}
 use native.Mathlib.Omega.{arith}
@@ -12,7 +12,7 @@ use borrow.Author.Tests.{eqb-true, eqb-false, eq-eqb, ne-eqb}
 use Rattle.base.specs.Base.{pick, numbered}
 use Rattle.base.proofs.Tests.{ifso, split, pick-on, pick-off}
 use Rattle.base.proofs.Numbered.{numbered-length, numbered-at, numbered-more}
-use Rattle.rules.specs.History.{History, Tx, Op, zeroth, noTx, tx, op, txCount, opCount, isOpen, current, writesValue, writeOf, saysCommitted, isUnanswered, opened, closed, withOp}
+use Rattle.rules.specs.History.{History, Tx, Op, zeroth, noTx, tx, op, txCount, opCount, isOpen, current, writesValue, writeOf, opened, closed, withOp}
 use Rattle.rules.proofs.History.{open-count, open-txs, open-old, open-new, close-count, close-whole, close-other}
 use Rattle.demand1.specs.Lawful.{IsOp, IsWrite, IsTx, Over, says-aborted, says-committed, says-unanswered, LawfulHistory}
 use Rattle.demand1.proofs.Events.{same-or}
@@ -55,10 +55,6 @@ module _ (f : ℕ → Bool) (t : ℕ) where
 module _ (f : ℕ → Bool) (h : History) where
   -- ── what stays ──
 
-  pub chosen-ops : chosen f h .ops ≡ h .ops
-  unfolding chosen
-  chosen-ops = refl
-
   pub chosen-op-count : opCount (chosen f h) ≡ opCount h
   unfolding chosen
   chosen-op-count = refl
@@ -80,11 +76,6 @@ module _ (f : ℕ → Bool) (h : History) where
 
   -- ── a transaction ──
 
-  -- 0 stays
-  pub chosen-zero : tx (chosen f h) 0 ≡ tx h 0
-  unfolding tx
-  chosen-zero = refl
-
   -- there is none past the end
   past : (t : ℕ) → txCount h < t → (tx h t ≡ noTx) × (tx (chosen f h) t ≡ noTx)
   unfolding tx
@@ -92,9 +83,6 @@ module _ (f : ℕ → Bool) (h : History) where
     List·getD-eq-default (zeroth ∷ h .txs) noTx {n = t} (omega arith),
     List·getD-eq-default (zeroth ∷ chosen f h .txs) noTx {n = t} (omega (arith, chosen-count)),
   )
-
-  pub chosen-past : (t : ℕ) → txCount h < t → tx (chosen f h) t ≡ noTx
-  chosen-past t l = past t l .1
 
   -- each has its session, and the status that the choice leaves it
   within : (t : ℕ) → 1 ≤ t → t ≤ txCount h → tx (chosen f h) t ≡ then t
@@ -116,28 +104,6 @@ module _ (f : ℕ → Bool) (h : History) where
 
   pub chosen-status : (t : ℕ) → tx (chosen f h) t .status ≡ statusBy f t (tx h t .status)
   chosen-status t = ap (λ (x : Tx). x .status) (chosen-tx t)
-
-  -- the chosen outcome where it is unanswered, else its own
-  pub chosen-unanswered : (t : ℕ) → isUnanswered h t ≡ true → tx (chosen f h) t .status ≡ outcomeOf f t
-  unfolding isUnanswered
-  chosen-unanswered t e = chosen-status t ∙ status-chosen f t (eqb-true _ 2 e)
-
-  pub chosen-kept : (t : ℕ) → isUnanswered h t ≡ false → tx (chosen f h) t .status ≡ tx h t .status
-  unfolding isUnanswered
-  chosen-kept t e = chosen-status t ∙ status-kept f t (eqb-false _ 2 e)
-
-  -- none is unanswered still
-  pub chosen-answered : (t : ℕ) → isUnanswered (chosen f h) t ≡ false
-  unfolding isUnanswered
-  chosen-answered t = rw (chosen-status t) (ne-eqb _ 2 (status-answered f t (tx h t .status)))
-
-  -- who says that it committed: as chosen where it is unanswered
-  pub chosen-says : (t : ℕ) → saysCommitted (chosen f h) t ≡ pick (isUnanswered h t) (f t) (saysCommitted h t)
-  unfolding saysCommitted
-  chosen-says t =
-      ifso (isUnanswered h t)
-      (λ e. ap (λ (c : ℕ). eqb c 1) (chosen-unanswered t e) ∙ outcome-says f t ∙ sym (pick-on (isUnanswered h t) (f t) (eqb (tx h t .status) 1) e))
-      (λ e. ap (λ (c : ℕ). eqb c 1) (chosen-kept t e) ∙ sym (pick-off (isUnanswered h t) (f t) (eqb (tx h t .status) 1) e))
 
   -- an open one is open still, and no other
   pub chosen-open : (t : ℕ) → isOpen (chosen f h) t ≡ isOpen h t

@@ -14,6 +14,7 @@ use Rattle.base.proofs.Searches.{some-at, some-of}
 use Rattle.rules.specs.History.{History, op, opCount, committed, writeOf}
 use Rattle.rules.specs.Reads.{writesAt, wroteBetween, originOf, sourceOf, kindBy, kindOf, isJudged, isFinding}
 use Rattle.rules.specs.Outcome.{findings}
+use Rattle.rules.proofs.History.{op-0}
 use Rattle.demand1.proofs.Checks.{write-found, write-known}
 use Rattle.base.proofs.Empty.{those-none}
 use Rattle.demand1.specs.Lawful.{IsWrite, LawfulHistory}
@@ -82,11 +83,6 @@ write-as k =
       in-it = record { from = k .is-op .from; to = k .is-op .to; is-write = k .is-write; in-tx = refl; of-key = k .of-key };
       of-value = k .of-value;
     }
-
--- number 0 is no operation's
-op-0 : (h : History) → op h 0 .tx ≡ 0
-unfolding op
-op-0 h = refl
 
 module _ (h : History) (i : ℕ) where
   -- the write that `originOf` looks for: none has value 0

@@ -15,12 +15,13 @@ use Rattle.theory.proofs.Leads.{via-leads, leads-via}
 use Rattle.rules.specs.History.{History, op, opCount, size, committed}
 use Rattle.rules.specs.Reads.{originOf, sourceOf, kindOf, isExternal, readsFrom}
 use Rattle.rules.specs.Levels.{isStart, isSession, isRead, basic, leads, writesKey, sees, settles, isRival, forced}
+use Rattle.rules.proofs.History.{status-0}
 use Rattle.rules.proofs.Committed.{committed-0}
 use Rattle.demand1.specs.Lawful.{LawfulHistory}
 use Rattle.demand2.specs.Counts.{Counts, by-status}
 use Rattle.demand2.specs.Kinds.{JudgedRead, thin-air, aborted, Clean, AllClean}
 use Rattle.demand2.specs.Axiom.{Member, SO, from-0, in-session, Source, initial, written, ReadFrom, SoWr, Causal, one, more}
-use Rattle.demand2.proofs.Counts.{status-0, counts-iff, counts-below, counts-stable}
+use Rattle.demand2.proofs.Counts.{counts-iff, counts-below, counts-stable}
 use Rattle.demand2.proofs.Kind.{origin, origin-zero, judged-iff, clean-iff}
 
 -- ── members ──

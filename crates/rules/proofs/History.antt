@@ -14,6 +14,17 @@ use Rattle.base.proofs.Tests.{pick-on, pick-off, split}
 use Rattle.base.proofs.Numbered.{numbered-length, numbered-at}
 use Rattle.rules.specs.History.{History, Tx, Op, zeroth, noTx, noOp, tx, op, txCount, opCount, opened, closed, withOp}
 
+-- ── number 0 ──
+
+-- transaction 0 is committed, and no operation has the number
+pub status-0 : (h : History) → tx h 0 .status ≡ 1
+unfolding tx
+status-0 h = refl
+
+pub op-0 : (h : History) → op h 0 .tx ≡ 0
+unfolding op
+op-0 h = refl
+
 -- ── one operation more ──
 
 module _ (h : History) (o : Op) where

@@ -7,10 +7,11 @@ use mathlib.Core.Logic.{⊎-elim}
 use native.Mathlib.Omega.{arith}
 use native.Mathlib.Decide.{ℕ-discrete}
 use lib.ListN.{length}
-use borrow.Author.Tests.{eq-eqb, ne-eqb, lt-ltb, le-ltb}
-use Rattle.base.proofs.Tests.{both, and-on, and-no-left, and-no-right, split}
+use borrow.Author.Tests.{lt-ltb, le-ltb}
+use Rattle.base.proofs.Tests.{is-false, both, and-on, and-no-left, and-no-right, split}
 use Rattle.theory.specs.Reached.{from}
 use Rattle.rules.specs.History.{History, tx, txCount, saysCommitted}
+use Rattle.rules.proofs.Committed.{says-iff}
 use Rattle.table.specs.Table.{historyOf, markTx, Held, HasTx, Becomes}
 use Rattle.settling.specs.Settling.{Queue, Admitted, saidBelow, Begun, Begins, Marks}
 use Rattle.settling.proofs.Queues.{queue-none, queue-few, queue-same, queue-more, remarked-then, MarkedAs, marked-as}
@@ -79,12 +80,10 @@ module _ {h q : List ℕ} {n t : ℕ} (p : HasTx h t) (s : Begun h q n t) where
   -- its status is c
   module _ {c : ℕ} (i : c ≡ tx (historyOf h) t .status) where
     says : c ≡ 1 → saysCommitted (historyOf h) t ≡ true
-    unfolding saysCommitted
-    says e = eq-eqb _ 1 (sym i ∙ e)
+    says e = says-iff (historyOf h) t .1 (sym i ∙ e)
 
     says-not : (c ≡ 1 → ⊥) → saysCommitted (historyOf h) t ≡ false
-    unfolding saysCommitted
-    says-not d = ne-eqb _ 1 (λ e. d (i ∙ e))
+    says-not d = is-false _ (λ e. d (i ∙ says-iff (historyOf h) t .0 e))
 
   pub begin-said : {g o : List ℕ} {r c : ℕ} → c ≡ tx (historyOf h) t .status → c ≡ 1 → Admitted h q n t g o r → Begins h g o r (t + 1)
   begin-said i f a =

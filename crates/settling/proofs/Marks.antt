@@ -1,49 +1,25 @@
 -- The way through the queue.
 use Prim.Native.Nat.{ℕ, _+_, _≤_, _<_}
-use mathlib.Core.Path.{_≡_, refl, ap, sym, _∙_}
-use mathlib.Core.Bool.{true, false, not}
+use mathlib.Core.Path.{_≡_, refl, sym, _∙_}
+use mathlib.Core.Bool.{true, false}
 use mathlib.Core.List.{List}
 use mathlib.Core.Logic.{⊎-elim}
 use native.Mathlib.Omega.{arith}
 use native.Mathlib.Decide.{ℕ-discrete}
 use lib.ListN.{getD}
 use lib.Seq.{getD-set-other}
-use borrow.Author.Tests.{eqb-true, eq-eqb, ne-eqb}
-use Rattle.base.proofs.Tests.{clash, is-false, not-true, both, and-left, and-right, same-test, split}
-use Rattle.base.proofs.Searches.{some-at, some-of}
+use borrow.Author.Tests.{eq-eqb}
+use Rattle.base.proofs.Tests.{clash, is-false, same-test, split}
 use Rattle.base.proofs.Chains.{last-none}
 use Rattle.theory.specs.Reached.{Reached, from, on}
 use Rattle.theory.proofs.Reached.{reached-within}
 use Rattle.rules.specs.History.{History, tx, op, txCount, opCount, saysCommitted, isUnanswered, writeOf, takesFrom, vouches}
-use Rattle.rules.proofs.Committed.{committed-iff, committed-below}
+use Rattle.rules.proofs.History.{status-0, op-0}
+use Rattle.rules.proofs.Committed.{unanswered-iff, takes-iff, vouches-iff, committed-iff, committed-below}
 use Rattle.table.specs.Table.{historyOf, marked, ofTx, lastBelow, lastOf, prevOf, Held, HasTx, HasOp, Below}
 use Rattle.table.proofs.Chain.{OnChain, chain-last, chain-prev}
 use Rattle.settling.specs.Settling.{TxPassing, Admitted, Remarked, Marks, Further, TakenUp, Gains, Gain, LookedAt, Ends, Settles}
 use Rattle.settling.proofs.Queues.{queue-few, queue-more, remarked-none, remarked-then, word-whole, MarkedAs, marked-as}
-
--- ── what an operation takes, and from whom ──
-
-module _ (x : History) (a u i : ℕ) (t : takesFrom x a u i ≡ true) where
-  takes-read : op x i .isWrite ≡ false
-  unfolding takesFrom
-  takes-read = not-true _ (and-left _ _ (and-left _ _ t))
-
-  takes-in : op x i .tx ≡ a
-  unfolding takesFrom
-  takes-in = eqb-true (op x i .tx) a (and-right _ _ (and-left _ _ t))
-
-  takes-of : op x (writeOf x (op x i .key) (op x i .value)) .tx ≡ u
-  unfolding takesFrom
-  takes-of = eqb-true (op x (writeOf x (op x i .key) (op x i .value)) .tx) u (and-right _ _ t)
-
--- transaction 0 is not unanswered, and is where a write that is not there belongs
-zeroth-answered : (x : History) → isUnanswered x 0 ≡ false
-unfolding isUnanswered tx
-zeroth-answered x = refl
-
-no-op : (x : History) → op x 0 .tx ≡ 0
-unfolding op
-no-op x = refl
 
 -- ── whom operation i makes count ──
 
@@ -57,28 +33,26 @@ module _ {h : List ℕ} {i : ℕ} where
   gain-none t = record { none = λ z. t; some = λ z. absurd (omega arith) }
 
   pub gain-write : op (historyOf h) i .isWrite ≡ true → Gain h i 0
-  gain-write e = gain-none (λ u t a. absurd (clash e (takes-read _ _ u i t)))
+  gain-write e = gain-none (λ u t a. absurd (clash e (takes-iff _ _ u i .0 t .is-read)))
 
   module _ {w : ℕ} (e : w ≡ writeOf (historyOf h) (op (historyOf h) i .key) (op (historyOf h) i .value)) where
     pub gain-unwritten : w ≡ 0 → Gain h i 0
     gain-unwritten z =
         gain-none
-        (λ u t a. let q : u ≡ 0 = sym (rw (← e) at (takes-of _ _ u i t)) ∙ rw z (no-op (historyOf h)) in
-        absurd (clash (rw q at a) (zeroth-answered (historyOf h))))
+        (λ u t a. let q : u ≡ 0 = sym (rw (← e) at (takes-iff _ _ u i .0 t .of-writer)) ∙ rw z (op-0 (historyOf h)) in
+        absurd (omega (arith, unanswered-iff (historyOf h) 0 .0 (rw q at a), status-0 (historyOf h))))
 
     module _ {u : ℕ} (f : u ≡ op (historyOf h) w .tx) where
       gain-old : (isUnanswered (historyOf h) u ≡ true → marked h u ≡ true) → Gain h i 0
-      gain-old m = gain-none (λ y t a. let q : y ≡ u = sym (f ∙ (rw (← e) at (takes-of _ _ y i t))) in rw q (m (rw q at a)))
+      gain-old m = gain-none (λ y t a. let q : y ≡ u = sym (f ∙ (rw (← e) at (takes-iff _ _ y i .0 t .of-writer))) in rw q (m (rw q at a)))
 
       pub gain-answered : (tx (historyOf h) u .status ≡ 2 → ⊥) → Gain h i 0
-      unfolding isUnanswered
-      gain-answered d = gain-old (λ a. absurd (d (eqb-true _ 2 a)))
+      gain-answered d = gain-old (λ a. absurd (d (unanswered-iff (historyOf h) u .0 a)))
 
       pub gain-marked : marked h u ≡ true → Gain h i 0
       gain-marked m = gain-old (λ a. m)
 
       pub gain-new : op (historyOf h) i .isWrite ≡ false → HasTx h u → tx (historyOf h) u .status ≡ 2 → marked h u ≡ false → Gain h i u
-      unfolding isUnanswered takesFrom
       gain-new r p s m =
           record {
             none = λ z. absurd (omega (arith, p .from));
@@ -86,8 +60,8 @@ module _ {h : List ℕ} {i : ℕ} where
                 λ z.
                 record {
                   there = p;
-                  unanswered = eq-eqb _ 2 s;
-                  takes = both _ _ (both _ _ (ap not r) (eq-eqb (op (historyOf h) i .tx) _ refl)) (eq-eqb _ u (rw (← e) (sym f)));
+                  unanswered = unanswered-iff (historyOf h) u .1 s;
+                  takes = takes-iff _ _ u i .1 (record { is-read = r; in-reader = refl; of-writer = rw (← e) (sym f) });
                   new = m;
                 };
           }
@@ -124,10 +98,16 @@ module _ {h q : List ℕ} {n : ℕ} (m : Marks h q n) where
 
     -- "other than itself": the reader is marked, u is not yet
     gain-vouched : vouches (historyOf h) (op (historyOf h) i .tx) u ≡ true
-    unfolding vouches
     gain-vouched =
-        both _ _ (both _ _ (w .unanswered) (ap not (ne-eqb _ u (λ e. clash (rw e at c) (w .new)))))
-        (some-of _ _ 1 i (p .from) (omega (arith, p .to)) (w .takes))
+        vouches-iff _ _ u .1
+        (record {
+          unanswered = unanswered-iff (historyOf h) u .0 (w .unanswered);
+          other = λ e. clash (rw e at c) (w .new);
+          by = i;
+          from = p .from;
+          to = p .to;
+          takes = takes-iff _ _ u i .0 (w .takes);
+        })
 
     module _ {g o : List ℕ} {r : ℕ} (a : Admitted h q n u g o r) where
       marks-u : MarkedAs h g u true
@@ -165,7 +145,7 @@ module _ {h q : List ℕ} {n : ℕ} (m : Marks h q n) where
 
       pub taken-one : TakenUp g i
       taken-one =
-          rw (marks-u .remarked .same) (λ y t b. let e : y ≡ u = sym (takes-of _ _ y i t) ∙ takes-of _ _ u i (w .takes) in rw e (marks-u .this))
+          rw (marks-u .remarked .same) (λ y t b. let e : y ≡ u = sym (takes-iff _ _ y i .0 t .of-writer) ∙ takes-iff _ _ u i .0 (w .takes) .of-writer in rw e (marks-u .this))
 
 -- ── the operations of t ──
 
@@ -178,7 +158,7 @@ pub record Looking (h : List ℕ) (t i : ℕ) : Type 0 where
 -- above the last of t's operations below n there is none
 none-taken : (x : History) (t u n j k : ℕ) → j ≡ lastBelow x t n → j < k → k < n → takesFrom x t u k ≡ true → ⊥
 unfolding lastBelow ofTx
-none-taken x t u n j k e a b c = clash (eq-eqb _ t (takes-in x t u k c)) (last-none (ofTx x t) n k (omega (arith, e)) b)
+none-taken x t u n j k e a b c = clash (eq-eqb _ t (takes-iff x t u k .0 c .in-reader)) (last-none (ofTx x t) n k (omega (arith, e)) b)
 
 module _ {h : List ℕ} {t : ℕ} where
   pub looking-start : {r : ℕ} → Below r (lastOf (historyOf h) t) (opCount (historyOf h) + 1) → Looking h t r
@@ -205,10 +185,9 @@ module _ {h : List ℕ} {t : ℕ} where
       }
 
   pub looking-end : {i : ℕ} → i ≤ 0 → Looking h t i → LookedAt h t
-  unfolding vouches
   looking-end z l u v =
-      let s = some-at _ _ 1 (and-right _ _ v) in
-      l .up u (s .at) (omega (arith, s .from)) (omega (arith, s .to)) (s .passes) (and-left _ _ (and-left _ _ v))
+      let s = vouches-iff (historyOf h) t u .0 v in
+      l .up u (s .by) (omega (arith, s .from)) (s .to) (takes-iff (historyOf h) t u (s .by) .1 (s .takes)) (unanswered-iff (historyOf h) u .1 (s .unanswered))
 
 -- ── the queue ──
 
@@ -237,12 +216,11 @@ module _ {f h q : List ℕ} {n j : ℕ} (s : Going f h q n j) where
 
   -- transaction 0 has no operation
   zeroth-reads : (u : ℕ) → vouches (historyOf h) 0 u ≡ false
-  unfolding vouches
   zeroth-reads u =
       is-false _
       (λ v.
-      let k = some-at _ _ 1 (and-right _ _ v) in
-      omega (arith, takes-in _ 0 u (k .at) (k .passes), s .marks .held .txs-in (k .at) (k .from) (omega (arith, k .to)) .0))
+      let k = vouches-iff (historyOf h) 0 u .0 v in
+      omega (arith, k .takes .in-reader, s .marks .held .txs-in (k .by) (k .from) (k .to) .0))
 
   pub going-end : n ≤ j → Ends f h
   going-end l =

@@ -1,6 +1,6 @@
 #!/bin/sh
 # Turns judge's answer (standard input) into a Graphviz digraph of the pairs that are listed at one level: draw.sh rc|ra|tcc
-# Edge labels are the reasons by name; reads that are unclean hang on their transaction as boxes.
+# Edge labels are the reasons by name; reads that are unclean hang on their transaction as boxes, with the number of the write that the value came from.
 level=${1:?usage: draw.sh rc|ra|tcc < answer}
 awk -v level="$level" '
 function names(n,   s) {
@@ -18,7 +18,8 @@ BEGIN {
 }
 $1 == "rc" || $1 == "ra" || $1 == "tcc" { here = ($1 == level) }
 here && $1 == "read" {
-    printf "  r%s [shape=box, label=\"read %s: %s\"];\n  %s -> r%s [dir=none, style=dotted];\n", $3, $3, kind[$4], $2, $3
+    from = $5 ? ", from write " $5 : ""
+    printf "  r%s [shape=box, label=\"read %s: %s%s\"];\n  %s -> r%s [dir=none, style=dotted];\n", $3, $3, kind[$4], from, $2, $3
 }
 here && $1 == "pair" { printf "  %s -> %s [label=\"%s\"];\n", $2, $3, names($4) }
 END { print "}" }'

@@ -17,7 +17,8 @@
 //!
 //! then (t2, t1) is in CO. Transaction 0 is first in SO. The kinds of reads and
 //! the lists of a rejection follow their definitions by plain loops and plain
-//! search; nothing is shared with [`crate::graph`].
+//! search, that for a read's write through all operations; nothing is shared
+//! with [`crate::graph`].
 
 use crate::report::{Finding, Level, Pair, Verdict, READ, RIVAL, SESSION, START};
 use crate::trace::{Operation, Status, Trace, MAX_TRANSACTIONS};
@@ -94,6 +95,46 @@ pub fn answered(trace: &Trace) -> Option<Vec<Trace>> {
         answered
     };
     Some(Choices::few(trace)?.all().map(enter).collect())
+}
+
+/// The findings by their definitions alone, for any number of transactions,
+/// given those that count.
+pub fn findings(trace: &Trace, counted: &[u8]) -> Vec<Finding> {
+    Small::with_reads(trace, counted.to_vec()).findings
+}
+
+/// Whether the last field of a finding is as it has to be, given the
+/// transactions that count: 0 exactly for kind 1 and for kind 5 with value 0,
+/// no write having the read's key and value; or else the number of the only
+/// write that has, which stands where the kind says.
+pub fn tells_write(trace: &Trace, counted: &[u8], finding: &Finding) -> bool {
+    let read = trace.operation(finding.operation);
+    let writes = writes_of_value(trace, read);
+    if finding.kind == 1 || finding.kind == 5 && read.value == 0 {
+        return finding.write == 0 && writes.is_empty();
+    }
+    if writes != [finding.write] {
+        return false;
+    }
+    let author = trace.operation(finding.write).transaction;
+    let is_own = author == read.transaction;
+    let counts = counted.contains(&author);
+    match finding.kind {
+        2 => !is_own && !counts,
+        3 => is_own && finding.write > finding.operation,
+        4 => is_own && finding.write < finding.operation,
+        5 | 6 => !is_own && counts,
+        _ => false,
+    }
+}
+
+/// The numbers of all writes that have the key and the value of a read.
+fn writes_of_value(trace: &Trace, read: &Operation) -> Vec<u16> {
+    (1..)
+        .zip(&trace.operations)
+        .filter(|(_, w)| w.is_write && (w.key, w.value) == (read.key, read.value))
+        .map(|(number, _)| number)
+        .collect()
 }
 
 /// The findings, and the listed pairs of the level, by their definitions alone
@@ -205,6 +246,16 @@ struct Small<'a> {
 
 impl<'a> Small<'a> {
     fn new(trace: &'a Trace, counted: Vec<u8>) -> Small<'a> {
+        let mut small = Small::with_reads(trace, counted);
+        small.so_or_wr = Relation::new(&small.counted, |a, b| {
+            small.start(a, b) || small.session(a, b) || small.wr(a, b)
+        });
+        small.causal = Relation::new(&small.counted, |a, b| small.leads(a, b, &small.so_or_wr));
+        small
+    }
+
+    /// The findings and the clean external reads; the relations are still empty.
+    fn with_reads(trace: &'a Trace, counted: Vec<u8>) -> Small<'a> {
         let mut small = Small {
             trace,
             counted,
@@ -217,11 +268,13 @@ impl<'a> Small<'a> {
             if operation.is_write || !small.counted.contains(&operation.transaction) {
                 continue;
             }
-            match small.kind(index, operation) {
+            let write = small.write_read(operation);
+            match small.kind(index, operation, write) {
                 Read::Unclean(kind) => small.findings.push(Finding {
                     transaction: operation.transaction,
                     kind,
                     operation: index as u16 + 1,
+                    write: write.map_or(0, |(at, _)| at as u16 + 1),
                 }),
                 Read::Internal => {}
                 Read::From(source) => small.reads.push(ExternalRead {
@@ -232,11 +285,16 @@ impl<'a> Small<'a> {
                 }),
             }
         }
-        small.so_or_wr = Relation::new(&small.counted, |a, b| {
-            small.start(a, b) || small.session(a, b) || small.wr(a, b)
-        });
-        small.causal = Relation::new(&small.counted, |a, b| small.leads(a, b, &small.so_or_wr));
         small
+    }
+
+    /// The write that has the read's key and value: its index and whose it is.
+    fn write_read(&self, read: &Operation) -> Option<(usize, u8)> {
+        let writes = writes_of_value(self.trace, read);
+        assert!(writes.len() <= 1, "no write repeats a key and value");
+        let number = *writes.first()?;
+        let author = self.trace.operation(number).transaction;
+        Some((usize::from(number) - 1, author))
     }
 
     /// The indexes of the writes of `key` by transaction `t`.
@@ -252,13 +310,9 @@ impl<'a> Small<'a> {
     }
 
     /// The six rules, one after another, each in the words of its row.
-    fn kind(&self, index: usize, read: &Operation) -> Read {
-        let (t, key, value) = (read.transaction, read.key, read.value);
-        let write = self
-            .operations()
-            .find(|(_, w)| w.is_write && value != 0 && (w.key, w.value) == (key, value))
-            .map(|(at, w)| (at, w.transaction));
-        if value != 0 && write.is_none() {
+    fn kind(&self, index: usize, read: &Operation, write: Option<(usize, u8)>) -> Read {
+        let (t, key) = (read.transaction, read.key);
+        if read.value != 0 && write.is_none() {
             return Read::Unclean(1);
         }
         if write.is_some_and(|(_, author)| author != t && !self.counted.contains(&author)) {

@@ -1,5 +1,6 @@
 //! Traces whose answers are known: those of the specification, worked there by
-//! hand, its edges, and unanswered commits, each with what `judge` has to print.
+//! hand, its edges, unanswered commits, and the writes of unclean reads, each
+//! with what `judge` has to print.
 
 use crate::encode::Writer;
 use crate::text;
@@ -19,6 +20,10 @@ pub fn all() -> Vec<Case> {
     cases.extend(unanswered());
     cases.extend(unanswered_pairs());
     cases.extend(unanswered_chains());
+    cases.extend(which_write());
+    cases.extend(which_write_unanswered());
+    cases.extend(which_write_by_number());
+    cases.extend(many_findings());
     cases.extend(limits());
     cases.extend(framing());
     cases.extend(order_of_checks());
@@ -57,24 +62,28 @@ pub fn document() -> Vec<Case> {
     vec![
         written("P1", "", same("accepted 0")),
         refused("P2", vec![], 3, 0),
-        written("P3", "T1 r1=5", same("rejected 1 0\nread 1 1 1")),
+        written("P3", "T1 r1=5", same("rejected 1 0\nread 1 1 1 0")),
         written("P4", "T1 r1=0", same("accepted 0 1")),
         written(
             "P5",
             "T1 w1=5 aborted; T2 r1=5",
-            same("rejected 1 0\nread 2 2 2"),
+            same("rejected 1 0\nread 2 2 2 1"),
         ),
-        written("P6", "T1 r1=5 w1=5", same("rejected 1 0\nread 1 1 3")),
-        written("P7", "T1 w1=5 w1=6 r1=5", same("rejected 1 0\nread 1 3 4")),
+        written("P6", "T1 r1=5 w1=5", same("rejected 1 0\nread 1 1 3 2")),
+        written(
+            "P7",
+            "T1 w1=5 w1=6 r1=5",
+            same("rejected 1 0\nread 1 3 4 1"),
+        ),
         written(
             "P8",
             "T1 w1=5; T2 w1=6 r1=5",
-            same("rejected 1 0\nread 2 3 5"),
+            same("rejected 1 0\nread 2 3 5 1"),
         ),
         written(
             "P9",
             "T1 w1=5 w1=6; T2 r1=5",
-            same("rejected 1 0\nread 2 3 6"),
+            same("rejected 1 0\nread 2 3 6 1"),
         ),
         written(
             "P10",
@@ -136,7 +145,7 @@ pub fn fine_points() -> Vec<Case> {
         written(
             "pairs beside a finding",
             "T1 r2=7 w1=5 r3=3; T2 r1=5 w2=7",
-            same("rejected 1 2\nread 1 3 1\npair 1 2 4\npair 2 1 4"),
+            same("rejected 1 2\nread 1 3 1 0\npair 1 2 4\npair 2 1 4"),
         ),
         written(
             "sums of reasons",
@@ -167,17 +176,17 @@ pub fn fine_points() -> Vec<Case> {
         written(
             "kind 5 by value 0",
             "T1 w1=5 r1=0",
-            same("rejected 1 0\nread 1 2 5"),
+            same("rejected 1 0\nread 1 2 5 0"),
         ),
         written(
             "kind 5 before 6",
             "T1 w1=5 w1=6; T2 w1=7 r1=5",
-            same("rejected 1 0\nread 2 4 5"),
+            same("rejected 1 0\nread 2 4 5 1"),
         ),
         written(
             "kind 2 before 5",
             "T1 w1=5 aborted; T2 w1=6 r1=5",
-            same("rejected 1 0\nread 2 3 2"),
+            same("rejected 1 0\nread 2 3 2 1"),
         ),
     ]
 }
@@ -204,7 +213,7 @@ pub fn unanswered() -> Vec<Case> {
         written(
             "unanswered, its value read of another key",
             "T1 w1=5 unanswered; T2 r2=5",
-            same("rejected 1 0\nread 2 2 1"),
+            same("rejected 1 0\nread 2 2 1 0"),
         ),
         written("unanswered alone", "T1 unanswered", same("accepted 0")),
         written(
@@ -225,7 +234,7 @@ pub fn unanswered() -> Vec<Case> {
         written(
             "unanswered, read by an aborted one that is read",
             "T1 w1=5 unanswered; T2 r1=5 w2=6 aborted; T3 r2=6",
-            same("rejected 1 0\nread 3 4 2"),
+            same("rejected 1 0\nread 3 4 2 3"),
         ),
         written(
             "unanswered, read by an unanswered one that is read",
@@ -260,22 +269,22 @@ pub fn unanswered() -> Vec<Case> {
         written(
             "unanswered, its intermediate value read",
             "T1 w1=5 w1=6 unanswered; T2 r1=5",
-            same("rejected 1 0\nread 2 3 6"),
+            same("rejected 1 0\nread 2 3 6 1"),
         ),
         written(
             "unanswered, read as not my own",
             "T1 w1=5 unanswered; T2 w1=6 r1=5",
-            same("rejected 1 0\nread 2 3 5"),
+            same("rejected 1 0\nread 2 3 5 1"),
         ),
         written(
             "unanswered, an aborted one's value read",
             "T1 w1=5 aborted; T2 r1=5 w2=6 unanswered; T3 r2=6",
-            same("rejected 1 0\nread 2 2 2"),
+            same("rejected 1 0\nread 2 2 2 1"),
         ),
         written(
             "unanswered, counted: its own reads are judged",
             "T1 r9=9 r1=5 w1=5 w2=6 unanswered; T2 r2=6",
-            same("rejected 2 0\nread 1 1 1\nread 1 2 3"),
+            same("rejected 2 0\nread 1 1 1 0\nread 1 2 3 3"),
         ),
         written(
             "unanswered, not counted: its own reads are not judged",
@@ -306,16 +315,16 @@ pub fn unanswered_pairs() -> Vec<Case> {
             "unanswered, counted by an intermediate read",
             "T1 s1 w1=5 w1=6 w2=7 unanswered; T2 r1=5; T3 s1 r2=0",
             rc_and_others(
-                "rejected 1 0\nread 2 4 6",
-                "rejected 1 2\nread 2 4 6\npair 0 1 1\npair 1 0 8",
+                "rejected 1 0\nread 2 4 6 1",
+                "rejected 1 2\nread 2 4 6 1\npair 0 1 1\npair 1 0 8",
             ),
         ),
         written(
             "unanswered, counted by a read that is not my own",
             "T1 s1 w1=5 w2=7 unanswered; T2 w1=6 r1=5; T3 s1 r2=0",
             rc_and_others(
-                "rejected 1 0\nread 2 4 5",
-                "rejected 1 2\nread 2 4 5\npair 0 1 1\npair 1 0 8",
+                "rejected 1 0\nread 2 4 5 1",
+                "rejected 1 2\nread 2 4 5 1\npair 0 1 1\npair 1 0 8",
             ),
         ),
         // T2 counts by T3's unclean read, and T1 by T2.
@@ -323,8 +332,8 @@ pub fn unanswered_pairs() -> Vec<Case> {
             "unanswered, counted by way of an intermediate read",
             "T1 s1 w1=5 w2=7 unanswered; T2 r1=5 w3=8 w3=9 unanswered; T3 r3=8; T4 s1 r2=0",
             rc_and_others(
-                "rejected 1 0\nread 3 6 6",
-                "rejected 1 2\nread 3 6 6\npair 0 1 9\npair 1 0 8",
+                "rejected 1 0\nread 3 6 6 4",
+                "rejected 1 2\nread 3 6 6 4\npair 0 1 9\npair 1 0 8",
             ),
         ),
         written(
@@ -417,7 +426,7 @@ pub fn unanswered_chains() -> Vec<Case> {
         written(
             "chain of unanswered ones with an aborted one in it",
             "T1 w1=1 unanswered; T2 r1=1 w1=2 aborted; T3 r1=2 w1=3 unanswered; T4 r1=3",
-            same("rejected 1 0\nread 3 4 2"),
+            same("rejected 1 0\nread 3 4 2 3"),
         ),
         chain(
             "chain of 126, each read by the next",
@@ -448,6 +457,275 @@ pub fn unanswered_chains() -> Vec<Case> {
             "127 unanswered, each reads the next",
             each_reads_next(most, Status::Unanswered),
             "accepted 0",
+        ),
+    ]
+}
+
+/// Which write an unclean value came from, kind by kind, worked by hand.
+pub fn which_write() -> Vec<Case> {
+    vec![
+        written(
+            "kind 1, key and value written, but not together",
+            "T1 w1=5 w2=6; T2 r1=6 r2=5",
+            same("rejected 2 0\nread 2 3 1 0\nread 2 4 1 0"),
+        ),
+        written(
+            "kind 1 before and behind kind 2",
+            "T1 w1=5 aborted; T2 r1=6 r1=5 r1=7",
+            same("rejected 3 0\nread 2 2 1 0\nread 2 3 2 1\nread 2 4 1 0"),
+        ),
+        written(
+            "kind 2, two writes before their reads",
+            "T1 w9=1; T2 w1=5 w1=6 aborted; T3 r1=5 r1=6",
+            same("rejected 2 0\nread 3 4 2 2\nread 3 5 2 3"),
+        ),
+        written(
+            "kind 2, the write behind the read",
+            "T1 r1=5 w2=1; T2 w3=1 w1=5 aborted",
+            same("rejected 1 0\nread 1 1 2 4"),
+        ),
+        written(
+            "kind 2, the value written to three keys",
+            "T1 w2=5 w1=5 w3=5 aborted; T2 r1=5",
+            same("rejected 1 0\nread 2 4 2 2"),
+        ),
+        // The values differ by 2 to the 32nd, the keys by 2 to the 24th.
+        written(
+            "kind 2, values that differ in their high halves",
+            "T1 w1=4294967301 w1=5 aborted; T2 r1=5 r1=4294967301",
+            same("rejected 2 0\nread 2 3 2 2\nread 2 4 2 1"),
+        ),
+        written(
+            "kind 2, keys that differ in their high bytes",
+            "T1 w16777217=5 w1=5 aborted; T2 r1=5 r16777217=5",
+            same("rejected 2 0\nread 2 3 2 2\nread 2 4 2 1"),
+        ),
+        written(
+            "kind 3, other writes between",
+            "T1 w1=1; T2 r2=5 w1=2 w3=5 w2=5",
+            same("rejected 1 0\nread 2 2 3 5"),
+        ),
+        written(
+            "kind 3 twice from one write, behind an own one",
+            "T1 w1=4; T2 w1=5 r1=6 r1=6 w1=6",
+            same("rejected 2 0\nread 2 3 3 5\nread 2 4 3 5"),
+        ),
+        // The read of 2=5 is clean: key 2 is not written again.
+        written(
+            "kind 4 from two writes, one of them twice",
+            "T1 w9=1; T2 w1=5 w2=5 w1=6 r2=5 r1=5 w1=7 r1=6 r1=5",
+            same("rejected 3 0\nread 2 6 4 2\nread 2 8 4 4\nread 2 9 4 2"),
+        ),
+        written(
+            "kinds 3 and 4 from one write",
+            "T1 r1=5 w1=5 w1=6 r1=5",
+            same("rejected 2 0\nread 1 1 3 2\nread 1 4 4 2"),
+        ),
+        written(
+            "kind 5 with value 0 beside kind 5 with a written value",
+            "T1 w1=5; T2 w1=6 r1=0 r1=5 r1=0",
+            same("rejected 3 0\nread 2 3 5 0\nread 2 4 5 1\nread 2 5 5 0"),
+        ),
+        written(
+            "kind 5, the writes behind the reads",
+            "T1 w1=6 r1=5 r1=7; T2 w2=1 w1=5; T3 w1=7",
+            same("rejected 2 0\nread 1 2 5 5\nread 1 3 5 6"),
+        ),
+        written(
+            "kind 5, the last value and one before it",
+            "T1 w1=5 w1=6; T2 w1=7 r1=6 r1=5",
+            same("rejected 2 0\nread 2 4 5 2\nread 2 5 5 1"),
+        ),
+        written(
+            "kind 6, the writes before their reads",
+            "T1 w2=9 w1=5 w1=6 w1=7; T2 r1=6 r1=5",
+            same("rejected 2 0\nread 2 5 6 3\nread 2 6 6 2"),
+        ),
+        written(
+            "kind 6, the write behind the read",
+            "T1 r1=5; T2 w1=5 w2=1 w1=6",
+            same("rejected 1 0\nread 1 1 6 2"),
+        ),
+        written(
+            "kinds 5 and 6 from one write",
+            "T1 r1=5; T2 w1=5 w1=6; T3 w1=7 r1=5",
+            same("rejected 2 0\nread 1 1 6 2\nread 3 5 5 2"),
+        ),
+        written(
+            "one write, reads that are judged and reads that are not",
+            "T1 w1=5 w1=6; T2 r1=5 aborted; T3 r1=5 unanswered; T4 r1=5; T5 r1=5",
+            same("rejected 2 0\nread 4 5 6 1\nread 5 6 6 1"),
+        ),
+        written(
+            "every kind in one transaction",
+            "T1 w1=1 aborted; T2 w2=1 w2=2; \
+             T3 r9=9 r1=1 r3=3 w3=3 w3=4 r3=3 r3=0 r2=1 r3=5; T4 w3=5",
+            same(
+                "rejected 7 0\nread 3 4 1 0\nread 3 5 2 1\nread 3 6 3 7\nread 3 9 4 7\n\
+                 read 3 10 5 0\nread 3 11 6 2\nread 3 12 5 13",
+            ),
+        ),
+        written(
+            "writes told beside pairs",
+            "T1 r2=7 w1=5 w1=6 r1=5; T2 r1=6 w2=7 r3=1 w3=1",
+            same("rejected 2 2\nread 1 4 4 2\nread 2 7 3 8\npair 1 2 4\npair 2 1 4"),
+        ),
+        written(
+            "notes are not numbered with operations",
+            r#"note "a"; T1 note "b" w2=1 note "c" w1=5 aborted; note "d"; T2 note "e" r1=5"#,
+            same("rejected 1 0\nread 2 3 2 2"),
+        ),
+    ]
+}
+
+/// The same with unanswered commits. The writer of a kind 2 is never one of
+/// them: it would count by the very read that is judged.
+pub fn which_write_unanswered() -> Vec<Case> {
+    vec![
+        written(
+            "kind 6, an unanswered writer behind the read",
+            "T1 r1=5; T2 w1=4 w1=5 w1=6 unanswered",
+            same("rejected 1 0\nread 1 1 6 3"),
+        ),
+        written(
+            "kind 5, an unanswered writer behind the read",
+            "T1 w1=6 r1=5; T2 w2=1 w1=5 unanswered",
+            same("rejected 1 0\nread 1 2 5 4"),
+        ),
+        written(
+            "kinds 5 and 6 from one write of an unanswered one",
+            "T1 w1=5 w1=6 unanswered; T2 w1=7 r1=5; T3 r1=5",
+            same("rejected 2 0\nread 2 4 5 1\nread 3 5 6 1"),
+        ),
+        written(
+            "kind 2 in an unanswered one that counts, the write behind the read",
+            "T1 r1=5 w2=6 unanswered; T2 r2=6; T3 w3=1 w1=5 aborted",
+            same("rejected 1 0\nread 1 1 2 5"),
+        ),
+        written(
+            "kinds 3 and 4 in an unanswered one that counts",
+            "T1 w9=1; T2 r1=5 w1=5 w1=6 r1=5 unanswered; T3 r1=6",
+            same("rejected 2 0\nread 2 2 3 3\nread 2 5 4 3"),
+        ),
+        // T3 counts by T4, and T2 by T3's unclean read.
+        written(
+            "kind 6 in an unanswered one, from an unanswered one",
+            "T1 w9=1; T2 w1=5 w1=6 unanswered; T3 r1=5 w2=7 unanswered; T4 r2=7",
+            same("rejected 1 0\nread 3 4 6 2"),
+        ),
+        // T2 does not count, so its read is no reason for T1 to count either.
+        written(
+            "an intermediate value read by an unanswered one that does not count",
+            "T1 w1=5 w1=6 unanswered; T2 r1=5 w2=7 unanswered; T3 r2=8",
+            same("rejected 1 0\nread 3 5 1 0"),
+        ),
+    ]
+}
+
+/// An operation for each value, in the notation: `each("w1=", 5..=6)` has two.
+fn each(operation: &str, values: impl Iterator<Item = u16>) -> String {
+    values.map(|value| format!(" {operation}{value}")).collect()
+}
+
+/// Operation numbers of one byte and of two. A filler is that many writes which
+/// nobody reads.
+pub fn which_write_by_number() -> Vec<Case> {
+    let filler = |count: u16| each("w9=", 1..=count);
+    vec![
+        written(
+            "write 255, read 256",
+            &format!("T1{}; T2 w1=5 aborted; T3 r1=5", filler(254)),
+            same("rejected 1 0\nread 3 256 2 255"),
+        ),
+        written(
+            "write 256, read 258, kind 6",
+            &format!("T1{}; T2 w1=5 w1=6; T3 r1=5", filler(255)),
+            same("rejected 1 0\nread 3 258 6 256"),
+        ),
+        written(
+            "write 256, read 258, kind 4",
+            &format!("T1{}; T2 w1=5 w1=6 r1=5", filler(255)),
+            same("rejected 1 0\nread 2 258 4 256"),
+        ),
+        written(
+            "read 255, write 256",
+            &format!("T1{} r1=5 w1=5", filler(254)),
+            same("rejected 1 0\nread 1 255 3 256"),
+        ),
+        written(
+            "read 256, write 257",
+            &format!("T1{} r1=5 w1=5", filler(255)),
+            same("rejected 1 0\nread 1 256 3 257"),
+        ),
+        written(
+            "read 2, write 256, and a read of 0",
+            &format!("T1 w1=6 r1=5 r1=0; T2{} w1=5", filler(252)),
+            same("rejected 2 0\nread 1 2 5 256\nread 1 3 5 0"),
+        ),
+        written(
+            "read 1, write 257: the same low byte",
+            &format!("T1 r1=5; T2{} w1=5 aborted", filler(255)),
+            same("rejected 1 0\nread 1 1 2 257"),
+        ),
+        written(
+            "read 1, write 512",
+            &format!("T1 r1=5; T2{} w1=5 w1=6", filler(510)),
+            same("rejected 1 0\nread 1 1 6 512"),
+        ),
+        written(
+            "write 301 of an unanswered one, reads 304 and 305",
+            &format!(
+                "T1{}; T2 w1=5 w1=6 unanswered; T3 w1=7 r1=5; T4 r1=5",
+                filler(300)
+            ),
+            same("rejected 2 0\nread 3 304 5 301\nread 4 305 6 301"),
+        ),
+        written(
+            "read 1, write 1,024",
+            &format!("T1 r1=5; T2{} w1=5 aborted", filler(1_022)),
+            same("rejected 1 0\nread 1 1 2 1024"),
+        ),
+        written(
+            "write 1, read 1,024",
+            &format!("T1 w1=5 aborted; T2{}; T3 r1=5", filler(1_022)),
+            same("rejected 1 0\nread 3 1024 2 1"),
+        ),
+        written(
+            "read 1,023, write 1,024",
+            &format!("T1{} r1=5 w1=5", filler(1_022)),
+            same("rejected 1 0\nread 1 1023 3 1024"),
+        ),
+        written(
+            "read 1,024 and no write",
+            &format!("T1{} r1=5", filler(1_023)),
+            same("rejected 1 0\nread 1 1024 1 0"),
+        ),
+    ]
+}
+
+/// As many findings as there can be, without writes and with one for each.
+pub fn many_findings() -> Vec<Case> {
+    let rejected = |count: u16, line: &dyn Fn(u16) -> String| {
+        let lines: String = (1..=count).map(|n| format!("\n{}", line(n))).collect();
+        same(&format!("rejected {count} 0{lines}"))
+    };
+    let writes = each("w1=", 1..=512);
+    vec![
+        written(
+            "1,024 findings without a write",
+            &format!("T1{}", each("r1=", 1..=1_024)),
+            rejected(1_024, &|n| format!("read 1 {n} 1 0")),
+        ),
+        written(
+            "512 reads, then their writes",
+            &format!("T1{}{writes}", each("r1=", 1..=512)),
+            rejected(512, &|n| format!("read 1 {n} 3 {}", 512 + n)),
+        ),
+        // The first read has the last write, and so on.
+        written(
+            "512 writes, then their reads backwards",
+            &format!("T1{writes} aborted; T2{}", each("r1=", (1..=512).rev())),
+            rejected(512, &|n| format!("read 2 {} 2 {}", 512 + n, 513 - n)),
         ),
     ]
 }

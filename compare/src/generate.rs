@@ -13,18 +13,20 @@ pub enum Origin {
     Small,
     Medium,
     Large,
+    Unclean,
     Unanswered,
     Damaged,
 }
 
 impl Origin {
-    pub const ALL: [Origin; 8] = [
+    pub const ALL: [Origin; 9] = [
         Origin::Case,
         Origin::Bytes,
         Origin::Records,
         Origin::Small,
         Origin::Medium,
         Origin::Large,
+        Origin::Unclean,
         Origin::Unanswered,
         Origin::Damaged,
     ];
@@ -37,6 +39,7 @@ impl Origin {
             Origin::Small => "plausible, small",
             Origin::Medium => "plausible, medium",
             Origin::Large => "plausible, large",
+            Origin::Unclean => "mostly unclean reads",
             Origin::Unanswered => "unanswered, interwoven",
             Origin::Damaged => "damaged",
         }
@@ -48,7 +51,8 @@ pub fn any(random: &mut Random) -> (Origin, Vec<u8>) {
     match random.below(100) {
         0..=3 => (Origin::Bytes, bytes(random)),
         4..=11 => (Origin::Records, records(random)),
-        12..=47 => (Origin::Small, Shape::small(random).trace(random)),
+        12..=41 => (Origin::Small, Shape::small(random).trace(random)),
+        42..=47 => (Origin::Unclean, Shape::unclean(random).trace(random)),
         48..=58 => (Origin::Medium, Shape::medium(random).trace(random)),
         59..=62 => (Origin::Large, Shape::large(random).trace(random)),
         63..=81 => (Origin::Unanswered, Web::drawn(random).trace(random)),
@@ -206,6 +210,21 @@ impl Shape {
         shape.operations = *random.pick(&[1_023, 1_024, 1_024, 1_024, 1_025]);
         shape.notes = *random.pick(&[0, 0, 2]);
         shape
+    }
+
+    /// Of any size, and most reads get any value of few keys: findings of every
+    /// kind, with their writes anywhere.
+    fn unclean(random: &mut Random) -> Shape {
+        let shape = match random.below(6) {
+            0 => Shape::large(random),
+            1 | 2 => Shape::medium(random),
+            _ => Shape::small(random),
+        };
+        Shape {
+            keys: random.from_to(1, 3),
+            wild: *random.pick(&[60, 90, 100]),
+            ..shape
+        }
     }
 
     /// A trace of this shape.

@@ -71,26 +71,28 @@ impl History {
 
     /// Gives every read of a counted transaction its kind.
     fn judge_reads(&mut self, trace: &Trace, write_read: &[Option<u16>], keys: &Keys) {
-        // The last write so far of each key, by any transaction. Transactions
-        // do not overlap, so a transaction's own writes hide no other it needs.
+        // The number of the last write so far of each key, by any transaction.
+        // Transactions do not overlap, so a transaction's own writes hide no
+        // other it needs.
         let mut last_write: Vec<Option<u16>> = vec![None; keys.writers.len()];
         for (index, operation) in trace.operations.iter().enumerate() {
+            let number = index as u16 + 1;
             let slot = usize::from(keys.slot_of[index]);
             if operation.is_write {
-                last_write[slot] = Some(index as u16);
+                last_write[slot] = Some(number);
                 continue;
             }
             let reader = operation.transaction;
             if self.counted & only(reader) == 0 {
                 continue;
             }
-            let author = |write: u16| trace.operations[usize::from(write)].transaction;
+            let author = |write: u16| trace.operation(write).transaction;
             let own_last = last_write[slot].filter(|&write| author(write) == reader);
             let write = write_read[index];
             let kind = match write {
                 None if operation.value != 0 => 1,
                 Some(write) if author(write) == reader => {
-                    if usize::from(write) > index {
+                    if write > number {
                         3
                     } else if own_last != Some(write) {
                         4
@@ -100,7 +102,7 @@ impl History {
                 }
                 Some(write) if self.counted & only(author(write)) == 0 => 2,
                 _ if own_last.is_some() => 5,
-                Some(write) if keys.written_again[usize::from(write)] => 6,
+                Some(write) if keys.written_again[usize::from(write) - 1] => 6,
                 _ => {
                     let source = write.map_or(0, author);
                     self.source_before[usize::from(reader)] |= only(source);
@@ -115,7 +117,8 @@ impl History {
             self.findings.push(Finding {
                 transaction: reader,
                 kind,
-                operation: index as u16 + 1,
+                operation: number,
+                write: write.unwrap_or(0),
             });
         }
     }
@@ -233,8 +236,8 @@ pub fn counted(trace: &Trace) -> Vec<u8> {
 struct Counting {
     /// Transaction 0 and all that count.
     counted: Set,
-    /// For each read of one that counts, the write of its key and value; none
-    /// for value 0 too, which no write has.
+    /// For each read of one that counts, the number of the write that has its
+    /// key and value, if there is one.
     write_read: Vec<Option<u16>>,
 }
 
@@ -269,11 +272,9 @@ impl Counting {
             if operation.is_write {
                 continue;
             }
-            let write = trace.writes.get(&(operation.key, operation.value)).copied();
+            let write = trace.find_write(operation.key, operation.value);
             self.write_read[index] = write;
-            sources |= write.map_or(0, |write| {
-                only(trace.operations[usize::from(write)].transaction)
-            });
+            sources |= write.map_or(0, |write| only(trace.operation(write).transaction));
         }
         sources
     }

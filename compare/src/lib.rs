@@ -1,9 +1,9 @@
 //! An independent judge and writer of transaction traces.
 //!
 //! It is written from the specification alone, `01-scope.md` and the requests
-//! for a writer and for unanswered commits, to be compared with the proved judge
-//! and writer: the two sides share no code, so a mistake would have to be made
-//! twice, in the same way, to stay unseen.
+//! for a writer, for unanswered commits and for the writes of unclean reads, to
+//! be compared with the proved judge and writer: the two sides share no code, so
+//! a mistake would have to be made twice, in the same way, to stay unseen.
 //!
 //! * [`trace`] reads the bytes of a trace, or says why they are refused;
 //! * [`graph`] decides by forced pairs, for any trace, and is meant to be fast;

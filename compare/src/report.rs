@@ -36,6 +36,25 @@ pub struct Finding {
     pub transaction: u8,
     pub kind: u8,
     pub operation: u16,
+    /// The number of the write that has the read's key and value, or 0 if no
+    /// write has: for kind 1, and for kind 5 with value 0.
+    pub write: u16,
+}
+
+impl Finding {
+    /// Its form in a buffer.
+    pub fn bytes(&self) -> [u8; 6] {
+        let [low, high] = self.operation.to_le_bytes();
+        let [write_low, write_high] = self.write.to_le_bytes();
+        [
+            self.transaction,
+            self.kind,
+            low,
+            high,
+            write_low,
+            write_high,
+        ]
+    }
 }
 
 /// A forced pair that lies on a cycle.
@@ -57,6 +76,16 @@ pub enum Verdict {
         findings: Vec<Finding>,
         pairs: Vec<Pair>,
     },
+}
+
+impl Verdict {
+    /// The findings; an accepted trace has none.
+    pub fn findings(&self) -> &[Finding] {
+        match self {
+            Verdict::Accepted(_) => &[],
+            Verdict::Rejected { findings, .. } => findings,
+        }
+    }
 }
 
 /// What the program `judge` prints: a block a level, or the refusal alone.
@@ -83,8 +112,8 @@ fn print_block(out: &mut String, level: &str, verdict: &Verdict) {
             let (found, listed) = (findings.len(), pairs.len());
             line(out, format_args!("{level} rejected {found} {listed}"));
             for f in findings {
-                let (t, op, kind) = (f.transaction, f.operation, f.kind);
-                line(out, format_args!("read {t} {op} {kind}"));
+                let (t, op, kind, write) = (f.transaction, f.operation, f.kind, f.write);
+                line(out, format_args!("read {t} {op} {kind} {write}"));
             }
             for p in pairs {
                 let (a, b, reasons) = (p.first, p.second, p.reasons);

@@ -9,7 +9,7 @@
 //! See [`GRAMMAR`] for the whole of it.
 
 use crate::encode::Writer;
-use crate::trace::{self, Refusal, Trace};
+use crate::trace::{self, Operation, Refusal, Status, Trace};
 use crate::writing::{self, Step};
 use std::collections::HashSet;
 use std::fmt;
@@ -164,6 +164,25 @@ pub fn decode(bytes: &[u8]) -> Result<String, Refusal> {
         }
     }
     Ok(out)
+}
+
+/// The operations of a trace that is not refused, a line each: the number by
+/// which findings name it, its transaction, and what it does; behind them what
+/// became of the transaction, if it did not commit.
+pub fn operations(bytes: &[u8]) -> Result<String, Refusal> {
+    let trace = Trace::parse(bytes)?;
+    let line = |(index, operation): (usize, &Operation)| {
+        let (number, t) = (index + 1, operation.transaction);
+        let letter = if operation.is_write { 'w' } else { 'r' };
+        let (key, value) = (operation.key, operation.value);
+        let end = match trace.transactions[usize::from(t) - 1].status {
+            Status::Committed => "",
+            Status::Aborted => " aborted",
+            Status::Unanswered => " unanswered",
+        };
+        format!("{number} T{t} {letter}{key}={value}{end}\n")
+    };
+    Ok(trace.operations.iter().enumerate().map(line).collect())
 }
 
 fn quote(text: &[u8]) -> String {

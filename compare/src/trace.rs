@@ -94,8 +94,8 @@ pub struct Transaction {
 pub struct Trace {
     pub transactions: Vec<Transaction>,
     pub operations: Vec<Operation>,
-    /// The index of the only operation that writes this key and value.
-    pub writes: FastMap<(u32, u64), u16>,
+    /// The number of the only operation that writes this key and value.
+    writes: FastMap<(u32, u64), u16>,
 }
 
 impl Trace {
@@ -140,6 +140,17 @@ impl Trace {
             });
         }
         Ok(trace)
+    }
+
+    /// The number of the write that has this key and value, whatever became of
+    /// its transaction; none for value 0, which no write has.
+    pub fn find_write(&self, key: u32, value: u64) -> Option<u16> {
+        self.writes.get(&(key, value)).copied()
+    }
+
+    /// The operation with this number.
+    pub fn operation(&self, number: u16) -> &Operation {
+        &self.operations[usize::from(number) - 1]
     }
 
     /// The numbers of the transactions with this status, ascending.
@@ -194,11 +205,11 @@ impl Trace {
                 if is_write && value == 0 {
                     return Err(8);
                 }
-                let index = self.operations.len();
-                if index == MAX_OPERATIONS {
+                if self.operations.len() == MAX_OPERATIONS {
                     return Err(9);
                 }
-                if is_write && self.writes.insert((key, value), index as u16).is_some() {
+                let number = self.operations.len() as u16 + 1;
+                if is_write && self.writes.insert((key, value), number).is_some() {
                     return Err(10);
                 }
                 self.operations.push(Operation {

@@ -148,17 +148,11 @@ struct Readers<'a> {
 impl<'a> Readers<'a> {
     fn new(trace: &'a Trace) -> Readers<'a> {
         let [verdict, ..] = judge_trace(trace);
-        let unclean = match verdict {
-            Verdict::Accepted(_) => Vec::new(),
-            Verdict::Rejected { findings, .. } => findings
-                .iter()
-                .map(|f| usize::from(f.operation) - 1)
-                .collect(),
-        };
+        let unclean = verdict.findings().iter();
         Readers {
             trace,
             counted: graph::counted(trace),
-            unclean,
+            unclean: unclean.map(|f| usize::from(f.operation) - 1).collect(),
         }
     }
 
@@ -172,11 +166,11 @@ impl<'a> Readers<'a> {
 
     /// The reads of values of `t`, with their indexes.
     fn reads_of(&self, t: u8) -> Vec<(usize, Operation)> {
-        let author = |write: &u16| self.trace.operations[usize::from(*write)].transaction;
+        let author = |write| self.trace.operation(write).transaction;
         let operations = self.trace.operations.iter().copied().enumerate();
         operations
             .filter(|(_, op)| !op.is_write)
-            .filter(|(_, op)| self.trace.writes.get(&(op.key, op.value)).map(author) == Some(t))
+            .filter(|(_, op)| self.trace.find_write(op.key, op.value).map(author) == Some(t))
             .collect()
     }
 

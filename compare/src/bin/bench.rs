@@ -40,12 +40,8 @@ fn digest(answer: &Answer) -> u64 {
         Ok(verdicts) => verdicts.iter().fold(0, |sum, verdict| match verdict {
             Verdict::Accepted(order) => order.iter().copied().fold(sum, mix),
             Verdict::Rejected { findings, pairs } => {
-                let sum = findings.iter().fold(sum, |sum, f| {
-                    let [low, high] = f.operation.to_le_bytes();
-                    [f.transaction, f.kind, low, high]
-                        .into_iter()
-                        .fold(sum, mix)
-                });
+                let found = findings.iter().flat_map(|finding| finding.bytes());
+                let sum = found.fold(sum, mix);
                 pairs.iter().fold(sum, |sum, p| {
                     [p.first, p.second, p.reasons].into_iter().fold(sum, mix)
                 })
@@ -155,6 +151,7 @@ fn traces() -> Vec<(String, Vec<u8>)> {
             }),
         ),
         ("unanswered".into(), full(|shape| shape.unanswered = 40)),
+        ("findings".into(), findings()),
         ("slow-read-by-next".into(), read_by_next()),
         ("slow-reads-next".into(), reads_next()),
         ("slow-chain".into(), chain()),
@@ -238,6 +235,55 @@ fn planned_with(
         writer.close(status(number) as u8);
     }
     writer.end()
+}
+
+/// As many unclean reads as fit, about as many of each kind from 2 to 6, their
+/// writes spread over the trace. The transactions stand in groups of eight: the
+/// first writes and aborts, the second writes twice, and the others only read.
+/// All use one key.
+fn findings() -> Vec<u8> {
+    let status = |t| match t % 8 {
+        1 => Status::Aborted,
+        _ => Status::Committed,
+    };
+    planned_with(status, |t| {
+        let group = (t - 1) / 8;
+        let steps = match (t - 1) % 8 {
+            0 => vec![Write(1, values_of_group(group)[0])],
+            1 => reads_beside_own_writes(group),
+            member => reads_of_others(group + member),
+        };
+        (t as u16, steps)
+    })
+}
+
+/// The values that a group writes: the aborted one, the intermediate one and
+/// the one that lasts. The group behind the last is the first again.
+fn values_of_group(group: u32) -> [u64; 3] {
+    const GROUPS: u32 = 16;
+    [1, 2, 3].map(|n| u64::from(3 * (group % GROUPS) + n))
+}
+
+/// Kind 3, the two writes, then kinds 4 and 5 in turn.
+fn reads_beside_own_writes(group: u32) -> Vec<Step> {
+    let [_, first, last] = values_of_group(group);
+    let mut steps: Vec<Step> = (0..13).map(|n| Read(1, [first, last][n % 2])).collect();
+    steps.extend([Write(1, first), Write(1, last)]);
+    let lasting = |other| values_of_group(other)[2];
+    steps.extend((1..=12).flat_map(|n| [Read(1, first), Read(1, lasting(group + n))]));
+    steps
+}
+
+/// Kinds 2 and 6 in turn, each of a group a quarter of the trace further on.
+fn reads_of_others(group: u32) -> Vec<Step> {
+    let aborted = |other| Read(1, values_of_group(other)[0]);
+    let intermediate = |other| Read(1, values_of_group(other)[1]);
+    vec![
+        aborted(group),
+        intermediate(group + 4),
+        aborted(group + 8),
+        intermediate(group + 12),
+    ]
 }
 
 /// 126 unanswered ones, each read by the next and the last by a committed one:

@@ -6,7 +6,7 @@ use ferozhak_compare::cases::{self, Case};
 use ferozhak_compare::generate::{self, Origin};
 use ferozhak_compare::process::{run_once, spawn};
 use ferozhak_compare::random::Random;
-use ferozhak_compare::report::{self, Level, Verdict};
+use ferozhak_compare::report::{self, Finding, Level, Verdict};
 use ferozhak_compare::trace::{Refusal, Status, Trace, MAX_BYTES};
 use ferozhak_compare::workers::{self, add_each, Difference, Extent, Tally};
 use ferozhak_compare::{brute, graph, scribes, Answer};
@@ -17,6 +17,7 @@ const USAGE: &str = "Usage:
   compare --judge COMMAND [options]    compares the program with the Rust judge: a run for each trace
   compare --stream COMMAND [options]   the same with the program `stream`: many traces a run
   compare --self [options]             compares the Rust judge's two deciders only, also on what counts as committed
+                                       and on the writes of unclean reads
   compare --scribe COMMAND [options]   compares the program `scribe` with the Rust writer: many items a run
   compare --writer COMMAND [options]   the same with the program `writer`: a run for each sequence of steps
   compare --rewrite COMMAND [options]  the same with the program `rewrite`: a run for each trace
@@ -189,6 +190,7 @@ impl Subject {
         }
         if let (Ok(trace), Ok(verdicts)) = (&parsed, &answer) {
             let checked = check_counted(trace, summary)
+                .and_then(|()| check_findings(trace, verdicts))
                 .and_then(|()| check_orders(trace, verdicts, summary))
                 .and_then(|()| check_choices(trace, verdicts, summary));
             if let Err(Deciders {
@@ -268,6 +270,32 @@ fn check_counted(trace: &Trace, summary: &mut Summary) -> Result<(), Deciders> {
             format!("counted {smallest:?}\n"),
         )),
     }
+}
+
+/// The findings are those of plain search, and the last field of each is the
+/// write that its kind speaks of, or 0; the trace may have any size.
+fn check_findings(trace: &Trace, verdicts: &[Verdict; 3]) -> Result<(), Deciders> {
+    let counted = graph::counted(trace);
+    let searched = brute::findings(trace, &counted);
+    for verdict in verdicts {
+        let found = verdict.findings();
+        if found != searched {
+            return Err(Deciders {
+                tried: "searching for each write",
+                brute: format!("{searched:?}\n"),
+                graph: format!("{found:?}\n"),
+            });
+        }
+        let is_wrong = |finding: &&Finding| !brute::tells_write(trace, &counted, finding);
+        if let Some(wrong) = found.iter().find(is_wrong) {
+            return Err(Deciders {
+                tried: "looking at each finding's write",
+                brute: "not the only write of the value, or not where the kind says\n".into(),
+                graph: format!("{wrong:?}\n"),
+            });
+        }
+    }
+    Ok(())
 }
 
 /// Each verdict is the one that trying every order gives, and it is acceptance
@@ -430,6 +458,8 @@ struct Summary {
     refusals: [usize; Refusal::NUMBERS],
     /// Findings by kind, in all traces.
     kinds: [usize; 7],
+    /// Findings by where their write is.
+    writes: Writes,
     /// Listed pairs by level and sum of reasons.
     reasons: [[usize; 16]; 3],
     /// Verdicts checked by trying every order.
@@ -443,6 +473,42 @@ struct Summary {
     uncounted: usize,
 }
 
+/// How many findings have no write, one before the read, one behind it, and one
+/// whose number takes more than a byte.
+#[derive(Default)]
+struct Writes {
+    none: usize,
+    before: usize,
+    behind: usize,
+    above_255: usize,
+}
+
+impl Writes {
+    fn count(&mut self, finding: &Finding) {
+        let place = match finding.write {
+            0 => &mut self.none,
+            write if write < finding.operation => &mut self.before,
+            _ => &mut self.behind,
+        };
+        *place += 1;
+        self.above_255 += usize::from(finding.write > 255);
+    }
+
+    fn add(&mut self, other: &Writes) {
+        self.none += other.none;
+        self.before += other.before;
+        self.behind += other.behind;
+        self.above_255 += other.above_255;
+    }
+
+    fn describe(&self) -> String {
+        format!(
+            "  their writes: none {}, before the read {}, behind it {}; number above 255: {}",
+            self.none, self.before, self.behind, self.above_255
+        )
+    }
+}
+
 impl Tally for Summary {
     fn add(&mut self, other: &Summary) {
         add_each(&mut self.origins, &other.origins);
@@ -450,6 +516,7 @@ impl Tally for Summary {
         add_each(&mut self.rejected, &other.rejected);
         add_each(&mut self.refusals, &other.refusals);
         add_each(&mut self.kinds, &other.kinds);
+        self.writes.add(&other.writes);
         for (to, from) in self.reasons.iter_mut().zip(&other.reasons) {
             add_each(to, from);
         }
@@ -479,6 +546,7 @@ impl Summary {
                     // Findings are the same at each level: counted once.
                     for finding in findings.iter().filter(|_| level == 0) {
                         self.kinds[usize::from(finding.kind)] += 1;
+                        self.writes.count(finding);
                     }
                     for pair in pairs {
                         self.reasons[level][usize::from(pair.reasons)] += 1;
@@ -541,6 +609,7 @@ impl Summary {
         for kind in 1..=6 {
             lines.push(format!("  {kind:>2} {:>9}", self.kinds[kind]));
         }
+        lines.push(self.writes.describe());
         lines.push("listed pairs by reason (1 start, 2 session, 4 read, 8 rival):".into());
         for (level, sums) in Level::ALL.iter().zip(&self.reasons) {
             let by_reason = [1, 2, 4, 8].map(|reason| {

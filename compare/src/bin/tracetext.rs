@@ -2,12 +2,14 @@
 //! into steps to be written.
 
 use ferozhak_compare::text;
+use ferozhak_compare::trace::Refusal;
 use std::io::{self, Read, Write};
 use std::process::ExitCode;
 
 const USAGE: &str = "Usage:
   tracetext encode < text > trace    the bytes of a trace from its text
   tracetext decode < trace > text    the text of a trace that is not refused
+  tracetext operations < trace       its reads and writes, a line each, by number
   tracetext steps < text > steps     the first serial and the steps, as `writer` reads them
   tracetext --help                   this, and how the text is written
 ";
@@ -18,7 +20,8 @@ fn main() -> ExitCode {
     let done = match words[..] {
         ["encode"] => turn(text::encode),
         ["steps"] => turn(text::steps),
-        ["decode"] => decode(),
+        ["decode"] => show(text::decode),
+        ["operations"] => show(text::operations),
         ["--help" | "-h"] => io::stdout()
             .write_all(format!("{USAGE}\n{}", text::GRAMMAR).as_bytes())
             .map_err(|error| error.to_string()),
@@ -48,10 +51,11 @@ fn turn(into: fn(&[u8]) -> Result<Vec<u8>, text::TextError>) -> Result<(), Strin
         .map_err(|error| error.to_string())
 }
 
-fn decode() -> Result<(), String> {
+/// Turns the trace on standard input into text on standard output.
+fn show(into: fn(&[u8]) -> Result<String, Refusal>) -> Result<(), String> {
     let bytes =
         ferozhak_compare::read_bounded(io::stdin().lock()).map_err(|error| error.to_string())?;
-    let text = text::decode(&bytes).map_err(|refusal| {
+    let text = into(&bytes).map_err(|refusal| {
         let (number, place, meaning) = (refusal.number, refusal.place, refusal.meaning());
         format!("the trace is refused {number} at byte {place}: {meaning}")
     })?;

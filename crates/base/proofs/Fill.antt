@@ -204,11 +204,8 @@ one o at a h = record { end = refl; room = h′; is = sets-eq (a ∷ []) o at h�
     h′ : at + 1 ≤ length o
     h′ = omega arith
 
--- four bytes
-pub four : (o : List ℕ) (at a b c d : ℕ) → at + 4 ≤ length o
-    → Appended o at (set (set (set (set o at a) (at + 1) b) (at + 2) c) (at + 3) d) (at + 4) (a ∷ b ∷ c ∷ d ∷ [])
-four o at a b c d h =
-    let e1 : at + 1 ≡ suc at = omega arith in
-    let e2 : at + 2 ≡ suc (suc at) = omega arith in
-    let e3 : at + 3 ≡ suc (suc (suc at)) = omega arith in
-    record { end = refl; room = h; is = rw (e1, e2, e3) (sets-eq (a ∷ b ∷ c ∷ d ∷ []) o at h ∙ append-assoc (take at o) (a ∷ b ∷ c ∷ d ∷ []) (drop (at + 4) o)) }
+-- two bytes
+pub two : (o : List ℕ) (at a b : ℕ) → at + 2 ≤ length o → Appended o at (set (set o at a) (at + 1) b) (at + 2) (a ∷ b ∷ [])
+two o at a b h =
+    let e : at + 1 ≡ suc at = omega arith in
+    record { end = refl; room = h; is = rw e (sets-eq (a ∷ b ∷ []) o at h ∙ append-assoc (take at o) (a ∷ b ∷ []) (drop (at + 2) o)) }

@@ -23,12 +23,12 @@ outcomeTable =
     ∷ all (whole 2 (U 1 (r 2 7 ∷ w 1 5 ∷ []) ++ U 2 (r 1 5 ∷ w 2 7 ∷ []))) (acceptsWith (0 ∷ []))
     ∷ all (whole 3 (U 1 (r 2 7 ∷ w 1 5 ∷ []) ++ U 2 (r 1 5 ∷ w 2 7 ∷ []) ++ T 3 (r 1 5 ∷ []))) (rejectsWith [] (pair 1 2 4 ++ pair 2 1 4))
     -- a reader whose read is unclean: intermediate; not my own
-    ∷ all (whole 2 (U 1 (w 1 5 ∷ w 1 6 ∷ []) ++ T 2 (r 1 5 ∷ []))) (rejectsWith (read 2 3 6) [])
-    ∷ all (whole 2 (U 1 (w 1 5 ∷ []) ++ T 2 (w 1 6 ∷ r 1 5 ∷ []))) (rejectsWith (read 2 3 5) [])
+    ∷ all (whole 2 (U 1 (w 1 5 ∷ w 1 6 ∷ []) ++ T 2 (r 1 5 ∷ []))) (rejectsWith (read 2 3 6 1) [])
+    ∷ all (whole 2 (U 1 (w 1 5 ∷ []) ++ T 2 (w 1 6 ∷ r 1 5 ∷ []))) (rejectsWith (read 2 3 5 1) [])
     -- the reads of one that counts are judged, of one that does not they are not: thin air; an aborted read
-    ∷ all (whole 2 (U 1 (r 1 9 ∷ w 2 7 ∷ []) ++ T 2 (r 2 7 ∷ []))) (rejectsWith (read 1 1 1) [])
+    ∷ all (whole 2 (U 1 (r 1 9 ∷ w 2 7 ∷ []) ++ T 2 (r 2 7 ∷ []))) (rejectsWith (read 1 1 1 0) [])
     ∷ all (whole 1 (U 1 (r 1 9 ∷ []))) (acceptsWith (0 ∷ []))
-    ∷ all (whole 3 (block 1 0 (w 1 5 ∷ []) ++ U 2 (r 1 5 ∷ w 2 7 ∷ []) ++ T 3 (r 2 7 ∷ []))) (rejectsWith (read 2 2 2) [])
+    ∷ all (whole 3 (block 1 0 (w 1 5 ∷ []) ++ U 2 (r 1 5 ∷ w 2 7 ∷ []) ++ T 3 (r 2 7 ∷ []))) (rejectsWith (read 2 2 2 1) [])
     -- P14 with an unanswered first: it does not count; it does, read by a third
     ∷ all (whole 2 (U 1 (w 1 5 ∷ []) ++ T 1 (r 1 0 ∷ []))) (acceptsWith (0 ∷ 2 ∷ []))
     ∷ case (whole 3 (U 1 (w 1 5 ∷ w 2 7 ∷ []) ++ T 1 (r 1 0 ∷ []) ++ T 3 (r 2 7 ∷ []))) (acceptsWith (0 ∷ 1 ∷ 2 ∷ 3 ∷ []))

@@ -1,18 +1,19 @@
 -- Who counts is computed: the function is right, the set is the smallest, and the rule's "exactly if" holds of it.
 use Prim.Native.Nat.{ℕ, _<_}
-use mathlib.Core.Path.{_≡_, ap, sym, _∙_}
+use mathlib.Core.Path.{_≡_, refl, ap, sym, _∙_}
 use mathlib.Core.Bool.{true, false}
-use mathlib.Core.Logic.{⊎-elim, _↔_}
+use mathlib.Core.Logic.{_↔_}
 use native.Mathlib.Omega.{arith}
-use Rattle.base.proofs.Tests.{is-false, is-true, clash, split}
+use Rattle.base.proofs.Tests.{is-false, is-true, clash}
 use Rattle.theory.specs.Reached.{Reached, from, on}
 use Rattle.theory.proofs.Reached.{reached-within}
-use Rattle.rules.specs.History.{History, tx, op, size, saysCommitted, vouches, committed, writeOf}
-use Rattle.rules.proofs.History.{status-0, op-0}
+use Rattle.rules.specs.History.{History, tx, size, saysCommitted, vouches, committed, originOf}
+use Rattle.rules.proofs.History.{status-0}
+use Rattle.rules.proofs.Origin.{source-is, source-none}
 use Rattle.rules.proofs.Committed.{Vouches, says-iff, vouches-iff, committed-iff, committed-below}
-use Rattle.demand1.specs.Lawful.{IsWrite, LawfulHistory}
-use Rattle.demand1.proofs.Checks.{write-found, write-known}
+use Rattle.demand1.specs.Lawful.{LawfulHistory}
 use Rattle.demand2.specs.Counts.{ReadsValueOf, Counts, by-status, by-reader, ClosedUnder, Smallest, ExactlyIfRead}
+use Rattle.demand2.proofs.Origin.{origin-there, origin-only}
 
 -- ── the smallest set ──
 
@@ -39,29 +40,22 @@ module _ (h : History) where
 -- ── what is computed ──
 
 module _ {h : History} (ok : LawfulHistory h) where
-  write-is : {x v w : ℕ} → IsWrite h x v w → writeOf h x v ≡ w
-  write-is k = ok .one-write _ _ _ _ (write-found h _ _ (write-known k)) k
-
   -- the test for one that vouches for an unanswered one is right
   vouches-reads : {a u : ℕ} → Vouches h a u → ReadsValueOf h a u
   vouches-reads {a} {u} v =
       let t = v .takes in
-      let w = writeOf h (op h (v .by) .key) (op h (v .by) .value) in
       record {
         read = v .by;
         is-op = record { from = v .from; to = v .to };
         is-read = t .is-read;
         in-reader = t .in-reader;
-        write = w;
+        write = originOf h (v .by);
         is-write =
-            write-found h _ _
-            (⊎-elim (λ l. l)
-            (λ g.
-            let z : w ≡ 0 = omega arith in
-            let n : u ≡ 0 = sym (t .of-writer) ∙ ap (λ (j : ℕ). op h j .tx) z ∙ op-0 h in
-            absurd (omega (arith, v .unanswered, ap (λ (t : ℕ). tx h t .status) n, status-0 h)))
-            (split 0 w));
-        in-writer = t .of-writer;
+            origin-there h (v .by)
+            (λ z.
+            let n : u ≡ 0 = sym (t .of-writer) ∙ source-none h (v .by) z in
+            omega (arith, v .unanswered, ap (λ (t : ℕ). tx h t .status) n, status-0 h));
+        in-writer = source-is h (v .by) _ refl ∙ t .of-writer;
       }
 
   reads-vouches : {a u : ℕ} → tx h u .status ≡ 2 → (a ≡ u → ⊥) → ReadsValueOf h a u → Vouches h a u
@@ -76,7 +70,7 @@ module _ {h : History} (ok : LawfulHistory h) where
             record {
               is-read = v .is-read;
               in-reader = v .in-reader;
-              of-writer = ap (λ (w : ℕ). op h w .tx) (write-is (v .is-write)) ∙ v .in-writer;
+              of-writer = sym (source-is h (v .read) _ (sym (origin-only h (v .read) ok (v .is-write)))) ∙ v .in-writer;
             };
       }
 

@@ -9,15 +9,14 @@ use lib.Dec.{ltb, eqb}
 use borrow.Author.Tests.{eqb-true, eqb-false, eq-eqb, ne-eqb, ltb-true, ltb-false, lt-ltb}
 use Rattle.base.specs.Base.{_and_, _or_, Row, row, firstFit}
 use Rattle.base.proofs.Rows.{fit-here, fit-past}
-use Rattle.base.proofs.Tests.{ifso, clash, is-false, is-true, not-true, both, and-left, and-right, or-cases, or-left, or-right, pick-on, pick-off, split}
+use Rattle.base.proofs.Tests.{ifso, clash, is-false, is-true, not-true, both, and-left, and-right, or-cases, or-left, or-right, split}
 use Rattle.base.proofs.Searches.{some-at, some-of}
-use Rattle.rules.specs.History.{History, op, opCount, committed, writeOf}
-use Rattle.rules.specs.Reads.{writesAt, wroteBetween, originOf, sourceOf, kindBy, kindOf, isJudged, isFinding}
+use Rattle.rules.specs.History.{History, op, opCount, committed}
+use Rattle.rules.specs.Reads.{writesAt, wroteBetween, kindBy, kindOf, isJudged, isFinding}
 use Rattle.rules.specs.Outcome.{findings}
-use Rattle.rules.proofs.History.{op-0}
-use Rattle.demand1.proofs.Checks.{write-found, write-known}
 use Rattle.base.proofs.Empty.{those-none}
-use Rattle.demand1.specs.Lawful.{IsWrite, LawfulHistory}
+use Rattle.demand1.specs.Lawful.{LawfulHistory}
+use Rattle.demand2.proofs.Origin.{Origin, origin}
 use Rattle.demand2.proofs.Counts.{counts-iff, counts-not}
 use Rattle.demand2.specs.Kinds.{WriteIn, WriteOf, JudgedRead, Fits, thin-air, aborted, future, not-my-last, not-my-own, intermediate, HasKind, Clean, AllClean}
 
@@ -62,56 +61,6 @@ wrote-at h t x a e l s =
 pub at-wrote : {h : History} {t x a e j : ℕ} → WriteIn h t x j → a < j → j < e → wroteBetween h t x a e ≡ true
 unfolding wroteBetween
 at-wrote {h} {t} {x} {a} {e} {j} w l m = some-of (writesAt h t x) e (a + 1) j (omega arith) m (at-writes w)
-
--- ── the write that a value comes from ──
-
--- w is the number of the write of read i's value, and u its transaction; w is 0 where there is none
-pub record Origin (h : History) (i w u : ℕ) : Type 0 where
-  pub there : (w ≡ 0 → ⊥) → WriteOf h u (op h i .key) (op h i .value) w
-  pub only : {u' w' : ℕ} → WriteOf h u' (op h i .key) (op h i .value) w' → (w ≡ w') × (u ≡ u')
-  pub none : w ≡ 0 → u ≡ 0
-
--- a write of the value, with its transaction and without
-as-write : {h : History} {u x v w : ℕ} → WriteOf h u x v w → IsWrite h x v w
-as-write k =
-    let i = k .in-it in
-    record { is-op = record { from = i .from; to = i .to }; is-write = i .is-write; of-key = i .of-key; of-value = k .of-value }
-
-write-as : {h : History} {x v w : ℕ} → IsWrite h x v w → WriteOf h (op h w .tx) x v w
-write-as k =
-    record {
-      in-it = record { from = k .is-op .from; to = k .is-op .to; is-write = k .is-write; in-tx = refl; of-key = k .of-key };
-      of-value = k .of-value;
-    }
-
-module _ (h : History) (i : ℕ) where
-  -- the write that `originOf` looks for: none has value 0
-  origin-search : (op h i .value ≡ 0 → ⊥) → originOf h i ≡ writeOf h (op h i .key) (op h i .value)
-  unfolding originOf
-  origin-search d = pick-off _ _ _ (ne-eqb _ _ d)
-
-  pub origin-zero : op h i .value ≡ 0 → originOf h i ≡ 0
-  unfolding originOf
-  origin-zero z = pick-on _ _ _ (eq-eqb _ _ z)
-
-  origin-there : (originOf h i ≡ 0 → ⊥) → IsWrite h (op h i .key) (op h i .value) (originOf h i)
-  origin-there d =
-      let e = origin-search (λ z. d (origin-zero z)) in
-      rw e (write-found h _ _ (⊎-elim (λ l. l) (λ g. absurd (d (omega arith))) (split 0 (writeOf h (op h i .key) (op h i .value)))))
-
-  origin-only : LawfulHistory h → {w : ℕ} → IsWrite h (op h i .key) (op h i .value) w → originOf h i ≡ w
-  origin-only ok k =
-      origin-search (λ z. ok .not-zero _ _ (rw z at k)) ∙ ok .one-write _ _ _ _ (write-found h _ _ (write-known k)) k
-
-  -- it is the only write of the read's key and value
-  pub origin : LawfulHistory h → Origin h i (originOf h i) (sourceOf h i)
-  unfolding sourceOf
-  origin ok =
-      record {
-        there = λ d. write-as (origin-there d);
-        only = λ k. let e = origin-only ok (as-write k) in (e, ap (λ (w : ℕ). op h w .tx) e ∙ k .in-it .in-tx);
-        none = λ e. ap (λ (w : ℕ). op h w .tx) e ∙ op-0 h;
-      }
 
 -- ── the first row of a table that fits ──
 

@@ -1,3 +1,4 @@
+pub mod Origin
 pub mod Counts
 pub mod Kind
 pub mod Pairs

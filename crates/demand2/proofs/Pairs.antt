@@ -6,23 +6,25 @@ use mathlib.Core.Logic.{inl, inr, ⊎-elim, _↔_}
 use native.Mathlib.Omega.{arith}
 use lib.Dec.{eqb}
 use borrow.Author.Tests.{eqb-true, eqb-false, eq-eqb, ne-eqb, ltb-true, lt-ltb}
-use Rattle.base.specs.Base.{_or_, some}
+use Rattle.base.specs.Base.{_or_}
 use Rattle.base.proofs.Tests.{ifso, is-true, not-true, both, and-left, and-right, or-cases, or-left, or-right}
 use Rattle.base.proofs.Searches.{some-at, some-of}
 use Rattle.theory.specs.Leads.{Leads, step, then}
 use Rattle.theory.specs.Order.{Forces}
 use Rattle.theory.proofs.Leads.{via-leads, leads-via}
-use Rattle.rules.specs.History.{History, op, opCount, size, committed}
-use Rattle.rules.specs.Reads.{originOf, sourceOf, kindOf, isExternal, readsFrom}
+use Rattle.rules.specs.History.{History, op, opCount, size, originOf, sourceOf, committed}
+use Rattle.rules.specs.Reads.{kindOf, isExternal, readsFrom}
 use Rattle.rules.specs.Levels.{isStart, isSession, isRead, basic, leads, writesKey, sees, settles, isRival, forced}
 use Rattle.rules.proofs.History.{status-0}
 use Rattle.rules.proofs.Committed.{committed-0}
+use Rattle.rules.proofs.Origin.{origin-zero, source-none}
 use Rattle.demand1.specs.Lawful.{LawfulHistory}
 use Rattle.demand2.specs.Counts.{Counts, by-status}
 use Rattle.demand2.specs.Kinds.{JudgedRead, thin-air, aborted, Clean, AllClean}
 use Rattle.demand2.specs.Axiom.{Member, SO, from-0, in-session, Source, initial, written, ReadFrom, SoWr, Causal, one, more}
+use Rattle.demand2.proofs.Origin.{origin}
 use Rattle.demand2.proofs.Counts.{counts-iff, counts-below, counts-stable}
-use Rattle.demand2.proofs.Kind.{origin, origin-zero, judged-iff, clean-iff}
+use Rattle.demand2.proofs.Kind.{judged-iff, clean-iff}
 
 -- ── members ──
 
@@ -66,7 +68,7 @@ external-is ok x =
 module _ {h : History} (ok : LawfulHistory h) where
   -- the source of a clean read is the one that is computed
   pub source-is : {i t : ℕ} → Source h i t → sourceOf h i ≡ t
-  source-is {i} (initial z e) = origin h i ok .none (origin-zero h i z) ∙ sym e
+  source-is {i} (initial z e) = source-none h i (origin-zero h i z) ∙ sym e
   source-is {i} (written k) = origin h i ok .only k .1
 
   pub source-of : {i : ℕ} → Clean h i → Source h i (sourceOf h i)
@@ -77,7 +79,7 @@ module _ {h : History} (ok : LawfulHistory h) where
       let e = eqb-true _ _ t in
       initial
       (eqb-true (op h i .value) 0 (is-true _ (λ v. c 1 (thin-air (eqb-false _ _ v) (λ u w k. omega (arith, e, o .only k .0, k .in-it .from))))))
-      (o .none e))
+      (source-none h i e))
       (λ t. written (o .there (eqb-false _ _ t)))
 
   -- a read in t3 from t1 is an external one whose source is t1

@@ -1,18 +1,22 @@
 -- The findings are the judged reads that are not clean, each once, by operation number.
-use Prim.Native.Nat.{ℕ, _+_, _<_, _≤_}
+use Prim.Native.Nat.{ℕ, _+_, _*_, _<_, _≤_}
 use mathlib.Core.Path.{_≡_, refl}
 use mathlib.Core.List.{List}
-use mathlib.Core.Logic.{⊎-elim}
+use mathlib.Core.Logic.{⊎-elim, _↔_}
 use native.Mathlib.Omega.{arith}
+use lib.ListN.{getD}
 use Rattle.base.proofs.Tests.{split}
 use Rattle.theory.proofs.Entries.{all-of-one, those-all-of}
-use Rattle.rules.specs.History.{History, opCount}
+use Rattle.rules.specs.Numbers.{le}
+use Rattle.rules.specs.History.{History, opCount, originOf}
 use Rattle.rules.specs.Reads.{kindOf, isFinding}
 use Rattle.rules.specs.Outcome.{findings}
 use Rattle.demand1.specs.Lawful.{LawfulHistory}
 use Rattle.demand2.specs.Kinds.{Fits, thin-air, aborted, future, not-my-last, not-my-own, intermediate, HasKind}
 use Rattle.demand2.proofs.Kind.{kind-iff, clean-iff, finding-iff}
-use Rattle.demand3.specs.Lists.{Finding, Findings}
+use Rattle.demand3.specs.Lists.{Finding, Findings, FindingAt}
+use Rattle.demand3.specs.Writes.{WriteNumber, CameFrom}
+use Rattle.demand3.proofs.Writes.{write-number, write-one, came-from}
 
 -- the kinds are numbered up to 6
 fits-low : {h : History} {i k : ℕ} → Fits h i k → k ≤ 6
@@ -38,6 +42,14 @@ module _ {h : History} (ok : LawfulHistory h) where
   pub finding-kind : {i : ℕ} → Finding h i → HasKind h i (kindOf h i)
   finding-kind {i} x = kind-iff ok (x .judged) (kindOf h i) (λ e. x .unclean (clean-iff ok (x .judged) .0 e)) .0 refl
 
+  -- and its write is the one that is found
+  pub finding-write : {i : ℕ} → Finding h i → WriteNumber h i (kindOf h i) (originOf h i)
+  finding-write x = write-number ok (finding-kind x .fits)
+
+  -- a number is its last field exactly if it is the one that is found
+  pub write-iff : {i : ℕ} → Finding h i → (w : ℕ) → (originOf h i ≡ w) ↔ WriteNumber h i (kindOf h i) w
+  write-iff x w = (λ e. rw e at (finding-write x), λ n. write-one (finding-write x) n)
+
   -- each judged read that is not clean, by operation number
   pub findings-are : Findings h (findings h)
   unfolding findings
@@ -51,3 +63,7 @@ module _ {h : History} (ok : LawfulHistory h) where
 -- no other list is that
 pub findings-one : {h : History} {l k : List ℕ} → Findings h l → Findings h k → l ≡ k
 findings-one = all-of-one _<_ (λ i j a b. omega arith)
+
+-- of whatever bytes tell a finding: what stands at the write that they name
+pub told-from : {h : History} {l : List ℕ} {j i : ℕ} → FindingAt h l j i → CameFrom h i (le 2 l (6 * j + 4)) (getD l (6 * j + 1) 0)
+told-from x = came-from (x .kind .fits) (x .write)

@@ -1,3 +1,4 @@
+pub mod Writes
 pub mod Findings
 pub mod Forced
 pub mod Pairs

@@ -61,13 +61,13 @@ module _ {h : History} (ok : LawfulHistory h) {level : ℕ} (low : 1 ≤ level) 
   pub pair-count : PairCount h level (length (pairs h level))
   pair-count = record { list = pairs h level; all-of = pairs-are ok low high; long = refl }
 
-  -- so any such number is a list's length, and the bytes are four times that
+  -- so any such number is a list's length, and the bytes are its width times that
   module _ {f : ℕ} (x : FindingCount h f) where
     pub findings-counted : length (findings h) ≡ f
     findings-counted = number-one _<_ (λ i j a b. omega arith) finding-count x
 
-    pub findings-bytes : length (findingList h) ≡ 4 * f
-    findings-bytes = findings-spelt ok .long ∙ ap (λ (n : ℕ). 4 * n) findings-counted
+    pub findings-bytes : length (findingList h) ≡ 6 * f
+    findings-bytes = findings-spelt ok .long ∙ ap (λ (n : ℕ). 6 * n) findings-counted
 
   module _ {p : ℕ} (x : PairCount h level p) where
     pub pairs-counted : length (pairs h level) ≡ p

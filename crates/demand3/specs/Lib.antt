@@ -1,3 +1,4 @@
 pub mod Forced
+pub mod Writes
 pub mod Lists
 pub mod Rejected

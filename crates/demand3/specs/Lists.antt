@@ -1,4 +1,4 @@
--- Document 01, "Lists and order": what the two lists of a rejection hold, in its own terms.
+-- Document 01, "Lists and order", with document 02's last field of a finding: what the two lists of a rejection hold, in their own terms.
 use Prim.Native.Nat.{ℕ, _+_, _*_, _<_}
 use mathlib.Core.Path.{_≡_}
 use mathlib.Core.List.{List}
@@ -9,6 +9,7 @@ use Rattle.rules.specs.History.{History, op}
 use Rattle.rules.specs.Outcome.{Pair}
 use Rattle.demand2.specs.Kinds.{JudgedRead, HasKind, Clean}
 use Rattle.demand3.specs.Forced.{ListedPair, Reasons}
+use Rattle.demand3.specs.Writes.{WriteNumber}
 
 -- ── entries ──
 
@@ -36,17 +37,19 @@ Pairs h level = AllOf PairBefore (PairListed h level)
 
 -- ── bytes ──
 
--- the bytes l hold the entries xs, four bytes each; d stands past the end
-pub record Fours {A : Type 0} (At : List ℕ → ℕ → A → Type 0) (d : A) (xs : List A) (l : List ℕ) : Type 0 where
-  pub long : length l ≡ 4 * length xs
+-- the bytes l hold the entries xs, each in as many bytes as the width says; d stands past the end
+pub record Spelt {A : Type 0} (width : ℕ) (At : List ℕ → ℕ → A → Type 0) (d : A) (xs : List A) (l : List ℕ) : Type 0 where
+  pub long : length l ≡ width * length xs
   pub bytes : (k : ℕ) → getD l k 0 < 256
   pub each : (j : ℕ) → j < length xs → At l j (getD xs j d)
 
--- "Finding, 4 bytes: transaction, kind, operation number (2 bytes little-endian)": the j-th of l is of read i
+-- "Finding ..: transaction, kind, operation number (2 bytes little-endian)"; "A finding becomes 6 bytes, with that number last (2 bytes)": the j-th of l is
+-- of read i
 pub record FindingAt (h : History) (l : List ℕ) (j i : ℕ) : Type 0 where
-  pub transaction : getD l (4 * j) 0 ≡ op h i .tx
-  pub kind : HasKind h i (getD l (4 * j + 1) 0)
-  pub number : le 2 l (4 * j + 2) ≡ i
+  pub transaction : getD l (6 * j) 0 ≡ op h i .tx
+  pub kind : HasKind h i (getD l (6 * j + 1) 0)
+  pub number : le 2 l (6 * j + 2) ≡ i
+  pub write : WriteNumber h i (getD l (6 * j + 1) 0) (le 2 l (6 * j + 4))
 
 -- "Pair, 4 bytes: first, second, reasons, 0.": the j-th of l is of p
 pub record PairAt (h : History) (level : ℕ) (l : List ℕ) (j : ℕ) (p : Pair) : Type 0 where
@@ -61,8 +64,8 @@ noPair = record { one = 0; two = 0 }
 
 -- the list of findings as bytes
 abbrev pub FindingBytes : History → List ℕ → List ℕ → Type 0
-FindingBytes h = Fours (FindingAt h) 0
+FindingBytes h = Spelt 6 (FindingAt h) 0
 
 -- the list of pairs as bytes
 abbrev pub PairBytes : History → ℕ → List Pair → List ℕ → Type 0
-PairBytes h level = Fours (PairAt h level) noPair
+PairBytes h level = Spelt 4 (PairAt h level) noPair

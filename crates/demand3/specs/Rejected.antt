@@ -24,12 +24,12 @@ FindingCount h = Number _<_ (Finding h)
 abbrev pub PairCount : History → ℕ → ℕ → Type 0
 PairCount h level = Number PairBefore (PairListed h level)
 
--- a history is rejected with f findings and p pairs, which fit, at 4 bytes each, into buffers of n and m bytes
+-- a history is rejected with f findings and p pairs, which fit, at 6 bytes a finding and 4 a pair, into buffers of n and m bytes
 pub record Rejects (h : History) (level f p n m : ℕ) : Type 0 where
   pub fault : Fault h level
   pub findings : FindingCount h f
   pub pairs : PairCount h level p
-  pub findings-fit : 4 * f ≤ n
+  pub findings-fit : 6 * f ≤ n
   pub pairs-fit : 4 * p ≤ m
 
 -- the trace s is read, and its history rejected at the level

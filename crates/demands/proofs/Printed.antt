@@ -1,26 +1,24 @@
 -- The text that is computed is what the document says is printed, and no other text is.
 use Prim.Native.Nat.{ℕ, _≤_}
-use mathlib.Core.Path.{_≡_, refl, ap, sym, _∙_}
-use mathlib.Core.Bool.{true, false}
-use mathlib.Core.List.{List, [], _∷_, _++_}
+use mathlib.Core.Path.{_≡_, refl, ap}
+use mathlib.Core.List.{List, [], _∷_}
 use mathlib.Core.Logic.{_↔_}
 use native.Mathlib.Omega.{arith}
-use lib.ListN.{length}
 use Rattle.base.specs.Base.{joined}
 use Rattle.base.proofs.Tests.{ifso, pick-on, pick-off}
 use Rattle.theory.specs.Entries.{In, here, there}
-use Rattle.rules.specs.History.{History, op}
-use Rattle.rules.specs.Reading.{Stretch, Reading, refused, read, reading}
+use Rattle.rules.specs.History.{History}
+use Rattle.rules.specs.Reading.{Reading, refused, read, reading}
 use Rattle.rules.specs.Outcome.{Pair, findings, pairs, isAccepted}
-use Rattle.text.specs.Lines.{refusedLine, rejectedLine, acceptedLine, readLine, pairLine}
+use Rattle.text.specs.Lines.{acceptedLine}
 use Rattle.text.specs.Answer.{findingText, pairText, blockText, readingText, answerText}
 use Rattle.demand1.specs.Lawful.{LawfulHistory}
-use Rattle.demand1.specs.Rows.{Refuses, ReadInto}
 use Rattle.demand1.proofs.Lawful.{lawful-history}
 use Rattle.demand1.proofs.Readings.{refuses-iff, reads-iff, one-outcome}
 use Rattle.demand2.proofs.Accepted.{has-order-iff, accepted-iff, order-first, first-only}
 use Rattle.demand3.specs.Lists.{Finding}
-use Rattle.demand3.proofs.Findings.{kind-one, finding-kind, findings-are, findings-one}
+use Rattle.demand3.proofs.Findings.{kind-one, finding-kind, finding-write, findings-are, findings-one}
+use Rattle.demand3.proofs.Writes.{write-one}
 use Rattle.demand3.proofs.Forced.{reasons-are, reasons-one}
 use Rattle.demand3.proofs.Pairs.{pairs-are, pairs-one}
 use Rattle.demand3.proofs.Traces.{fault-iff, no-fault-iff}
@@ -31,7 +29,7 @@ use Rattle.demands.specs.Printed.{ReadsPrinted, no-read, one-read, Pairs
 -- one text of these reads
 reads-one : {h : History} {is xs ys : List ℕ} → ReadsPrinted h is xs → ReadsPrinted h is ys → xs ≡ ys
 reads-one no-read no-read = refl
-reads-one {h} (one-read {i} {k} {xs = xs} x p) (one-read {k = l} {xs = ys} y q) = rw (kind-one x y, reads-one p q)
+reads-one {h} (one-read x m p) (one-read y n q) = let e = kind-one x y in rw (e, write-one (rw e at m) n, reads-one p q)
 
 -- and of these pairs
 pairs-text-one : {h : History} {level : ℕ} {ps : List Pair} {xs ys : List ℕ} → PairsPrinted h level ps xs → PairsPrinted h level ps ys → xs ≡ ys
@@ -42,7 +40,7 @@ module _ {h : History} (ok : LawfulHistory h) where
   reads-printed : (is : List ℕ) → ((i : ℕ) → In i is → Finding h i) → ReadsPrinted h is (joined (findingText h) is)
   unfolding joined findingText
   reads-printed [] f = no-read
-  reads-printed (i ∷ is) f = one-read (finding-kind ok (f i (here refl))) (reads-printed is (λ j m. f j (there m)))
+  reads-printed (i ∷ is) f = let x = f i (here refl) in one-read (finding-kind ok x) (finding-write ok x) (reads-printed is (λ j m. f j (there m)))
 
   module _ {level : ℕ} (low : 1 ≤ level) (high : level ≤ 3) where
     pairs-printed : (ps : List Pair) → PairsPrinted h level ps (joined (pairText h level) ps)

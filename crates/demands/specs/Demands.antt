@@ -33,6 +33,7 @@ pub record Demand2 (s : List ℕ) (level : ℕ) (fs ps os : List ℕ) (r : Answe
 -- reads are clean the pair list is empty exactly if a lawful order exists."
 pub record Demand3 (s : List ℕ) (level : ℕ) (fs ps os : List ℕ) (r : Answer) (F P O : List ℕ) : Type 0 where
   pub rejected : (f p : ℕ) → (reported r ≡ rejecting f p) ↔ RejectsTrace s level f p (length fs) (length ps)
+  -- of each unclean read the list has the kind and, by document 02, the number of the write that its value came from (`FindingAt`, `WriteNumber`)
   pub listed : {f p : ℕ} (a : RejectsTrace s level f p (length fs) (length ps)) → ListsWritten (a .history) level f p fs ps os (outcome (reported r) F P O)
   -- the number of pairs that is answered is 0 exactly then
   pub none-counted : {h : History} {notes : List Stretch} → 1 ≤ level → level ≤ 3 → ReadInto s h notes → AllClean h → (reported r .verdict ≡ declines → ⊥)

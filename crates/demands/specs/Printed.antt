@@ -12,13 +12,15 @@ use Rattle.demand1.specs.Rows.{Refuses, ReadInto}
 use Rattle.demand2.specs.Kinds.{HasKind, AllClean}
 use Rattle.demand2.specs.Axiom.{FirstShown}
 use Rattle.demand3.specs.Forced.{Reasons}
+use Rattle.demand3.specs.Writes.{WriteNumber}
 use Rattle.demand3.specs.Lists.{Findings, Pairs}
 use Rattle.demand3.specs.Rejected.{Fault}
 
--- "Then `read T OP KIND` lines": one for each of these reads, with its kind
+-- "Then `read T OP KIND` lines": one for each of these reads, with its kind; and its write, "as a fourth field"
 pub data ReadsPrinted (h : History) : List ℕ → List ℕ → Type 0 where
   no-read : ReadsPrinted h [] []
-  one-read : {i k : ℕ} {is xs : List ℕ} → HasKind h i k → ReadsPrinted h is xs → ReadsPrinted h (i ∷ is) (readLine (op h i .tx) i k ++ xs)
+  one-read : {i k w : ℕ} {is xs : List ℕ} → HasKind h i k → WriteNumber h i k w → ReadsPrinted h is xs
+      → ReadsPrinted h (i ∷ is) (readLine (op h i .tx) i k w ++ xs)
 
 -- "then `pair A B REASONS` lines": one for each of these pairs, with the sum of its reasons
 pub data PairsPrinted (h : History) (level : ℕ) : List Pair → List ℕ → Type 0 where

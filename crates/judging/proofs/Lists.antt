@@ -12,7 +12,7 @@ use Rattle.rules.specs.Outcome.{findings, findingList, pairs, pairList, reporte
 use Rattle.rules.specs.declared.Answer.{Answer}
 use Rattle.rules.specs.declared.Answer.the-variants.{Refused, Rejected}
 use Rattle.rules.proofs.Numbers.{appended-over}
-use Rattle.rules.proofs.Lists.{findings-four, pairs-four}
+use Rattle.rules.proofs.Lists.{findings-long, pairs-long}
 use Rattle.rules.proofs.Outcome.{is-accepted, found-rejected, listed-rejected, judged-accepted, judged-rejected, rejection-short, rejection-short-pairs, rejection-fits}
 use Rattle.table.specs.Table.{historyOf}
 use Rattle.lists.specs.Lists.{pairCount, pairsIn, Judging}
@@ -34,20 +34,20 @@ module _ {h k f c v : List ℕ} {n : Counts} (m : Counted h f c n) (level : ℕ)
   pairs-count : n .pairs ≡ length (pairs H level)
   pairs-count = m .listed ∙ told-count j
 
-  findings-bytes : 4 * n .findings ≡ length (findingList H)
-  findings-bytes = omega (arith, m .found, findings-four H)
+  findings-bytes : 6 * n .findings ≡ length (findingList H)
+  findings-bytes = omega (arith, m .found, findings-long H)
 
   pairs-bytes : 4 * n .pairs ≡ length (pairList H level)
-  pairs-bytes = omega (arith, pairs-count, pairs-four H level)
+  pairs-bytes = omega (arith, pairs-count, pairs-long H level)
 
   -- ── rejection, with buffers fo and po ──
 
   module _ (fo po : List ℕ) where
-    pub reject-findings : length fo < 4 * n .findings → OnRejection H level fo po fo po (Refused 12 (4 * n .findings))
+    pub reject-findings : length fo < 6 * n .findings → OnRejection H level fo po fo po (Refused 12 (6 * n .findings))
     unfolding reported
     reject-findings l = record { is = λ o. rw findings-bytes (sym (rejection-short level fo po o H (omega (arith, findings-bytes)))) }
 
-    module _ (l : 4 * n .findings ≤ length fo) where
+    module _ (l : 6 * n .findings ≤ length fo) where
       pub reject-pairs : length po < 4 * n .pairs → OnRejection H level fo po fo po (Refused 13 (4 * n .pairs))
       unfolding reported
       reject-pairs l2 =

@@ -110,8 +110,8 @@ fn reject(
     requires { ⌜ Listing (now h) (now k) (now f) (now c) (now v) × Counted (now h) (now f) (now c) n ⌝ }
     ensures { λ r. ⌜ ((level : ℕ) → Judging (now (h .entry)) (now (k .entry)) (now (f .entry)) (now (c .entry)) (now (v .entry)) level → OnRejection (historyOf (now (h .entry))) level (now (findings .entry)) (now (pairs .entry)) (now (findings .exit)) (now (pairs .exit)) r) ⌝ }
 {
-    if findings.len() < 4 * n.findings {
-        return Answer::Refused(12, 4 * n.findings);
+    if findings.len() < 6 * n.findings {
+        return Answer::Refused(12, 6 * n.findings);
     }
     if pairs.len() < 4 * n.pairs {
         return Answer::Refused(13, 4 * n.pairs);

@@ -13,12 +13,12 @@ use Rattle.theory.proofs.Leads.{via-keeps, via-on}
 use Rattle.rules.specs.History.{History, size}
 use Rattle.rules.specs.Levels.{forced, reasons}
 use Rattle.rules.specs.Outcome.{pairsOf, pairs, pairBytes, pairList}
-use Rattle.rules.proofs.Lists.{pairs-four}
+use Rattle.rules.proofs.Lists.{pairs-long}
 use Rattle.table.specs.Table.{historyOf}
 use Rattle.bits.specs.Bits.{bitOf}
 use Rattle.pairs.specs.Pairs.{before}
 use Rattle.lists.specs.Lists.{isIn, pairCount, reasonsIn, pairAt, rowAt, pairsIn, Listing, Judging}
-use Rattle.lists.proofs.Pairs.{pairs-in-four}
+use Rattle.lists.proofs.Pairs.{pairs-in-long}
 
 module _ {h k f c v : List ℕ} {level : ℕ} (j : Judging h k f c v level) where
   abbrev H : History
@@ -60,7 +60,7 @@ module _ {h k f c v : List ℕ} {level : ℕ} (j : Judging h k f c v level) wher
   told-pairs = sym (joined-listed (pairBytes H level) (pairsOf H level) (size H) 0 ∙ listed-same _ (rowAt H f c v) (size H) 0 (λ a x y. told-row y))
 
   pub told-count : pairCount f c (size H) ≡ length (pairs H level)
-  told-count = omega (arith, pairs-in-four H f c v, ap length told-pairs, pairs-four H level)
+  told-count = omega (arith, pairs-in-long H f c v, ap length told-pairs, pairs-long H level)
 
   pub told-listing : Listing h k f c v
   told-listing =

@@ -3,6 +3,7 @@ use Prim.Native.Nat.{ℕ, _+_, _-_, _*_, _<_, _≤_}
 use mathlib.Core.Path.{_≡_, refl, ap, sym, _∙_}
 use mathlib.Core.Bool.{Bool, true, false}
 use mathlib.Core.List.{List, [], _∷_}
+use native.Mathlib.Nat.{mul-add}
 use native.Mathlib.Omega.{arith}
 use lib.ListN.{length, length-append}
 use Rattle.base.specs.Base.{pick, listed, those}
@@ -35,10 +36,10 @@ unfolding pick
 pick-most true n e = omega arith
 pick-most false n e = omega arith
 
-pub pick-four : (b : Bool) → pick b 4 0 ≡ 4 * pick b 1 0
+pub pick-times : (w : ℕ) (b : Bool) → pick b w 0 ≡ w * pick b 1 0
 unfolding pick
-pick-four true = refl
-pick-four false = refl
+pick-times w true = omega arith
+pick-times w false = omega arith
 
 pub entry-length : (p : ℕ → Bool) (i : ℕ) → length (entryAt p i) ≡ pick (p i) 1 0
 unfolding entryAt
@@ -52,13 +53,14 @@ pub count-on : (p : ℕ → Bool) (a e : ℕ) {j n w : ℕ} {r : Bool} → Sizin
     → Sizing (entryAt p) a e (j + 1) (n + w)
 count-on p a e {j} {n} {w} {r} s l q t = rw (q ∙ ap (λ (b : Bool). pick b 1 0) t ∙ sym (entry-length p j)) (size-step (entryAt p) a e s l)
 
--- where each place of one list is four times as long as the same place of another, so is the whole
-pub four-times : {A B : Type 0} (f : ℕ → List A) (g : ℕ → List B) (e j : ℕ) → ((i : ℕ) → length (f i) ≡ 4 * length (g i))
-    → length (listed j e f) ≡ 4 * length (listed j e g)
-four-times f g e j h =
-    downward (λ j. length (listed j e f) ≡ 4 * length (listed j e g)) e (λ j k. rw (listed-end f j e k, listed-end g j e k))
+-- where each place of one list is w times as long as the same place of another, so is the whole
+pub times : {A B : Type 0} (w : ℕ) (f : ℕ → List A) (g : ℕ → List B) (e j : ℕ) → ((i : ℕ) → length (f i) ≡ w * length (g i))
+    → length (listed j e f) ≡ w * length (listed j e g)
+times w f g e j h =
+    downward (λ j. length (listed j e f) ≡ w * length (listed j e g)) e (λ j k. rw (listed-end f j e k, listed-end g j e k) (omega arith))
     (λ j l ih.
-    rw (listed-step f j e l, listed-step g j e l) (omega (arith, ih, h j, length-append (f j) (listed (j + 1) e f), length-append (g j) (listed (j + 1) e g))))
+    rw (listed-step f j e l, listed-step g j e l, length-append (f j) (listed (j + 1) e f), length-append (g j) (listed (j + 1) e g))
+    (omega (arith, ih, h j, mul-add w (length (g j)) (length (listed (j + 1) e g)))))
     j
 
 pub those-most : (p : ℕ → Bool) (a e : ℕ) → length (listed a e (entryAt p)) ≤ e - a

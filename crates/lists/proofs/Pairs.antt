@@ -14,7 +14,7 @@ use Rattle.rules.specs.History.{History, size}
 use Rattle.table.specs.Table.{historyOf}
 use Rattle.bits.specs.Bits.{bitOf}
 use Rattle.lists.specs.Lists.{entryAt, isIn, secondsOf, pairCount, reasonsIn, pairAt, rowAt, pairsIn, Tables, Cell, Listing}
-use Rattle.lists.proofs.Listings.{those-listed, those-most, pick-four, entry-length, four-times}
+use Rattle.lists.proofs.Listings.{those-listed, those-most, pick-times, entry-length, times}
 
 module _ {f c : List ℕ} {n : ℕ} (t : Tables f c n) {a : ℕ} (l : a < n) where
   pub cell-of : {b : ℕ} → b < n → Cell f c a b
@@ -43,21 +43,21 @@ module _ (h : History) (f c v : List ℕ) where
   unfolding rowAt pairAt
   row-left-out t a l e o at m = rw (parts-none (pairAt h f c v a) 0 (size h) .1 (λ b x y. pick-off _ _ _ (row-none t l e b y))) (appended-none o at m)
 
-  pair-four : (a b : ℕ) → length (pairAt h f c v a b) ≡ 4 * length (entryAt (isIn f c a) b)
+  pair-long : (a b : ℕ) → length (pairAt h f c v a b) ≡ 4 * length (entryAt (isIn f c a) b)
   unfolding pairAt
-  pair-four a b = rw (pick-of length (isIn f c a b) (a ∷ b ∷ reasonsIn h v a b ∷ 0 ∷ []) [], entry-length (isIn f c a) b) (pick-four (isIn f c a b))
+  pair-long a b = rw (pick-of length (isIn f c a b) (a ∷ b ∷ reasonsIn h v a b ∷ 0 ∷ []) [], entry-length (isIn f c a) b) (pick-times 4 (isIn f c a b))
 
-  row-four : (a : ℕ) → length (rowAt h f c v a) ≡ 4 * length (secondsOf f c (size h) a)
+  row-long : (a : ℕ) → length (rowAt h f c v a) ≡ 4 * length (secondsOf f c (size h) a)
   unfolding rowAt secondsOf
-  row-four a = rw (those-listed 0 (size h) (isIn f c a)) (four-times (pairAt h f c v a) (entryAt (isIn f c a)) (size h) 0 (pair-four a))
+  row-long a = rw (those-listed 0 (size h) (isIn f c a)) (times 4 (pairAt h f c v a) (entryAt (isIn f c a)) (size h) 0 (pair-long a))
 
   -- "Pair, 4 bytes"
-  pub pairs-in-four : length (pairsIn h f c v) ≡ 4 * pairCount f c (size h)
+  pub pairs-in-long : length (pairsIn h f c v) ≡ 4 * pairCount f c (size h)
   unfolding pairsIn pairCount
-  pairs-in-four = four-times (rowAt h f c v) (secondsOf f c (size h)) (size h) 0 row-four
+  pairs-in-long = times 4 (rowAt h f c v) (secondsOf f c (size h)) (size h) 0 row-long
 
 -- so there is room
 pub pairs-fit : {h k f c v : List ℕ} {m : ℕ} → Listing h k f c v → 4 * pairCount f c (size (historyOf h)) ≤ m
     → 0 + length (listed 0 (size (historyOf h)) (rowAt (historyOf h) f c v)) ≤ m
 unfolding pairsIn
-pairs-fit {h} {k} {f} {c} {v} p l = omega (arith, pairs-in-four (historyOf h) f c v)
+pairs-fit {h} {k} {f} {c} {v} p l = omega (arith, pairs-in-long (historyOf h) f c v)

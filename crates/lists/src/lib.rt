@@ -1,7 +1,7 @@
 // The two lists of a rejection: what was found in reads, and the pairs that no order can keep.
 ghost use mathlib.Core.Path.{_≡_};
 ghost use mathlib.Core.List.{_∷_, []};
-ghost use Prim.Native.Nat.{_+_, _*_, _≤_, _<_};
+ghost use Prim.Native.Nat.{_+_, _*_, _/_, _%_, _≤_, _<_};
 ghost use lib.ListN.{length};
 ghost use Rattle.base.specs.Base.{pick};
 ghost use Rattle.base.proofs.Fill.{Appended};
@@ -12,16 +12,22 @@ ghost use Rattle.bits.specs.Bits.{bitOf};
 ghost use Rattle.pairs.specs.Pairs.{Ready};
 ghost use Rattle.lists.specs.Lists.{isKind, findingAt, isIn, secondsOf, pairCount, reasonsIn, pairAt, rowAt, pairsIn, Tables, Cell, HasPair, Listing};
 
-// Four bytes at `at`; where they end.
-fn put4(out: &mut [u8], at: usize, a: u8, b: u8, c: u8, d: u8) -> usize
-    requires { ⌜ at + 4 ≤ length (now out) ⌝ }
-    ensures { λ r. ⌜ Appended (now (out .entry)) at (now (out .exit)) r (a ∷ b ∷ c ∷ d ∷ []) ⌝ }
+// Two bytes at `at`; where they end.
+fn put2(out: &mut [u8], at: usize, a: u8, b: u8) -> usize
+    requires { ⌜ at + 2 ≤ length (now out) ⌝ }
+    ensures { λ r. ⌜ Appended (now (out .entry)) at (now (out .exit)) r (a ∷ b ∷ []) ⌝ }
 {
     out[at] = a;
     out[at + 1] = b;
-    out[at + 2] = c;
-    out[at + 3] = d;
-    at + 4
+    at + 2
+}
+
+// A number in two bytes, little-endian.
+fn put_number(out: &mut [u8], at: usize, n: usize) -> usize
+    requires { ⌜ (n < 65536) × (at + 2 ≤ length (now out)) ⌝ }
+    ensures { λ r. ⌜ Appended (now (out .entry)) at (now (out .exit)) r (n % 256 ∷ n / 256 ∷ []) ⌝ }
+{
+    put2(out, at, (n % 256) as u8, (n / 256) as u8)
 }
 
 // n where the test holds, else 0.
@@ -58,7 +64,8 @@ pub fn count_findings(h: &[u64], k: &[u8]) -> usize
     found
 }
 
-// Operation i's finding, where it is one: "transaction, kind, operation number (2 bytes little-endian)".
+// Operation i's finding, where it is one: "transaction, kind, operation number (2 bytes little-endian)". Document 02: the search for a write answers "its
+// operation number besides its transaction"; "A finding becomes 6 bytes, with that number last (2 bytes), 0 where no write exists".
 fn put_finding(h: &[u64], k: &[u8], i: usize, out: &mut [u8], at: usize) -> usize
     requires { ⌜ Ready (now h) (now k) × HasOp (now h) i × (at + length (findingAt (historyOf (now h)) i) ≤ length (now out)) ⌝ }
     ensures { λ r. ⌜ Appended (now (out .entry)) at (now (out .exit)) r (findingAt (historyOf (now (h .entry))) i) ⌝ }
@@ -68,12 +75,15 @@ fn put_finding(h: &[u64], k: &[u8], i: usize, out: &mut [u8], at: usize) -> usiz
         return at;
     }
     let t = table::tx_of(h, i) as u8;
-    put4(out, at, t, v, (i % 256) as u8, (i / 256) as u8)
+    let w = table::origin_of(h, i);
+    let to = put2(out, at, t, v);
+    let to = put_number(out, to, i);
+    put_number(out, to, w)
 }
 
 // The list of findings, "by operation number"; where it ends.
 pub fn put_findings(h: &[u64], k: &[u8], out: &mut [u8]) -> usize
-    requires { ⌜ Ready (now h) (now k) × (4 * length (findings (historyOf (now h))) ≤ length (now out)) ⌝ }
+    requires { ⌜ Ready (now h) (now k) × (6 * length (findings (historyOf (now h))) ≤ length (now out)) ⌝ }
     ensures { λ r. ⌜ Appended (now (out .entry)) 0 (now (out .exit)) r (findingList (historyOf (now (h .entry)))) ⌝ }
 {
     let n = table::ops(h);
@@ -168,7 +178,8 @@ fn put_pair(
     if !is_listed(f, c, a, b) {
         return at;
     }
-    put4(out, at, a as u8, b as u8, reasons(h, k, v, a, b), 0)
+    let to = put2(out, at, a as u8, b as u8);
+    put2(out, to, reasons(h, k, v, a, b), 0)
 }
 
 // The listed pairs with the first a, by second.

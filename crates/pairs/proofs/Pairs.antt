@@ -14,8 +14,8 @@ use Rattle.base.proofs.Searches.{some-at, some-of, some-none, some-same}
 use Rattle.theory.specs.Leads.{via}
 use Rattle.theory.proofs.Leads.{via-flip}
 use Rattle.theory.proofs.Same.{via-same}
-use Rattle.rules.specs.History.{History, op, opCount, size, committed}
-use Rattle.rules.specs.Reads.{sourceOf, isExternal, readsFrom}
+use Rattle.rules.specs.History.{History, op, opCount, size, sourceOf, committed}
+use Rattle.rules.specs.Reads.{isExternal, readsFrom}
 use Rattle.rules.specs.Levels.{isStart, isSession, isRead, basic, leads}
 use Rattle.rules.proofs.Committed.{committed-below}
 use Rattle.table.specs.Table.{historyOf, ofTx, Held, HasTx, HasOp}

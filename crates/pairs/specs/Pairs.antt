@@ -4,8 +4,8 @@ use mathlib.Core.Bool.{Bool}
 use mathlib.Core.List.{List}
 use lib.Dec.{eqb}
 use Rattle.base.specs.Base.{_and_, _or_, some}
-use Rattle.rules.specs.History.{History, op, opCount, size}
-use Rattle.rules.specs.Reads.{sourceOf, isExternal}
+use Rattle.rules.specs.History.{History, op, opCount, size, sourceOf}
+use Rattle.rules.specs.Reads.{isExternal}
 use Rattle.rules.specs.Levels.{isStart, isSession}
 use Rattle.table.specs.Table.{historyOf, Settled}
 use Rattle.reads.specs.Verdicts.{Judged}

@@ -1,7 +1,8 @@
 -- The lists in the buffers: the lines of their entries are those of the history.
-use Prim.Native.Nat.{ℕ, zero, suc, _+_, _*_, _<_, _≤_}
+use Prim.Native.Nat.{ℕ, zero, suc, _+_, _-_, _*_, _<_, _≤_}
 use mathlib.Core.Path.{_≡_, refl, ap, sym, _∙_}
 use mathlib.Core.List.{List, [], _∷_}
+use native.Mathlib.Nat.{mul-add}
 use native.Mathlib.Omega.{arith}
 use native.Mathlib.Numerals.{add-one}
 use lib.ListN.{length, getD, drop, length-append, List·getD-append}
@@ -9,7 +10,8 @@ use lib.Seq.{drop-cons}
 use Rattle.base.specs.Base.{listed, joined}
 use Rattle.base.proofs.Searches.{downward, listed-step, listed-end, listed-same, joined-length, joined-at}
 use Rattle.rules.specs.Numbers.{le, over}
-use Rattle.rules.specs.History.{History}
+use Rattle.rules.proofs.Numbers.{le-same}
+use Rattle.rules.specs.History.{History, originOf}
 use Rattle.rules.specs.Outcome.{Pair, findings, findingBytes, findingList, pairs, pairBytes, pairList}
 use Rattle.text.specs.Lines.{readLine, pairLine}
 use Rattle.text.specs.Answer.{findingText, pairText}
@@ -27,29 +29,37 @@ pub over-most : (l b : List ℕ) → length l ≤ length (over l b)
 unfolding over
 over-most l b = omega (arith, length-append l (drop (length l) b))
 
--- ── entries of four bytes ──
+-- ── entries of one width ──
 
-module _ {A : Type 0} (f : A → List ℕ) (four : (x : A) → length (f x) ≡ 4) (d : A) where
+-- where n of them fit, each does
+pub entry-within : (w i n : ℕ) {m : ℕ} → w * n ≤ m → i < n → w * i + w ≤ m
+entry-within w i n h l =
+    let e : n ≡ i + 1 + (n - (i + 1)) = omega arith in
+    omega (arith, h, ap (λ (k : ℕ). w * k) e, mul-add w (i + 1) (n - (i + 1)), mul-add w i 1)
+
+module _ {A : Type 0} (f : A → List ℕ) (w : ℕ) (wide : (x : A) → length (f x) ≡ w) (d : A) (xs : List A) (b : List ℕ) (j : ℕ) (h : j < length xs) where
   -- byte r of the j-th, in a buffer that they were written over
-  byte-at : (xs : List A) (b : List ℕ) (j r k : ℕ) → k ≡ 4 * j + r → j < length xs → r < 4
-      → getD (over (joined f xs) b) k 0 ≡ getD (f (getD xs j d)) r 0
-  byte-at xs b j r k e h g =
-      rw e (over-at (joined f xs) b (4 * j + r) (omega (arith, joined-length f 4 four xs)) ∙ joined-at f 4 four d 0 xs j r h g)
+  byte-at : (r k : ℕ) → k ≡ w * j + r → r < w → getD (over (joined f xs) b) k 0 ≡ getD (f (getD xs j d)) r 0
+  byte-at r k e g =
+      let l : w * j + w ≤ length (joined f xs) = entry-within w j (length xs) (omega (arith, joined-length f w wide xs)) h in
+      rw e (over-at (joined f xs) b (w * j + r) (omega arith) ∙ joined-at f w wide d 0 xs j r h g)
+
+  -- the number that two of its bytes spell, from byte r on
+  number-at : (r : ℕ) → r + 1 < w → le 2 (over (joined f xs) b) (w * j + r) ≡ le 2 (f (getD xs j d)) r
+  number-at r g = le-same 2 (over (joined f xs) b) (f (getD xs j d)) (w * j + r) r (λ i l. byte-at (r + i) (w * j + r + i) (omega arith) (omega arith))
 
 -- ── lines of entries ──
 
 -- from its bytes
-module _ (l : List ℕ) (i : ℕ) {a b c : ℕ} (x : a ≡ getD l (4 * i) 0) (y : b ≡ getD l (4 * i + 1) 0) (z : c ≡ getD l (4 * i + 2) 0) where
-  pub entry-read : {d : ℕ} → d ≡ getD l (4 * i + 3) 0 → entryLine ReadLines l i ≡ readLine a (c + 256 * d) b
-  unfolding entryLine le
-  entry-read {d} w =
-      let e : 4 * i + 2 + 1 ≡ 4 * i + 3 = omega arith in
-      let n : getD l (4 * i + 2) 0 + 256 * (getD l (4 * i + 2 + 1) 0 + 256 * 0) ≡ c + 256 * d = rw (e, z, w) (omega arith) in
-      rw (n, x, y)
-
-  pub entry-pair : entryLine PairLines l i ≡ pairLine a b c
+module _ (l : List ℕ) (i : ℕ) {a b c : ℕ} where
+  pub entry-read : {d : ℕ} → a ≡ getD l (6 * i) 0 → b ≡ getD l (6 * i + 1) 0 → c ≡ le 2 l (6 * i + 2) → d ≡ le 2 l (6 * i + 4)
+      → entryLine ReadLines l i ≡ readLine a c b d
   unfolding entryLine
-  entry-pair = rw (x, y, z)
+  entry-read x y z w = rw (x, y, z, w)
+
+  pub entry-pair : a ≡ getD l (4 * i) 0 → b ≡ getD l (4 * i + 1) 0 → c ≡ getD l (4 * i + 2) 0 → entryLine PairLines l i ≡ pairLine a b c
+  unfolding entryLine
+  entry-pair x y z = rw (x, y, z)
 
 past-end : {A : Type 0} (l : List A) (j : ℕ) → length l ≤ j → drop j l ≡ []
 past-end [] zero h = refl
@@ -79,10 +89,12 @@ module _ (h : History) (b : List ℕ) where
   finding-line : (j : ℕ) → j < length (findings h) → entryLine ReadLines (over (findingList h) b) j ≡ findingText h (getD (findings h) j 0)
   unfolding findingList findingBytes findingText entryLine le
   finding-line j l =
-      let at = byte-at (findingBytes h) (λ i. refl) 0 (findings h) b j in
-      let n : getD (over (findingList h) b) (4 * j + 2) 0 + 256 * (getD (over (findingList h) b) (4 * j + 2 + 1) 0 + 256 * 0) ≡ getD (findings h) j 0 =
-      omega (arith, at 2 (4 * j + 2) refl l (omega arith), at 3 (4 * j + 2 + 1) (omega arith) l (omega arith)) in
-      rw (at 0 (4 * j) (omega arith) l (omega arith), at 1 (4 * j + 1) refl l (omega arith), n)
+      let i = getD (findings h) j 0 in
+      let byte = byte-at (findingBytes h) 6 (λ i. refl) 0 (findings h) b j l in
+      let number = number-at (findingBytes h) 6 (λ i. refl) 0 (findings h) b j l in
+      let n : le 2 (over (findingList h) b) (6 * j + 2) ≡ i = number 2 (omega arith) ∙ omega arith in
+      let w : le 2 (over (findingList h) b) (6 * j + 4) ≡ originOf h i = number 4 (omega arith) ∙ omega arith in
+      rw (byte 0 (6 * j) (omega arith) (omega arith), byte 1 (6 * j + 1) refl (omega arith), n, w)
 
   pub findings-lines : listText ReadLines (over (findingList h) b) (length (findings h)) ≡ joined (findingText h) (findings h)
   unfolding listText
@@ -96,8 +108,8 @@ module _ (h : History) (b : List ℕ) where
     pair-line : (j : ℕ) → j < length (pairs h level) → entryLine PairLines (over (pairList h level) b) j ≡ pairText h level (getD (pairs h level) j no-pair)
     unfolding pairList pairBytes pairText entryLine
     pair-line j l =
-        let at = byte-at (pairBytes h level) (λ p. refl) no-pair (pairs h level) b j in
-        rw (at 0 (4 * j) (omega arith) l (omega arith), at 1 (4 * j + 1) refl l (omega arith), at 2 (4 * j + 2) refl l (omega arith))
+        let byte = byte-at (pairBytes h level) 4 (λ p. refl) no-pair (pairs h level) b j l in
+        rw (byte 0 (4 * j) (omega arith) (omega arith), byte 1 (4 * j + 1) refl (omega arith), byte 2 (4 * j + 2) refl (omega arith))
 
     pub pairs-lines : listText PairLines (over (pairList h level) b) (length (pairs h level)) ≡ joined (pairText h level) (pairs h level)
     unfolding listText

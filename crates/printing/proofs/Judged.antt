@@ -1,4 +1,4 @@
--- What the judge's answer says of the reading, with buffers of 4,096, 65,536 and 128 bytes: it never comes to 12, 13 or 14.
+-- What the judge's answer says of the reading, with buffers of 6,144, 65,536 and 128 bytes: it never comes to 12, 13 or 14.
 use Prim.Native.Nat.{ℕ, _≤_}
 use mathlib.Core.Path.{_≡_, ap}
 use mathlib.Core.Bool.{true, false}
@@ -12,12 +12,12 @@ use Rattle.rules.specs.Outcome.{findings, findingList, pairs, pairList, order, 
 use Rattle.rules.specs.declared.Answer.{Answer}
 use Rattle.rules.specs.declared.Answer.the-variants.{Refused, Rejected, Accepted}
 use Rattle.rules.proofs.Outcome.{verdictNo, Came, came-no-level, came-refused, came-short, came-short-pairs, came-rejected, came-short-order, came-accepted, came}
-use Rattle.rules.proofs.Lists.{findings-four, pairs-four}
+use Rattle.rules.proofs.Lists.{findings-long, pairs-long}
 use Rattle.printing.proofs.Lengths.{lawful-reading, findings-few, pairs-few, order-few}
 
 -- the new buffers
 abbrev pub newFindings : List ℕ
-newFindings = replicate 4096 0
+newFindings = replicate 6144 0
 
 abbrev pub newPairs : List ℕ
 newPairs = replicate 65536 0
@@ -66,8 +66,8 @@ module _ (s : List ℕ) (level : ℕ) (low : 1 ≤ level) (high : level ≤ 3) w
   comes-by : {x : Outcome} → Came s level newFindings newPairs newOrder x → Comes x
   comes-by (came-no-level d) = absurd (d (low, high))
   comes-by (came-refused a b e) = comes-refused e
-  comes-by (came-short {h} a b e t l) = absurd (omega (arith, new-length 4096, findings-four h, findings-few (lawful-reading s e)))
-  comes-by (came-short-pairs {h} a b e t g l) = absurd (omega (arith, new-length 65536, pairs-four h level, pairs-few (lawful-reading s e) level))
+  comes-by (came-short {h} a b e t l) = absurd (omega (arith, new-length 6144, findings-long h, findings-few (lawful-reading s e)))
+  comes-by (came-short-pairs {h} a b e t g l) = absurd (omega (arith, new-length 65536, pairs-long h level, pairs-few (lawful-reading s e) level))
   comes-by (came-rejected a b e t g k) = comes-rejected e t
   comes-by (came-short-order a b e t l) = absurd (omega (arith, new-length 128, order-few (lawful-reading s e) level))
   comes-by (came-accepted a b e t g) = comes-accepted e t

@@ -9,10 +9,11 @@ use Rattle.base.specs.Base.{pick, listed, those, joined}
 use Rattle.base.proofs.Searches.{listed-most, count-most, joined-one, joined-none, joined-listed, joined-those}
 use Rattle.theory.specs.Leads.{isListed}
 use Rattle.theory.proofs.Order.{unplaced-all, rest-bound, rest-below}
-use Rattle.rules.specs.History.{History, op, opCount, size, committed}
+use Rattle.rules.specs.History.{History, op, opCount, size, originOf, committed}
 use Rattle.rules.specs.Reading.{Reading, refused, read, reading, Stretch}
 use Rattle.rules.specs.Reads.{kindOf, isFinding}
 use Rattle.rules.proofs.Kind.{kind-le}
+use Rattle.rules.proofs.Origin.{origin-less}
 use Rattle.rules.specs.Levels.{isStart, isSession, isRead, isRival, forced, reasons}
 use Rattle.rules.specs.Outcome.{Pair, findings, pairsOf, pairs, order, isAccepted}
 use Rattle.demand1.specs.Lawful.{LawfulHistory}
@@ -54,18 +55,20 @@ module _ {h : History} (ok : LawfulHistory h) where
   findings-few =
       omega (arith, ok .few-ops, listed-most (λ i. pick (isFinding h i) (i ∷ []) []) 1 (opCount h + 1) 1 (λ i a b. pick-both (λ (l : List ℕ). length l ≤ 1) (isFinding h i) (omega arith) (omega arith)))
 
-  findings-text : length (joined (findingText h) (findings h)) ≤ 20480
+  findings-text : length (joined (findingText h) (findings h)) ≤ 25600
   unfolding findings findingText
   findings-text =
       rw (joined-those (findingText h) (isFinding h) (opCount h + 1) 1)
       (omega (
         arith,
         ok .few-ops,
-        listed-most (λ i. pick (isFinding h i) (findingText h i) []) 20 (opCount h + 1) 1
+        listed-most (λ i. pick (isFinding h i) (findingText h i) []) 25 (opCount h + 1) 1
             (λ i a b.
             let t = ok .in-tx i (record { from = a; to = omega arith }) in
-            pick-both (λ (l : List ℕ). length l ≤ 20) (isFinding h i)
-            (read-length (op h i .tx) i (kindOf h i) (omega (arith, t .to, ok .few-txs)) (omega (arith, ok .few-ops)) (omega (arith, kind-le h i))) (omega arith)),
+            pick-both (λ (l : List ℕ). length l ≤ 25) (isFinding h i)
+            (read-length (op h i .tx) i (kindOf h i) (originOf h i) (omega (arith, t .to, ok .few-txs)) (omega (arith, ok .few-ops))
+            (omega (arith, kind-le h i)) (omega (arith, origin-less h i, ok .few-ops)))
+            (omega arith)),
       ))
 
   module _ (level : ℕ) where
@@ -90,26 +93,26 @@ module _ {h : History} (ok : LawfulHistory h) where
               (omega (arith, ok .few-txs, listed-most (entry a) 1 (size h) 0 (λ b _ _. pick-both (λ (l : List Pair). length l ≤ 1) (isListed (size h) (forced h level) a b) (omega arith) (omega arith))))),
         )
 
-    row-text : (a : ℕ) → a < size h → length (joined (pairText h level) (pairsOf h level a)) ≤ 2560
+    row-text : (a : ℕ) → a < size h → length (joined (pairText h level) (pairsOf h level a)) ≤ 2176
     unfolding pairText
     row-text a l =
         rw (entries-of a, joined-listed (pairText h level) (entry a) (size h) 0)
         (omega (
           arith,
           ok .few-txs,
-          listed-most (λ b. joined (pairText h level) (entry a b)) 20 (size h) 0
+          listed-most (λ b. joined (pairText h level) (entry a b)) 17 (size h) 0
               (λ b _ m.
-              pick-both (λ (l : List Pair). length (joined (pairText h level) l) ≤ 20) (isListed (size h) (forced h level) a b)
+              pick-both (λ (l : List Pair). length (joined (pairText h level) l) ≤ 17) (isListed (size h) (forced h level) a b)
               (rw (joined-one (pairText h level) (record { one = a; two = b }))
               (pair-length a b (reasons h level a b) (omega (arith, ok .few-txs)) (omega (arith, ok .few-txs)) (omega (arith, all-reasons h level a b))))
               (rw (joined-none (pairText h level)) (omega arith))),
         ))
 
-    pairs-text : length (joined (pairText h level) (pairs h level)) ≤ 327680
+    pairs-text : length (joined (pairText h level) (pairs h level)) ≤ 278528
     unfolding pairs
     pairs-text =
         rw (joined-listed (pairText h level) (pairsOf h level) (size h) 0)
-        (omega (arith, ok .few-txs, listed-most (λ a. joined (pairText h level) (pairsOf h level a)) 2560 (size h) 0 (λ a _ l. row-text a l)))
+        (omega (arith, ok .few-txs, listed-most (λ a. joined (pairText h level) (pairsOf h level a)) 2176 (size h) 0 (λ a _ l. row-text a l)))
 
     -- its order, and the line of it
     pub order-few : length (order h level) ≤ 128
@@ -122,10 +125,10 @@ module _ {h : History} (ok : LawfulHistory h) where
     order-text =
         omega (arith, order-few, accepted-length level (order h level) (λ i l. omega (arith, ok .few-txs, rest-below (size h) (committed h) (forced h level) [] i l)))
 
-    block-short : length (blockText h level) ≤ 348224
+    block-short : length (blockText h level) ≤ 304192
     unfolding blockText
     block-short =
-        pick-both (λ (t : List ℕ). length t ≤ 348224) (isAccepted h level) (omega (arith, order-text))
+        pick-both (λ (t : List ℕ). length t ≤ 304192) (isAccepted h level) (omega (arith, order-text))
         (omega (arith, three-parts (rejectedLine level (length (findings h)) (length (pairs h level))) (joined (findingText h) (findings h)) (joined (pairText h level) (pairs h level)), rejected-length (length (findings h)) (length (pairs h level)) (omega (arith, findings-few)) (omega (arith, pairs-few)) level, findings-text, pairs-text))
 
 -- ── the text ──

@@ -38,10 +38,15 @@ pub record BlockPut (s : List ℕ) (level : ℕ) (o : List ℕ) (at : ℕ) (b : 
 
 -- ── a list in a buffer ──
 
--- the line of its entry i, from 0. "Finding, 4 bytes: transaction, kind, operation number (2 bytes little-endian)". "Pair, 4 bytes: first, second,
--- reasons, 0."
+-- how many bytes an entry has. Document 02: "A finding becomes 6 bytes". Document 01: "Pair, 4 bytes"
+unfoldable pub width : Lines → ℕ
+width ReadLines = 6
+width PairLines = 4
+
+-- the line of its entry i, from 0. "Finding ..: transaction, kind, operation number (2 bytes little-endian)", and the number of the write "last (2
+-- bytes)": "`judge` prints it as a fourth field." "Pair, 4 bytes: first, second, reasons, 0."
 unfoldable pub entryLine : Lines → List ℕ → ℕ → List ℕ
-entryLine ReadLines l i = readLine (getD l (4 * i) 0) (le 2 l (4 * i + 2)) (getD l (4 * i + 1) 0)
+entryLine ReadLines l i = readLine (getD l (6 * i) 0) (le 2 l (6 * i + 2)) (getD l (6 * i + 1) 0) (le 2 l (6 * i + 4))
 entryLine PairLines l i = pairLine (getD l (4 * i) 0) (getD l (4 * i + 1) 0) (getD l (4 * i + 2) 0)
 
 -- the lines of its first n entries

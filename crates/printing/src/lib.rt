@@ -2,9 +2,10 @@
 ghost use mathlib.Core.Path.{_≡_};
 ghost use Prim.Native.Nat.{_+_, _*_, _≤_, _<_};
 ghost use lib.ListN.{length, getD};
+ghost use Rattle.rules.specs.Numbers.{le};
 ghost use Rattle.rules.specs.Reading.{reading};
 ghost use Rattle.show.specs.Laid.{Put, Short};
-ghost use Rattle.printing.specs.Printing.{Written, blockOf, BlockPut, entryLine, listText, rejectedText};
+ghost use Rattle.printing.specs.Printing.{Written, blockOf, BlockPut, width, entryLine, listText, rejectedText};
 ghost use Rattle.printing.specs.declared.Lines.the-variants.{ReadLines, PairLines};
 use rules::Answer;
 
@@ -35,7 +36,7 @@ fn put_block(trace: &[u8], level: u8, out: &mut [u8], at: usize) -> Block
     ensures { λ r. ⌜ BlockPut (now (trace .entry)) level (now (out .entry)) at (now (out .exit)) r ⌝ }
 {
     // Enough for 1,024 findings, for every pair of 128 transactions, and for an order of them.
-    let mut findings = [0u8; 4096];
+    let mut findings = [0u8; 6144];
     let mut pairs = [0u8; 65536];
     let mut order = [0u8; 128];
     let answer = judging::judge(trace, level, &mut findings, &mut pairs, &mut order);
@@ -64,7 +65,7 @@ fn put_rejected(
     out: &mut [u8],
     at: usize,
 ) -> usize
-    requires { ⌜ (4 * reads ≤ length (now findings)) × (4 * listed ≤ length (now pairs)) × Short at (rejectedText level reads listed (now findings) (now pairs)) ⌝ }
+    requires { ⌜ (6 * reads ≤ length (now findings)) × (4 * listed ≤ length (now pairs)) × Short at (rejectedText level reads listed (now findings) (now pairs)) ⌝ }
     ensures { λ r. ⌜ Put (now (out .entry)) at (now (out .exit)) r (rejectedText level reads listed (now (findings .entry)) (now (pairs .entry))) ⌝ }
 {
     let to = show::put_rejected(out, at, level, reads, listed);
@@ -82,7 +83,7 @@ enum Lines {
 
 // The lines of the first n entries of a list.
 fn put_entries(lines: Lines, list: &[u8], n: usize, out: &mut [u8], at: usize) -> usize
-    requires { ⌜ (4 * n ≤ length (now list)) × Short at (listText lines (now list) n) ⌝ }
+    requires { ⌜ (width lines * n ≤ length (now list)) × Short at (listText lines (now list) n) ⌝ }
     ensures { λ r. ⌜ Put (now (out .entry)) at (now (out .exit)) r (listText lines (now (list .entry)) n) ⌝ }
 {
     let mut to = at;
@@ -96,7 +97,7 @@ fn put_entries(lines: Lines, list: &[u8], n: usize, out: &mut [u8], at: usize) -
 
 // The line of a list's entry i.
 fn put_entry(lines: Lines, list: &[u8], i: usize, out: &mut [u8], at: usize) -> usize
-    requires { ⌜ (4 * i + 4 ≤ length (now list)) × Short at (entryLine lines (now list) i) ⌝ }
+    requires { ⌜ (width lines * i + width lines ≤ length (now list)) × Short at (entryLine lines (now list) i) ⌝ }
     ensures { λ r. ⌜ Put (now (out .entry)) at (now (out .exit)) r (entryLine lines (now (list .entry)) i) ⌝ }
 {
     match lines {
@@ -105,15 +106,16 @@ fn put_entry(lines: Lines, list: &[u8], i: usize, out: &mut [u8], at: usize) -> 
     }
 }
 
-// `read T OP KIND`
+// `read T OP KIND WRITE`
 fn put_finding(findings: &[u8], i: usize, out: &mut [u8], at: usize) -> usize
-    requires { ⌜ (4 * i + 4 ≤ length (now findings)) × Short at (entryLine ReadLines (now findings) i) ⌝ }
+    requires { ⌜ (6 * i + 6 ≤ length (now findings)) × Short at (entryLine ReadLines (now findings) i) ⌝ }
     ensures { λ r. ⌜ Put (now (out .entry)) at (now (out .exit)) r (entryLine ReadLines (now (findings .entry)) i) ⌝ }
 {
-    let t = number_at(findings, 4 * i);
-    let kind = number_at(findings, 4 * i + 1);
-    let op = number_at(findings, 4 * i + 2) + 256 * number_at(findings, 4 * i + 3);
-    show::put_read(out, at, t, op, kind)
+    let t = number_at(findings, 6 * i);
+    let kind = number_at(findings, 6 * i + 1);
+    let op = number2_at(findings, 6 * i + 2);
+    let write = number2_at(findings, 6 * i + 4);
+    show::put_read(out, at, t, op, kind, write)
 }
 
 // `pair A B REASONS`
@@ -133,4 +135,12 @@ fn number_at(list: &[u8], i: usize) -> usize
     ensures { λ r. ⌜ (r ≡ getD (now (list .entry)) i 0) × (r < 256) ⌝ }
 {
     list[i] as usize
+}
+
+// Two bytes of a list as a number, little-endian.
+fn number2_at(list: &[u8], i: usize) -> usize
+    requires { ⌜ i + 2 ≤ length (now list) ⌝ }
+    ensures { λ r. ⌜ r ≡ le 2 (now (list .entry)) i ⌝ }
+{
+    number_at(list, i) + 256 * number_at(list, i + 1)
 }

@@ -9,8 +9,8 @@ use lib.Dec.{ltb, leb, eqb}
 use borrow.Author.Tests.{eq-eqb, ne-eqb, eqb-true, lt-ltb, le-ltb, le-leb, lt-leb, ltb-true}
 use Rattle.base.specs.Base.{_and_, pick}
 use Rattle.base.proofs.Tests.{ifso, same-test, and-right, and-on, and-no-left, and-no-right, pick-on, pick-off}
-use Rattle.rules.specs.History.{History, op, opCount, committed}
-use Rattle.rules.specs.Reads.{sourceOf, kindOf, isJudged, isFinding, isExternal, readsFrom}
+use Rattle.rules.specs.History.{History, op, opCount, sourceOf, committed}
+use Rattle.rules.specs.Reads.{kindOf, isJudged, isFinding, isExternal, readsFrom}
 use Rattle.reads.specs.Verdicts.{verdictOf, Judged}
 use Rattle.rules.proofs.Kind.{kind-le}
 

@@ -1,44 +1,28 @@
 -- The first kind that fits, case by case.
 use Prim.Native.Nat.{ℕ, _+_, _<_, _≤_}
-use mathlib.Core.Path.{_≡_, refl, ap, sym}
+use mathlib.Core.Path.{_≡_, refl}
 use mathlib.Core.Bool.{Bool, true, false}
 use mathlib.Core.List.{List}
 use mathlib.Core.Logic.{⊎-elim}
 use native.Mathlib.Omega.{arith}
 use native.Mathlib.Decide.{ℕ-discrete}
-use lib.Dec.{ltb, eqb}
+use lib.Dec.{ltb}
 use borrow.Author.Tests.{eq-eqb, ne-eqb, lt-ltb}
 use Rattle.base.specs.Base.{_and_, _or_, pick, firstFit}
-use Rattle.base.proofs.Tests.{known, clash, and-no-right, pick-on, pick-off, split}
+use Rattle.base.proofs.Tests.{clash, and-no-right, split}
 use Rattle.base.proofs.Searches.{some-end}
-use Rattle.rules.specs.History.{History, op, txCount, opCount, committed, writeOf}
-use Rattle.rules.specs.Reads.{writesAt, wroteBetween, originOf, sourceOf, kindBy, kindOf}
+use Rattle.rules.specs.History.{History, op, txCount, opCount, originOf, sourceOf, committed}
+use Rattle.rules.specs.Reads.{writesAt, wroteBetween, kindBy, kindOf}
+use Rattle.rules.proofs.Origin.{origin-zero, origin-less, source-is, source-none}
 use Rattle.table.specs.Table.{historyOf, Held, HasOp}
-use Rattle.table.proofs.Words.{write-less, op-has-tx}
+use Rattle.table.proofs.Words.{op-has-tx}
 
 -- ── where a value comes from ──
 
 module _ (h : History) (i : ℕ) where
-  pub origin-less : originOf h i < opCount h + 1
-  unfolding originOf
-  origin-less =
-      ⊎-elim (λ e. rw (pick-on (eqb (op h i .value) 0) 0 (writeOf h (op h i .key) (op h i .value)) e) (omega arith))
-      (λ e. rw (pick-off (eqb (op h i .value) 0) 0 (writeOf h (op h i .key) (op h i .value)) e) (write-less h (op h i .key) (op h i .value)))
-      (known (eqb (op h i .value) 0))
-
   -- a value that was written is not 0
   pub origin-value : (originOf h i ≡ 0 → ⊥) → op h i .value ≡ 0 → ⊥
-  unfolding originOf
-  origin-value n e = n (pick-on _ _ _ (eq-eqb _ _ e))
-
-  -- its transaction is that of the write w
-  pub source-is : (w : ℕ) → w ≡ originOf h i → op h w .tx ≡ sourceOf h i
-  unfolding sourceOf
-  source-is w e = ap (λ (w : ℕ). op h w .tx) e
-
-  pub source-none : originOf h i ≡ 0 → 0 ≡ sourceOf h i
-  unfolding sourceOf op
-  source-none e = sym (ap (λ (w : ℕ). op h w .tx) e)
+  origin-value n e = n (origin-zero h i e)
 
 module _ (h : List ℕ) (i : ℕ) (p : Held h) where
   -- its write is an operation

@@ -7,8 +7,8 @@ use lib.ListN.{length, getD}
 use lib.Dec.{eqb}
 use Rattle.base.specs.Base.{_and_, pick, listed}
 use Rattle.base.proofs.Fill.{Appended}
-use Rattle.rules.specs.History.{History, op, opCount}
-use Rattle.rules.specs.Reads.{wroteBetween, sourceOf, kindOf, isFinding, isExternal}
+use Rattle.rules.specs.History.{History, op, opCount, sourceOf}
+use Rattle.rules.specs.Reads.{wroteBetween, kindOf, isFinding, isExternal}
 
 -- operation i is a write of the key x
 unfoldable pub writesKeyAt : History → ℕ → ℕ → Bool

@@ -1,8 +1,8 @@
 ghost use mathlib.Core.Path.{_≡_};
 ghost use Prim.Native.Nat.{_+_, _≤_, _<_};
 ghost use lib.ListN.{length};
-ghost use Rattle.rules.specs.History.{op, txCount, opCount, committed};
-ghost use Rattle.rules.specs.Reads.{wroteBetween, originOf, sourceOf, kindBy, kindOf};
+ghost use Rattle.rules.specs.History.{op, txCount, opCount, originOf, sourceOf, committed};
+ghost use Rattle.rules.specs.Reads.{wroteBetween, kindBy, kindOf};
 ghost use Rattle.table.specs.Table.{historyOf, Held, HasTx, HasOp, Settled, Below};
 ghost use Rattle.reads.specs.Verdicts.{writesKeyAt, wroteUpTo, verdictOf, Classified};
 
@@ -73,18 +73,6 @@ fn wrote_after(h: &[u64], t: usize, x: u64, a: usize) -> bool
     ensures { λ r. ⌜ r ≡ wroteBetween (historyOf (now (h .entry))) t x a (opCount (historyOf (now (h .entry))) + 1) ⌝ }
 {
     wrote_up_to(h, x, a, table::last_op(h, t))
-}
-
-// The number of the write that has operation i's key and value; 0 where the value is 0 or no write has them.
-fn origin_of(h: &[u64], i: usize) -> usize
-    requires { ⌜ HasOp (now h) i ⌝ }
-    ensures { λ r. ⌜ Below r (originOf (historyOf (now (h .entry))) i) (opCount (historyOf (now (h .entry))) + 1) ⌝ }
-{
-    let v = table::value_of(h, i);
-    if v == 0 {
-        return 0;
-    }
-    table::write_of(h, table::key_of(h, i), v)
 }
 
 // Its transaction, where that write is number w: "from the write's transaction, or from transaction 0 when v is 0".
@@ -176,7 +164,7 @@ pub fn verdict_of(h: &[u64], i: usize) -> u8
     if !is_committed(h, t) {
         return 0;
     }
-    let w = origin_of(h, i);
+    let w = table::origin_of(h, i);
     let k = kind_of(h, i, w);
     if k != 0 {
         return k;

@@ -11,8 +11,8 @@ use Rattle.base.specs.Base.{_and_, some, last}
 use Rattle.base.proofs.Tests.{ifso, clash, both, and-left, and-right, and-on, and-no-left, and-no-right, or-left, or-right, or-on, pick-on, pick-off}
 use Rattle.base.proofs.Searches.{some-end, some-same}
 use Rattle.base.proofs.Chains.{last-is, last-hit, last-miss, last-chain, top-hit, top-miss, top-chain}
-use Rattle.rules.specs.History.{History, op, opCount}
-use Rattle.rules.specs.Reads.{writesAt, wroteBetween, sourceOf, isExternal}
+use Rattle.rules.specs.History.{History, op, opCount, sourceOf}
+use Rattle.rules.specs.Reads.{writesAt, wroteBetween, isExternal}
 use Rattle.rules.specs.Levels.{writesKey}
 use Rattle.table.specs.Table.{historyOf, ofTx, lastBelow, lastOf, prevOf, HasOp, Below}
 use Rattle.table.proofs.Chain.{OnChain, on-last, chain-prev, sought-prev}

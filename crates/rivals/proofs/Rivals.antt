@@ -12,8 +12,8 @@ use Rattle.base.proofs.Tests.{clash, is-false, same-test, both, and-left, and-r
 use Rattle.base.proofs.Searches.{Passing, some-at, some-of, some-same, some-none}
 use Rattle.base.proofs.Chains.{last-passes, last-less}
 use Rattle.theory.specs.Leads.{via}
-use Rattle.rules.specs.History.{History, op, opCount, size, committed}
-use Rattle.rules.specs.Reads.{sourceOf, isExternal}
+use Rattle.rules.specs.History.{History, op, opCount, size, sourceOf, committed}
+use Rattle.rules.specs.Reads.{isExternal}
 use Rattle.rules.specs.Levels.{basic, writesKey, sees, settles, isRival, forced}
 use Rattle.rules.proofs.Committed.{committed-below}
 use Rattle.table.specs.Table.{historyOf, lastOf, prevOf, Held, Below}

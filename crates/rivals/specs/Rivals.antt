@@ -4,8 +4,8 @@ use mathlib.Core.Bool.{Bool, not}
 use mathlib.Core.List.{List}
 use lib.Dec.{ltb, eqb}
 use Rattle.base.specs.Base.{_and_, _or_, pick, first}
-use Rattle.rules.specs.History.{History, op, opCount, size, committed}
-use Rattle.rules.specs.Reads.{writesAt, sourceOf, isExternal, readsFrom}
+use Rattle.rules.specs.History.{History, op, opCount, size, sourceOf, committed}
+use Rattle.rules.specs.Reads.{writesAt, isExternal, readsFrom}
 use Rattle.rules.specs.Levels.{basic, leads, writesKey, settles}
 use Rattle.table.specs.Table.{historyOf, ofTx, lastOf}
 use Rattle.bits.specs.Bits.{bitOf, Holds}

@@ -11,16 +11,16 @@ use Rattle.base.proofs.Tests.{is-false, not-true, both, and-left, and-right, sp
 use Rattle.base.proofs.Searches.{some-at, some-of}
 use Rattle.theory.specs.Reached.{Reached, from}
 use Rattle.theory.proofs.Reached.{reach-iff, reached-below}
-use Rattle.rules.specs.History.{History, Tx, tx, op, opCount, size, zeroth, noTx, writeOf, saysCommitted, isUnanswered, takesFrom, vouches, committed}
+use Rattle.rules.specs.History.{History, Tx, tx, op, opCount, size, zeroth, noTx, sourceOf, saysCommitted, isUnanswered, takesFrom, vouches, committed}
 use Rattle.rules.proofs.History.{status-0}
 
 -- ── what is said, and the rule's step ──
 
--- operation i is a read in a, and the write that is found for its key and value is u's
+-- operation i is a read in a, and its value's write is u's
 pub record Takes (h : History) (a u i : ℕ) : Type 0 where
   pub is-read : op h i .isWrite ≡ false
   pub in-reader : op h i .tx ≡ a
-  pub of-writer : op h (writeOf h (op h i .key) (op h i .value)) .tx ≡ u
+  pub of-writer : sourceOf h i ≡ u
 
 -- u is unanswered, and a, which is another, takes a value from it
 pub record Vouches (h : History) (a u : ℕ) : Type 0 where

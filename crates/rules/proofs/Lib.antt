@@ -1,6 +1,7 @@
 pub mod Numbers
 pub mod Traces
 pub mod History
+pub mod Origin
 pub mod Committed
 pub mod Walking
 pub mod Kind

@@ -6,12 +6,12 @@ use Rattle.base.proofs.Searches.{joined-length}
 use Rattle.rules.specs.History.{History}
 use Rattle.rules.specs.Outcome.{findings, findingBytes, findingList, pairs, pairBytes, pairList}
 
--- "Finding, 4 bytes"
-pub findings-four : (h : History) → length (findingList h) ≡ 4 * length (findings h)
+-- "A finding becomes 6 bytes"
+pub findings-long : (h : History) → length (findingList h) ≡ 6 * length (findings h)
 unfolding findingList findingBytes
-findings-four h = joined-length (findingBytes h) 4 (λ i. refl) (findings h)
+findings-long h = joined-length (findingBytes h) 6 (λ i. refl) (findings h)
 
 -- "Pair, 4 bytes"
-pub pairs-four : (h : History) (level : ℕ) → length (pairList h level) ≡ 4 * length (pairs h level)
+pub pairs-long : (h : History) (level : ℕ) → length (pairList h level) ≡ 4 * length (pairs h level)
 unfolding pairList pairBytes
-pairs-four h level = joined-length (pairBytes h level) 4 (λ p. refl) (pairs h level)
+pairs-long h level = joined-length (pairBytes h level) 4 (λ p. refl) (pairs h level)

@@ -17,6 +17,18 @@ unfolding bytes
 bytes-length zero n = refl
 bytes-length (suc w) n = ap suc (bytes-length w (n / 256))
 
+-- the same bytes spell the same number
+pub le-same : (w : ℕ) (l m : List ℕ) (a r : ℕ) → ((i : ℕ) → i < w → getD l (a + i) 0 ≡ getD m (r + i) 0) → le w l a ≡ le w m r
+unfolding le
+le-same zero l m a r h = refl
+le-same (suc w) l m a r h = rw (here, le-same w l m (a + 1) (r + 1) on)
+  where
+    here : getD l a 0 ≡ getD m r 0
+    here = let e : a + 0 ≡ a = omega arith in let f : r + 0 ≡ r = omega arith in rw (e, f) at (h 0 (omega arith))
+
+    on : (i : ℕ) → i < w → getD l (a + 1 + i) 0 ≡ getD m (r + 1 + i) 0
+    on i g = let e : a + 1 + i ≡ a + suc i = omega arith in let f : r + 1 + i ≡ r + suc i = omega arith in rw (e, f) (h (suc i) (omega arith))
+
 -- what stands before does not count
 pub le-behind : (w : ℕ) (xs s : List ℕ) (i : ℕ) → le w (xs ++ s) (length xs + i) ≡ le w s i
 unfolding le

@@ -41,19 +41,19 @@ table =
     -- P2 no bytes
     ∷ all [] (refusesWith 3 0)
     -- P3 T1 r1=5
-    ∷ all (whole 1 (T 1 (r 1 5 ∷ []))) (rejectsWith (read 1 1 1) [])
+    ∷ all (whole 1 (T 1 (r 1 5 ∷ []))) (rejectsWith (read 1 1 1 0) [])
     -- P4 T1 r1=0
     ∷ all (whole 1 (T 1 (r 1 0 ∷ []))) (acceptsWith (0 ∷ 1 ∷ []))
     -- P5 T1 w1=5 aborted; T2 r1=5
-    ∷ all (whole 2 (block 1 0 (w 1 5 ∷ []) ++ T 2 (r 1 5 ∷ []))) (rejectsWith (read 2 2 2) [])
+    ∷ all (whole 2 (block 1 0 (w 1 5 ∷ []) ++ T 2 (r 1 5 ∷ []))) (rejectsWith (read 2 2 2 1) [])
     -- P6 T1 r1=5 w1=5
-    ∷ all (whole 1 (T 1 (r 1 5 ∷ w 1 5 ∷ []))) (rejectsWith (read 1 1 3) [])
+    ∷ all (whole 1 (T 1 (r 1 5 ∷ w 1 5 ∷ []))) (rejectsWith (read 1 1 3 2) [])
     -- P7 T1 w1=5 w1=6 r1=5
-    ∷ all (whole 1 (T 1 (w 1 5 ∷ w 1 6 ∷ r 1 5 ∷ []))) (rejectsWith (read 1 3 4) [])
+    ∷ all (whole 1 (T 1 (w 1 5 ∷ w 1 6 ∷ r 1 5 ∷ []))) (rejectsWith (read 1 3 4 1) [])
     -- P8 T1 w1=5; T2 w1=6 r1=5
-    ∷ all (whole 2 (T 1 (w 1 5 ∷ []) ++ T 2 (w 1 6 ∷ r 1 5 ∷ []))) (rejectsWith (read 2 3 5) [])
+    ∷ all (whole 2 (T 1 (w 1 5 ∷ []) ++ T 2 (w 1 6 ∷ r 1 5 ∷ []))) (rejectsWith (read 2 3 5 1) [])
     -- P9 T1 w1=5 w1=6; T2 r1=5
-    ∷ all (whole 2 (T 1 (w 1 5 ∷ w 1 6 ∷ []) ++ T 2 (r 1 5 ∷ []))) (rejectsWith (read 2 3 6) [])
+    ∷ all (whole 2 (T 1 (w 1 5 ∷ w 1 6 ∷ []) ++ T 2 (r 1 5 ∷ []))) (rejectsWith (read 2 3 6 1) [])
     -- P10 T1 w1=5; T2 w1=6; T3 r1=5 r1=6
     ∷ case (whole 3 (T 1 (w 1 5 ∷ []) ++ T 2 (w 1 6 ∷ []) ++ T 3 (r 1 5 ∷ r 1 6 ∷ []))) (acceptsWith (0 ∷ 1 ∷ 2 ∷ 3 ∷ [])) (rejectsWith [] swapped)
     (rejectsWith [] swapped)

@@ -2,18 +2,17 @@
 -- wraps, buffers one byte short, and reads that stand just beside a rule. As in Cases: a table and one statement.
 use Prim.Native.Nat.{ℕ, _+_}
 use mathlib.Core.Path.{_≡_, refl}
-use mathlib.Core.Bool.{true}
+use mathlib.Core.Bool.{true, false}
 use mathlib.Core.List.{List, [], _∷_, _++_, map}
-use lib.ListN.{length}
 use Rattle.base.specs.Base.{_and_, _or_, pick, someOf, firstOf, countOf, listOf, some, first, count, listed, those, last, joined, numbered, nth, firstFit}
 use Rattle.theory.specs.Leads.{via, isListed}
 use Rattle.theory.specs.Reached.{reach}
 use Rattle.theory.specs.Order.{mem, misses, ready, isUnplaced, unplaced, next, fill, rest}
 use Rattle.rules.specs.Numbers.{le, bytes, over}
-use Rattle.rules.specs.History.{tx, op, isOpen, current, writesValue, writeOf, saysCommitted, isUnanswered, takesFrom, vouches, committed, opened, closed, withOp}
+use Rattle.rules.specs.History.{History, tx, op, isOpen, current, writesValue, writeOf, originOf, sourceOf, saysCommitted, isUnanswered, takesFrom, vouches, committed, opened, closed, withOp}
 use Rattle.rules.specs.Records.{eventOf, eventAt, breaks, isUnknown, isMisfit, frameRows}
 use Rattle.rules.specs.Reading.{State, misplaced, unlawful, excess, repeats, stepRows, entered, isEnd, textAt, refusalNo, after, finished, walk, reading}
-use Rattle.rules.specs.Reads.{writesAt, wroteBetween, originOf, sourceOf, kindBy, kindOf, isJudged, isFinding, isExternal, readsFrom}
+use Rattle.rules.specs.Reads.{writesAt, wroteBetween, kindBy, kindOf, isJudged, isFinding, isExternal, readsFrom}
 use Rattle.rules.specs.Levels.{isStart, isSession, isRead, basic, leads, writesKey, sees, settles, isRival, forced, reasons}
 use Rattle.rules.specs.Outcome.{Outcome, findings, findingBytes, pairsOf, pairs, pairBytes, order, findingList, pairList, isEmpty, isAccepted, acceptance, rejection, judgedRead, isLevel, judged}
 use Rattle.rules.specs.Traces.{Item, raw, recordOf, trace, opens, closes, ends, note, whole, block, T, r, w, read, pair, room, refusesIn, acceptsIn, rejectsIn}
@@ -50,6 +49,10 @@ P13 = whole 2 (T 1 (r 2 7 ∷ w 1 5 ∷ []) ++ T 2 (r 1 5 ∷ w 2 7 ∷ []))
 
 abbrev P4 : List ℕ
 P4 = whole 1 (T 1 (r 1 0 ∷ []))
+
+-- T1 w1=5 aborted; T2 r1=5 r1=5
+abbrev twice : List ℕ
+twice = whole 2 (block 1 0 (w 1 5 ∷ []) ++ T 2 (r 1 5 ∷ r 1 5 ∷ []))
 
 -- a note of two bytes, and one of none inside a transaction
 abbrev noteful : List ℕ
@@ -106,12 +109,14 @@ edgeTable =
     -- 11: a byte after the end; 3: a record boundary without an end
     ∷ refusesAt (whole 0 [] ++ (7 ∷ [])) 11 10
     ∷ refusesAt (trace 0 (T 1 [])) 3 19
-    -- 12, then 13, one byte short and exactly fitting; a rejection needs no order buffer
-    ∷ edge P3 3 3 0 0 (refusesIn 3 0 0 12 4)
-    ∷ edge P3 3 4 0 0 (rejectsIn 4 0 0 (read 1 1 1) [])
+    -- 12, "6 bytes a finding", then 13, one byte short and exactly fitting; a rejection needs no order buffer
+    ∷ edge P3 3 5 0 0 (refusesIn 5 0 0 12 6)
+    ∷ edge P3 3 6 0 0 (rejectsIn 6 0 0 (read 1 1 1 0) [])
+    ∷ edge twice 3 11 0 0 (refusesIn 11 0 0 12 12)
+    ∷ edge twice 3 12 0 0 (rejectsIn 12 0 0 (read 2 2 2 1 ++ read 2 3 2 1) [])
     ∷ edge P13 3 0 7 0 (refusesIn 0 7 0 13 8)
     ∷ edge P13 3 0 8 0 (rejectsIn 0 8 0 [] (pair 1 2 4 ++ pair 2 1 4))
-    ∷ edge (whole 3 (T 1 (r 2 7 ∷ w 1 5 ∷ []) ++ T 2 (r 1 5 ∷ w 2 7 ∷ []) ++ T 3 (r 9 9 ∷ []))) 3 3 7 0 (refusesIn 3 7 0 12 4)
+    ∷ edge (whole 3 (T 1 (r 2 7 ∷ w 1 5 ∷ []) ++ T 2 (r 1 5 ∷ w 2 7 ∷ []) ++ T 3 (r 9 9 ∷ []))) 3 5 7 0 (refusesIn 5 7 0 12 6)
     -- 14 one byte short and exactly fitting; an acceptance needs no list buffers
     ∷ edge (whole 0 []) 3 0 0 0 (refusesIn 0 0 0 14 1)
     ∷ edge P4 3 0 0 1 (refusesIn 0 0 1 14 2)
@@ -119,8 +124,17 @@ edgeTable =
     -- clean internal reads: of the only write, and of the last of two
     ∷ acceptsAt 3 (whole 1 (T 1 (w 1 5 ∷ r 1 5 ∷ []))) (0 ∷ 1 ∷ [])
     ∷ acceptsAt 3 (whole 1 (T 1 (w 1 5 ∷ w 1 6 ∷ r 1 6 ∷ w 1 7 ∷ []))) (0 ∷ 1 ∷ [])
+    -- "which write was it?": of each kind one whose number is neither its transaction's nor the read's, before the read and, where it can be, behind it
+    ∷ rejectsAt 3 (whole 2 (block 1 0 (r 2 9 ∷ w 1 5 ∷ []) ++ T 2 (r 1 5 ∷ []))) (read 2 3 2 2) []
+    ∷ rejectsAt 3 (whole 2 (T 1 (r 1 5 ∷ []) ++ block 2 0 (w 2 7 ∷ w 1 5 ∷ []))) (read 1 1 2 3) []
+    ∷ rejectsAt 3 (whole 1 (T 1 (w 2 7 ∷ r 1 5 ∷ w 1 5 ∷ []))) (read 1 2 3 3) []
+    ∷ rejectsAt 3 (whole 1 (T 1 (w 2 7 ∷ w 1 5 ∷ w 1 6 ∷ r 1 5 ∷ []))) (read 1 4 4 2) []
+    ∷ rejectsAt 3 (whole 2 (T 1 (w 2 7 ∷ w 1 5 ∷ []) ++ T 2 (w 1 6 ∷ r 1 5 ∷ []))) (read 2 4 5 2) []
+    ∷ rejectsAt 3 (whole 2 (T 1 (w 1 6 ∷ r 1 5 ∷ []) ++ T 2 (w 1 5 ∷ []))) (read 1 2 5 3) []
+    ∷ rejectsAt 3 (whole 2 (T 1 (w 2 7 ∷ w 1 5 ∷ w 1 6 ∷ []) ++ T 2 (r 1 5 ∷ []))) (read 2 4 6 2) []
+    ∷ rejectsAt 3 (whole 2 (T 1 (r 1 5 ∷ []) ++ T 2 (w 2 7 ∷ w 1 5 ∷ w 1 6 ∷ []))) (read 1 1 6 3) []
     -- value 0 after an own write of the key, of another key, and before it
-    ∷ rejectsAt 3 (whole 1 (T 1 (w 1 5 ∷ r 1 0 ∷ []))) (read 1 2 5) []
+    ∷ rejectsAt 3 (whole 1 (T 1 (w 1 5 ∷ r 1 0 ∷ []))) (read 1 2 5 0) []
     ∷ acceptsAt 3 (whole 1 (T 1 (w 2 5 ∷ r 1 0 ∷ w 1 6 ∷ []))) (0 ∷ 1 ∷ [])
     -- a source that later wrote another key, or wrote the key before
     ∷ acceptsAt 3 (whole 2 (T 1 (w 1 4 ∷ w 1 5 ∷ w 2 6 ∷ []) ++ T 2 (r 1 5 ∷ []))) (0 ∷ 1 ∷ 2 ∷ [])
@@ -136,7 +150,7 @@ edgeTable =
     -- a reader that leads to itself is no rival of its own source
     ∷ rejectsAt 3 (whole 2 (T 1 (r 2 7 ∷ w 1 5 ∷ w 2 8 ∷ []) ++ T 2 (r 1 5 ∷ w 2 7 ∷ []))) [] (pair 1 2 4 ++ pair 2 1 4)
     -- pairs are worked out over clean reads even when findings exist
-    ∷ rejectsAt 1 (whole 3 (T 1 (r 2 7 ∷ w 1 5 ∷ []) ++ T 2 (r 1 5 ∷ w 2 7 ∷ []) ++ T 3 (r 9 9 ∷ []))) (read 3 5 1) (pair 1 2 4 ++ pair 2 1 4)
+    ∷ rejectsAt 1 (whole 3 (T 1 (r 2 7 ∷ w 1 5 ∷ []) ++ T 2 (r 1 5 ∷ w 2 7 ∷ []) ++ T 3 (r 9 9 ∷ []))) (read 3 5 1 0) (pair 1 2 4 ++ pair 2 1 4)
     -- level 1: 0 is read from first, and 1 writes the key that is read from 2: a rival is earlier in the reader, not later
     ∷ acceptsAt 1 (whole 2 (T 1 (w 1 5 ∷ w 2 7 ∷ []) ++ T 2 (r 1 0 ∷ r 2 7 ∷ []))) (0 ∷ 1 ∷ 2 ∷ [])
     ∷ rejectsAt 1 (whole 2 (T 1 (w 1 5 ∷ w 2 7 ∷ []) ++ T 2 (r 2 7 ∷ r 1 0 ∷ []))) [] (pair 0 1 1 ++ pair 1 0 8)
@@ -231,3 +245,18 @@ tested c = limit (c .state) (c .item) (refusalNo (trace 0 (c .item ∷ [])) (c .
 pub limits-as-they-should : map tested limits ≡ limits
 unfolding as-they-should
 limits-as-they-should = refl
+
+-- ── operation numbers of two bytes ──
+
+-- one transaction, which writes the values 1 to n to the key 1 and then reads v, which is not its last unless v is n
+abbrev pub readBack : ℕ → ℕ → History
+readBack n v =
+    record {
+      txs = record { session = 1; status = 1 } ∷ [];
+      ops = listed 1 (n + 1) (λ i. record { tx = 1; isWrite = true; key = 1; value = i } ∷ []) ++ (record { tx = 1; isWrite = false; key = 1; value = v } ∷ []);
+    }
+
+-- each number's low byte first
+pub spelt-as-they-should : findingBytes (readBack 257 256) 258 ≡ 1 ∷ 4 ∷ 2 ∷ 1 ∷ 0 ∷ 1 ∷ []
+unfolding as-they-should
+spelt-as-they-should = refl

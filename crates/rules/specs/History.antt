@@ -66,6 +66,17 @@ writesValue h x v i = eqb (op h i .value) v and op h i .isWrite and eqb (op h i 
 unfoldable pub writeOf : History → ℕ → ℕ → ℕ
 writeOf h x v = last (writesValue h x v) (opCount h + 1)
 
+-- ── where a value comes from: document 02, "which write was it?" ──
+
+-- "The search for a write must answer its operation number besides its transaction": the number of the write that has the key and value of operation i; 0
+-- where the value is 0 or no write has them
+unfoldable pub originOf : History → ℕ → ℕ
+originOf h i = pick (eqb (op h i .value) 0) 0 (writeOf h (op h i .key) (op h i .value))
+
+-- its transaction; 0 where there is no such write
+unfoldable pub sourceOf : History → ℕ → ℕ
+sourceOf h i = op h (originOf h i) .tx
+
 -- ── who counts as committed: document 02, "commits nobody answered" ──
 
 -- its close says that it committed; "Status 2 now means unanswered."
@@ -77,7 +88,7 @@ isUnanswered h t = eqb (tx h t .status) 2
 
 -- operation i is a read in a of a key and value that u wrote, whatever kind of read it is
 unfoldable pub takesFrom : History → ℕ → ℕ → ℕ → Bool
-takesFrom h a u i = not (op h i .isWrite) and eqb (op h i .tx) a and eqb (op h (writeOf h (op h i .key) (op h i .value)) .tx) u
+takesFrom h a u i = not (op h i .isWrite) and eqb (op h i .tx) a and eqb (sourceOf h i) u
 
 -- a is "other than" u, which is unanswered, and "reads one of its values"
 unfoldable pub vouches : History → ℕ → ℕ → Bool

@@ -4,8 +4,8 @@ use mathlib.Core.Bool.{Bool, not}
 use lib.Dec.{ltb, eqb}
 use Rattle.base.specs.Base.{_and_, _or_, pick, some}
 use Rattle.theory.specs.Leads.{via}
-use Rattle.rules.specs.History.{History, tx, op, opCount, size, committed}
-use Rattle.rules.specs.Reads.{wroteBetween, sourceOf, isExternal, readsFrom}
+use Rattle.rules.specs.History.{History, tx, op, opCount, size, sourceOf, committed}
+use Rattle.rules.specs.Reads.{wroteBetween, isExternal, readsFrom}
 
 -- "start (0 before every other)"
 unfoldable pub isStart : History → ℕ → ℕ → Bool

@@ -8,7 +8,7 @@ use Rattle.base.specs.Base.{_and_, pick, listed, those, joined}
 use Rattle.theory.specs.Leads.{isListed}
 use Rattle.theory.specs.Order.{rest}
 use Rattle.rules.specs.Numbers.{over}
-use Rattle.rules.specs.History.{History, op, opCount, size, committed}
+use Rattle.rules.specs.History.{History, op, opCount, size, originOf, committed}
 use Rattle.rules.specs.Reading.{Reading, refused, read, reading}
 use Rattle.rules.specs.Reads.{kindOf, isFinding}
 use Rattle.rules.specs.Levels.{forced, reasons}
@@ -21,9 +21,10 @@ use Rattle.rules.specs.declared.Answer.the-variants.{Refused, Rejected, 
 unfoldable pub findings : History → List ℕ
 findings h = those 1 (opCount h + 1) (isFinding h)
 
--- "Finding, 4 bytes: transaction, kind, operation number (2 bytes little-endian)"
+-- "Finding ..: transaction, kind, operation number (2 bytes little-endian)". Document 02: "A finding becomes 6 bytes, with that number last (2 bytes), 0
+-- where no write exists: kind 1, and kind 5 with value 0." It is the number of the write that the value comes from
 unfoldable pub findingBytes : History → ℕ → List ℕ
-findingBytes h i = op h i .tx ∷ kindOf h i ∷ i % 256 ∷ i / 256 ∷ []
+findingBytes h i = op h i .tx ∷ kindOf h i ∷ i % 256 ∷ i / 256 ∷ originOf h i % 256 ∷ originOf h i / 256 ∷ []
 
 pub record Pair : Type 0 where
   pub one : ℕ

@@ -3,8 +3,8 @@ use Prim.Native.Nat.{ℕ, _+_}
 use mathlib.Core.Bool.{Bool, not}
 use mathlib.Core.List.{[], _∷_}
 use lib.Dec.{ltb, eqb}
-use Rattle.base.specs.Base.{_and_, _or_, pick, some, row, firstFit}
-use Rattle.rules.specs.History.{History, op, opCount, committed, writeOf}
+use Rattle.base.specs.Base.{_and_, _or_, some, row, firstFit}
+use Rattle.rules.specs.History.{History, op, opCount, originOf, sourceOf, committed}
 
 -- operation j is a write of the key x in transaction t
 unfoldable pub writesAt : History → ℕ → ℕ → ℕ → Bool
@@ -13,14 +13,6 @@ writesAt h t x j = op h j .isWrite and eqb (op h j .tx) t and eqb (op h j .key) 
 -- t writes x by an operation whose number is above a and below e
 unfoldable pub wroteBetween : History → ℕ → ℕ → ℕ → ℕ → Bool
 wroteBetween h t x a e = some (a + 1) e (writesAt h t x)
-
--- the number of the write that has the key and value of operation i; 0 where the value is 0 or no write has them
-unfoldable pub originOf : History → ℕ → ℕ
-originOf h i = pick (eqb (op h i .value) 0) 0 (writeOf h (op h i .key) (op h i .value))
-
--- its transaction; 0 where there is no such write
-unfoldable pub sourceOf : History → ℕ → ℕ
-sourceOf h i = op h (originOf h i) .tx
 
 -- "It gets the first kind that fits": operation i, of t, reads the value v of x, which write number w, of transaction u, wrote (w = 0: none did)
 unfoldable pub kindBy : History → ℕ → ℕ → ℕ → ℕ → ℕ → ℕ → ℕ

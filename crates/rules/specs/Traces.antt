@@ -71,11 +71,11 @@ abbrev pub acceptsIn : ℕ → ℕ → ℕ → List ℕ → Outcome
 acceptsIn f p o l = outcome (accepting (length l)) (room f) (room p) (l ++ room (o - length l))
 
 abbrev pub rejectsIn : ℕ → ℕ → ℕ → List ℕ → List ℕ → Outcome
-rejectsIn f p o fs ps = outcome (rejecting (length fs / 4) (length ps / 4)) (fs ++ room (f - length fs)) (ps ++ room (p - length ps)) (room o)
+rejectsIn f p o fs ps = outcome (rejecting (length fs / 6) (length ps / 4)) (fs ++ room (f - length fs)) (ps ++ room (p - length ps)) (room o)
 
--- `read T OP KIND` and `pair A B REASONS`, as bytes
-abbrev pub read : ℕ → ℕ → ℕ → List ℕ
-read t i k = t ∷ k ∷ i ∷ 0 ∷ []
+-- `read T OP KIND WRITE` and `pair A B REASONS`, as bytes
+abbrev pub read : ℕ → ℕ → ℕ → ℕ → List ℕ
+read t i k w = t ∷ k ∷ i ∷ 0 ∷ w ∷ 0 ∷ []
 
 abbrev pub pair : ℕ → ℕ → ℕ → List ℕ
 pair a b n = a ∷ b ∷ n ∷ 0 ∷ []

@@ -13,8 +13,9 @@ use Rattle.base.proofs.Tests.{clash, is-false, same-test, split}
 use Rattle.base.proofs.Chains.{last-none}
 use Rattle.theory.specs.Reached.{Reached, from, on}
 use Rattle.theory.proofs.Reached.{reached-within}
-use Rattle.rules.specs.History.{History, tx, op, txCount, opCount, saysCommitted, isUnanswered, writeOf, takesFrom, vouches}
-use Rattle.rules.proofs.History.{status-0, op-0}
+use Rattle.rules.specs.History.{History, tx, op, txCount, opCount, saysCommitted, isUnanswered, originOf, takesFrom, vouches}
+use Rattle.rules.proofs.History.{status-0}
+use Rattle.rules.proofs.Origin.{source-is, source-none}
 use Rattle.rules.proofs.Committed.{unanswered-iff, takes-iff, vouches-iff, committed-iff, committed-below}
 use Rattle.table.specs.Table.{historyOf, marked, ofTx, lastBelow, lastOf, prevOf, Held, HasTx, HasOp, Below}
 use Rattle.table.proofs.Chain.{OnChain, chain-last, chain-prev}
@@ -23,11 +24,6 @@ use Rattle.settling.proofs.Queues.{queue-few, queue-more, remarked-none
 
 -- ── whom operation i makes count ──
 
--- w is the write whose value it reads
-pub wrote : (x : History) (i : ℕ) {k v w n : ℕ} → k ≡ op x i .key → v ≡ op x i .value → Below w (writeOf x k v) n
-    → w ≡ writeOf x (op x i .key) (op x i .value)
-wrote x i d e b = b .is ∙ rw (d, e)
-
 module _ {h : List ℕ} {i : ℕ} where
   gain-none : TakenUp h i → Gain h i 0
   gain-none t = record { none = λ z. t; some = λ z. absurd (omega arith) }
@@ -35,16 +31,17 @@ module _ {h : List ℕ} {i : ℕ} where
   pub gain-write : op (historyOf h) i .isWrite ≡ true → Gain h i 0
   gain-write e = gain-none (λ u t a. absurd (clash e (takes-iff _ _ u i .0 t .is-read)))
 
-  module _ {w : ℕ} (e : w ≡ writeOf (historyOf h) (op (historyOf h) i .key) (op (historyOf h) i .value)) where
+  -- w is the write whose value it reads
+  module _ {w : ℕ} (e : w ≡ originOf (historyOf h) i) where
     pub gain-unwritten : w ≡ 0 → Gain h i 0
     gain-unwritten z =
         gain-none
-        (λ u t a. let q : u ≡ 0 = sym (rw (← e) at (takes-iff _ _ u i .0 t .of-writer)) ∙ rw z (op-0 (historyOf h)) in
+        (λ u t a. let q : u ≡ 0 = sym (takes-iff _ _ u i .0 t .of-writer) ∙ source-none _ i (sym e ∙ z) in
         absurd (omega (arith, unanswered-iff (historyOf h) 0 .0 (rw q at a), status-0 (historyOf h))))
 
     module _ {u : ℕ} (f : u ≡ op (historyOf h) w .tx) where
       gain-old : (isUnanswered (historyOf h) u ≡ true → marked h u ≡ true) → Gain h i 0
-      gain-old m = gain-none (λ y t a. let q : y ≡ u = sym (f ∙ (rw (← e) at (takes-iff _ _ y i .0 t .of-writer))) in rw q (m (rw q at a)))
+      gain-old m = gain-none (λ y t a. let q : y ≡ u = sym (takes-iff _ _ y i .0 t .of-writer) ∙ sym (source-is _ i w e) ∙ sym f in rw q (m (rw q at a)))
 
       pub gain-answered : (tx (historyOf h) u .status ≡ 2 → ⊥) → Gain h i 0
       gain-answered d = gain-old (λ a. absurd (d (unanswered-iff (historyOf h) u .0 a)))
@@ -61,7 +58,7 @@ module _ {h : List ℕ} {i : ℕ} where
                 record {
                   there = p;
                   unanswered = unanswered-iff (historyOf h) u .1 s;
-                  takes = takes-iff _ _ u i .1 (record { is-read = r; in-reader = refl; of-writer = rw (← e) (sym f) });
+                  takes = takes-iff _ _ u i .1 (record { is-read = r; in-reader = refl; of-writer = sym (source-is _ i w e) ∙ sym f });
                   new = m;
                 };
           }

@@ -64,7 +64,7 @@ fn gained_by(h: &[u64], i: usize) -> usize
     if table::is_write(h, i) {
         return 0;
     }
-    let w = table::write_of(h, table::key_of(h, i), table::value_of(h, i));
+    let w = table::origin_of(h, i);
     if w == 0 {
         return 0;
     }

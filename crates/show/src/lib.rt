@@ -2,7 +2,7 @@
 // ends. Every other byte stays as it was.
 ghost use mathlib.Core.List.{[], _∷_, _++_};
 ghost use Prim.Native.Nat.{_+_, _<_};
-ghost use Rattle.text.specs.Lines.{decimal, field, fields, line, levelWord, refusedLine, rejectedLine, acceptedLine, readLine, pairLine};
+ghost use Rattle.text.specs.Lines.{decimal, field, fields, levelWord, refusedLine, rejectedLine, acceptedLine, readLine, pairLine};
 ghost use Rattle.show.specs.Laid.{Put, Short};
 
 fn put_byte(out: &mut [u8], at: usize, b: u8) -> usize
@@ -65,6 +65,15 @@ fn put_two(out: &mut [u8], at: usize, a: usize, b: usize) -> usize
     put_byte(out, to, b'\n')
 }
 
+// A line's last three numbers and its end.
+fn put_three(out: &mut [u8], at: usize, a: usize, b: usize, c: usize) -> usize
+    requires { ⌜ Short at (fields (a ∷ b ∷ c ∷ [])) ⌝ }
+    ensures { λ r. ⌜ Put (now (out .entry)) at (now (out .exit)) r (fields (a ∷ b ∷ c ∷ [])) ⌝ }
+{
+    let to = put_field(out, at, a);
+    put_two(out, to, b, c)
+}
+
 // A number for each byte of a list, and the line's end.
 fn put_list(out: &mut [u8], at: usize, list: &[u8]) -> usize
     requires { ⌜ Short at (fields (now list)) ⌝ }
@@ -77,16 +86,6 @@ fn put_list(out: &mut [u8], at: usize, list: &[u8]) -> usize
         i += 1;
     }
     put_byte(out, to, b'\n')
-}
-
-// A line of a word and three numbers.
-fn put_line(out: &mut [u8], at: usize, word: &[u8], a: usize, b: usize, c: usize) -> usize
-    requires { ⌜ Short at (line (now word) (a ∷ b ∷ c ∷ [])) ⌝ }
-    ensures { λ r. ⌜ Put (now (out .entry)) at (now (out .exit)) r (line (now (word .entry)) (a ∷ b ∷ c ∷ [])) ⌝ }
-{
-    let to = put_word(out, at, word);
-    let to = put_field(out, to, a);
-    put_two(out, to, b, c)
 }
 
 fn put_level(out: &mut [u8], at: usize, level: u8) -> usize
@@ -137,12 +136,14 @@ pub fn put_accepted(out: &mut [u8], at: usize, level: u8, order: &[u8]) -> usize
     put_list(out, to, order)
 }
 
-// `read T OP KIND`
-pub fn put_read(out: &mut [u8], at: usize, tx: usize, op: usize, kind: usize) -> usize
-    requires { ⌜ Short at (readLine tx op kind) ⌝ }
-    ensures { λ r. ⌜ Put (now (out .entry)) at (now (out .exit)) r (readLine tx op kind) ⌝ }
+// `read T OP KIND WRITE`
+pub fn put_read(out: &mut [u8], at: usize, tx: usize, op: usize, kind: usize, write: usize) -> usize
+    requires { ⌜ Short at (readLine tx op kind write) ⌝ }
+    ensures { λ r. ⌜ Put (now (out .entry)) at (now (out .exit)) r (readLine tx op kind write) ⌝ }
 {
-    put_line(out, at, b"read", tx, op, kind)
+    let to = put_word(out, at, b"read");
+    let to = put_field(out, to, tx);
+    put_three(out, to, op, kind, write)
 }
 
 // `pair A B REASONS`
@@ -150,5 +151,6 @@ pub fn put_pair(out: &mut [u8], at: usize, a: usize, b: usize, reasons: usize) -
     requires { ⌜ Short at (pairLine a b reasons) ⌝ }
     ensures { λ r. ⌜ Put (now (out .entry)) at (now (out .exit)) r (pairLine a b reasons) ⌝ }
 {
-    put_line(out, at, b"pair", a, b, reasons)
+    let to = put_word(out, at, b"pair");
+    put_three(out, to, a, b, reasons)
 }

@@ -4,9 +4,8 @@ use mathlib.Core.Path.{_≡_, ap, sym}
 use mathlib.Core.List.{List}
 use native.Mathlib.Omega.{arith}
 use lib.ListN.{getD}
-use Rattle.base.proofs.Chains.{last-less}
 use Rattle.base.proofs.Numbered.{numbered-length, numbered-at}
-use Rattle.rules.specs.History.{History, Op, tx, op, txCount, opCount, zeroth, noTx, noOp, writesValue, writeOf}
+use Rattle.rules.specs.History.{Op, tx, op, txCount, opCount, zeroth, noTx, noOp}
 use Rattle.table.specs.Table.{txAt, opAt, opOf, historyOf, lastAt, prevAt, headAt, linkAt, lastOf, prevOf, headOf, linkOf, Held, HasTx, HasOp, HasWrite, Below}
 use Rattle.table.proofs.Grown.{last-of-less, prev-of-less, head-of-less, link-of-less}
 
@@ -79,8 +78,3 @@ pub link-is-kept : (h : List ℕ) (i : ℕ) → HasWrite h i → Below (linkAt h
 link-is-kept h i p =
     let e = p .there .held .links i (p .there .from) (p .there .to) (p .writes) in
     record { is = e; below = omega (arith, e, link-of-less (historyOf h) i (p .there .from)) }
-
--- the write that a search finds is an operation, or none
-pub write-less : (h : History) (x v : ℕ) → writeOf h x v < opCount h + 1
-unfolding writeOf
-write-less h x v = last-less (writesValue h x v) (opCount h + 1) (omega arith)

@@ -2,7 +2,7 @@ ghost use mathlib.Core.Path.{_≡_};
 ghost use Prim.Native.Nat.{_+_, _<_};
 ghost use lib.ListN.{length};
 ghost use mathlib.Core.Bool.{true, false};
-ghost use Rattle.rules.specs.History.{tx, op, txCount, opCount, empty, opened, closed, withOp, writesValue, writeOf};
+ghost use Rattle.rules.specs.History.{tx, op, txCount, opCount, empty, opened, closed, withOp, writesValue, writeOf, originOf};
 ghost use Rattle.table.specs.Table.{tableWords, historyOf, marked, lastOf, prevOf, bucketOf, headOf, linkOf, Held, HasTx, HasOp, HasWrite, Below, Becomes, cleared, putTx, closeTx, markTx, putWords, putOp};
 
 // The number of transactions; of operations.
@@ -138,6 +138,19 @@ pub fn write_of(h: &[u64], x: u64, v: u64) -> usize
         i = link_of(h, i);
     }
     0
+}
+
+// "The search for a write must answer its operation number besides its transaction": the number of the write that has operation i's key and value, 0 where
+// the value is 0 or no write has them. The transaction follows from it. Whoever asks where a value comes from asks here.
+pub fn origin_of(h: &[u64], i: usize) -> usize
+    requires { ⌜ HasOp (now h) i ⌝ }
+    ensures { λ r. ⌜ Below r (originOf (historyOf (now (h .entry))) i) (opCount (historyOf (now (h .entry))) + 1) ⌝ }
+{
+    let v = value_of(h, i);
+    if v == 0 {
+        return 0;
+    }
+    write_of(h, key_of(h, i), v)
 }
 
 // No transaction and no operation. A search starts at its bucket's word, so those are cleared too.

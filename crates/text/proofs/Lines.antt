@@ -103,15 +103,11 @@ accepted-length level l h = omega (arith, verdict-length level " accepted" (fiel
     each [] h = tt
     each (n ∷ l) h = (h 0 (omega arith), each l (λ i g. h (suc i) (omega arith)))
 
--- the lists' numbers are below 10,000
-module _ (a b c : ℕ) (s : a < 10000) (t : b < 10000) (u : c < 10000) where
-  three-length : length (fields (a ∷ b ∷ c ∷ [])) ≤ 16
-  three-length = fields-length 3 (a ∷ b ∷ c ∷ []) (s, (t, (u, tt)))
+-- a finding's numbers are below 10,000, those of a pair below 1,000
+pub read-length : (a b c d : ℕ) → a < 10000 → b < 10000 → c < 10000 → d < 10000 → length (readLine a b c d) ≤ 25
+unfolding readLine line
+read-length a b c d s t u v = omega (arith, fields-length 3 (a ∷ b ∷ c ∷ d ∷ []) (s, (t, (u, (v, tt)))))
 
-  pub read-length : length (readLine a b c) ≤ 20
-  unfolding readLine line
-  read-length = omega (arith, three-length)
-
-  pub pair-length : length (pairLine a b c) ≤ 20
-  unfolding pairLine line
-  pair-length = omega (arith, three-length)
+pub pair-length : (a b c : ℕ) → a < 1000 → b < 1000 → c < 1000 → length (pairLine a b c) ≤ 17
+unfolding pairLine line
+pair-length a b c s t u = omega (arith, fields-length 2 (a ∷ b ∷ c ∷ []) (s, (t, (u, tt))))

@@ -3,16 +3,16 @@ use Prim.Native.Nat.{ℕ}
 use mathlib.Core.List.{List, _++_}
 use lib.ListN.{length}
 use Rattle.base.specs.Base.{pick, joined}
-use Rattle.rules.specs.History.{History, op}
+use Rattle.rules.specs.History.{History, op, originOf}
 use Rattle.rules.specs.Reading.{Reading, refused, read, reading}
 use Rattle.rules.specs.Reads.{kindOf}
 use Rattle.rules.specs.Levels.{reasons}
 use Rattle.rules.specs.Outcome.{Pair, findings, pairs, order, isAccepted}
 use Rattle.text.specs.Lines.{refusedLine, rejectedLine, acceptedLine, readLine, pairLine}
 
--- "`read T OP KIND` lines": that of the finding i
+-- "`read T OP KIND` lines", and the number of the write "as a fourth field": that of the finding i
 unfoldable pub findingText : History → ℕ → List ℕ
-findingText h i = readLine (op h i .tx) i (kindOf h i)
+findingText h i = readLine (op h i .tx) i (kindOf h i) (originOf h i)
 
 -- "`pair A B REASONS` lines"
 unfoldable pub pairText : History → ℕ → Pair → List ℕ

@@ -30,19 +30,19 @@ textTable =
     -- no bytes
     ∷ prints (P 2) "refused 3 0\n"
     -- T1 r1=5
-    ∷ prints (P 3) "rc rejected 1 0\nread 1 1 1\nra rejected 1 0\nread 1 1 1\ntcc rejected 1 0\nread 1 1 1\n"
+    ∷ prints (P 3) "rc rejected 1 0\nread 1 1 1 0\nra rejected 1 0\nread 1 1 1 0\ntcc rejected 1 0\nread 1 1 1 0\n"
     -- T1 r1=0
     ∷ prints (P 4) "rc accepted 0 1\nra accepted 0 1\ntcc accepted 0 1\n"
     -- T1 w1=5 aborted; T2 r1=5
-    ∷ prints (P 5) "rc rejected 1 0\nread 2 2 2\nra rejected 1 0\nread 2 2 2\ntcc rejected 1 0\nread 2 2 2\n"
+    ∷ prints (P 5) "rc rejected 1 0\nread 2 2 2 1\nra rejected 1 0\nread 2 2 2 1\ntcc rejected 1 0\nread 2 2 2 1\n"
     -- T1 r1=5 w1=5
-    ∷ prints (P 6) "rc rejected 1 0\nread 1 1 3\nra rejected 1 0\nread 1 1 3\ntcc rejected 1 0\nread 1 1 3\n"
+    ∷ prints (P 6) "rc rejected 1 0\nread 1 1 3 2\nra rejected 1 0\nread 1 1 3 2\ntcc rejected 1 0\nread 1 1 3 2\n"
     -- T1 w1=5 w1=6 r1=5
-    ∷ prints (P 7) "rc rejected 1 0\nread 1 3 4\nra rejected 1 0\nread 1 3 4\ntcc rejected 1 0\nread 1 3 4\n"
+    ∷ prints (P 7) "rc rejected 1 0\nread 1 3 4 1\nra rejected 1 0\nread 1 3 4 1\ntcc rejected 1 0\nread 1 3 4 1\n"
     -- T1 w1=5; T2 w1=6 r1=5
-    ∷ prints (P 8) "rc rejected 1 0\nread 2 3 5\nra rejected 1 0\nread 2 3 5\ntcc rejected 1 0\nread 2 3 5\n"
+    ∷ prints (P 8) "rc rejected 1 0\nread 2 3 5 1\nra rejected 1 0\nread 2 3 5 1\ntcc rejected 1 0\nread 2 3 5 1\n"
     -- T1 w1=5 w1=6; T2 r1=5
-    ∷ prints (P 9) "rc rejected 1 0\nread 2 3 6\nra rejected 1 0\nread 2 3 6\ntcc rejected 1 0\nread 2 3 6\n"
+    ∷ prints (P 9) "rc rejected 1 0\nread 2 3 6 1\nra rejected 1 0\nread 2 3 6 1\ntcc rejected 1 0\nread 2 3 6 1\n"
     -- T1 w1=5; T2 w1=6; T3 r1=5 r1=6
     ∷ prints (P 10) "rc accepted 0 1 2 3\nra rejected 0 2\npair 1 2 8\npair 2 1 8\ntcc rejected 0 2\npair 1 2 8\npair 2 1 8\n"
     -- as P10, T3 reads 5, 6, 5
@@ -59,7 +59,7 @@ textTable =
     ∷ prints (P 16) "rc accepted 0 2 1 3\nra rejected 0 2\npair 1 2 8\npair 2 1 8\ntcc rejected 0 2\npair 1 2 8\npair 2 1 8\n"
     -- both lists in one block: T1 r2=7 w1=5; T2 r1=5 w2=7 r3=9
     ∷ prints (whole 2 (T 1 (r 2 7 ∷ w 1 5 ∷ []) ++ T 2 (r 1 5 ∷ w 2 7 ∷ r 3 9 ∷ [])))
-    "rc rejected 1 2\nread 2 5 1\npair 1 2 4\npair 2 1 4\nra rejected 1 2\nread 2 5 1\npair 1 2 4\npair 2 1 4\ntcc rejected 1 2\nread 2 5 1\npair 1 2 4\npair 2 1 4\n"
+    "rc rejected 1 2\nread 2 5 1 0\npair 1 2 4\npair 2 1 4\nra rejected 1 2\nread 2 5 1 0\npair 1 2 4\npair 2 1 4\ntcc rejected 1 2\nread 2 5 1 0\npair 1 2 4\npair 2 1 4\n"
     ∷ []
 
 -- what a trace prints
@@ -82,9 +82,9 @@ lineTable =
     ∷ refusedLine 2 32768
     ∷ acceptedLine 1 (0 ∷ 127 ∷ [])
     ∷ rejectedLine 3 10 16256
-    ∷ readLine 127 1024 6
+    ∷ readLine 127 1024 6 1023
     ∷ []
 
-pub as-spelt : lineTable ≡ map text ("0" ∷ "9" ∷ "10" ∷ "1024" ∷ "refused 2 32768\n" ∷ "rc accepted 0 127\n" ∷ "tcc rejected 10 16256\n" ∷ "read 127 1024 6\n" ∷ [])
+pub as-spelt : lineTable ≡ map text ("0" ∷ "9" ∷ "10" ∷ "1024" ∷ "refused 2 32768\n" ∷ "rc accepted 0 127\n" ∷ "tcc rejected 10 16256\n" ∷ "read 127 1024 6 1023\n" ∷ [])
 unfolding as-printed
 as-spelt = refl

@@ -3,6 +3,7 @@ use Rattle.base.specs.Base.{listed}
 use Rattle.base.proofs.Searches.{listed-step, listed-end}
 use Rattle.show.proofs.Laws.{Putting, putting-start, putting-length, putting-short, putting-more, putting-end}
 use Rattle.printing.specs.Printing.{entryLine, listText}
+use Rattle.printing.proofs.Entries.{entry-within}
 use borrow.Author.Needs.{needs}
 use native.Mathlib.Omega.{arith}
 use Rattle.printing.proofs.put_entries.Statement.{statement}
@@ -22,7 +23,9 @@ loop-holds c =
 
 put-entry-requires : tie.Need-put-entry-requires Inv-loop μ-loop
 put-entry-requires c κs =
-    (omega arith, putting-short (c .before .before .loop .inv .1) _ _ (listed-step _ _ _ (c .before .loop-test .taken)) (c .before .before .before .before .before .pre .1))
+    let p = c .before .before .before .before .before .pre in
+    let l = c .before .loop-test .taken in
+    (entry-within _ _ _ (p .0) l, putting-short (c .before .before .loop .inv .1) _ _ (listed-step _ _ _ l) (p .1))
 
 loop-again : tie.Need-loop-again Inv-loop μ-loop
 loop-again c =

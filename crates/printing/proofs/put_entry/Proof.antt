@@ -1,14 +1,21 @@
+use Rattle.printing.specs.Printing.{width}
 use borrow.Author.Needs.{needs}
 use Rattle.printing.proofs.put_entry.Statement.{statement}
 use Rattle.printing.proofs.put_entry.Tie as tie
 
 put-finding-requires : tie.Need-put-finding-requires
+unfolding width
 put-finding-requires c κs =
-    (c .before .before .before .before .before .pre .0, rw (c .before .enum-told .given .1) at (c .before .before .before .before .before .pre .1))
+    let p = c .before .before .before .before .before .pre in
+    let e = c .before .enum-told .given .1 in
+    (rw e at (p .0), rw e at (p .1))
 
 put-listed-requires : tie.Need-put-listed-requires
+unfolding width
 put-listed-requires c κs =
-    (c .before .before .before .before .before .pre .0, rw (c .before .enum-told2 .given .1) at (c .before .before .before .before .before .pre .1))
+    let p = c .before .before .before .before .before .pre in
+    let e = c .before .enum-told2 .given .1 in
+    (rw e at (p .0), rw e at (p .1))
 
 returns : tie.Need-returns
 returns c =

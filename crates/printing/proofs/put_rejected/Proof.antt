@@ -1,5 +1,5 @@
 use Rattle.show.proofs.Laws.{first-short, then-short, put-then}
-use Rattle.printing.specs.Printing.{rejectedText}
+use Rattle.printing.specs.Printing.{width, rejectedText}
 use borrow.Author.Needs.{needs}
 use Rattle.printing.proofs.put_rejected.Statement.{statement}
 use Rattle.printing.proofs.put_rejected.Tie as tie
@@ -10,12 +10,12 @@ put-rejected-requires c κs =
     first-short _ _ (c .before .before .before .before .pre .2)
 
 put-entries-requires : tie.Need-put-entries-requires
-unfolding rejectedText
+unfolding width rejectedText
 put-entries-requires c κs =
     (c .before .before .before .before .before .before .before .before .pre .0, first-short _ _ (then-short (c .before .before .before .put-rejected .ensures) (c .before .before .before .before .before .before .before .before .pre .2)))
 
 put-entries-requires-2 : tie.Need-put-entries-requires-2
-unfolding rejectedText
+unfolding width rejectedText
 put-entries-requires-2 c κs =
     (c .before .before .before .before .before .before .before .before .before .before .before .before .pre .1, then-short (c .before .before .before .put-entries .ensures) (then-short (c .before .before .before .before .before .before .before .put-rejected .ensures) (c .before .before .before .before .before .before .before .before .before .before .before .before .pre .2)))
 

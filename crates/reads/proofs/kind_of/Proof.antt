@@ -1,5 +1,6 @@
 use Rattle.table.proofs.Words.{op-has-tx}
-use Rattle.reads.proofs.Fitting.{origin-has, origin-value, source-none, source-is, kind-is}
+use Rattle.reads.proofs.Fitting.{origin-has, origin-value, kind-is}
+use Rattle.rules.proofs.Origin.{source-none, source-is}
 use borrow.Author.Needs.{needs}
 use mathlib.Core.Path.{sym, _∙_}
 use Rattle.reads.proofs.kind_of.Statement.{statement}
@@ -9,7 +10,7 @@ returns : tie.Need-returns
 returns c =
     c .unwritten-kind .ensures
     ∙ kind-is _ _ _ _ _ _ (c .before .before .before .key-of .ensures) (c .before .before .value-of .ensures) (sym (c .before .if1 .taken) ∙ c .before .before .before .before .before .pre .2)
-    (source-none _ _ (sym (c .before .before .before .before .before .pre .2) ∙ c .before .if1 .taken))
+    (sym (source-none _ _ (sym (c .before .before .before .before .before .pre .2) ∙ c .before .if1 .taken)))
 
 tx-of-requires : tie.Need-tx-of-requires
 tx-of-requires c κs =

@@ -1,4 +1,5 @@
-use Rattle.reads.proofs.Fitting.{origin-has, source-none, source-is}
+use Rattle.reads.proofs.Fitting.{origin-has}
+use Rattle.rules.proofs.Origin.{source-none, source-is}
 use native.Mathlib.Omega.{arith}
 use mathlib.Core.Path.{sym, _∙_}
 use Rattle.reads.proofs.source_of.Statement.{statement}
@@ -6,7 +7,7 @@ use Rattle.reads.proofs.source_of.Tie as tie
 
 returns : tie.Need-returns
 returns c =
-    record { is = source-none _ _ (sym (c .before .before .pre .1) ∙ c .if1 .taken); below = omega arith }
+    record { is = sym (source-none _ _ (sym (c .before .before .pre .1) ∙ c .if1 .taken)); below = omega arith }
 
 tx-of-requires : tie.Need-tx-of-requires
 tx-of-requires c κs =

@@ -248,13 +248,9 @@ limits-as-they-should = refl
 
 -- ── operation numbers of two bytes ──
 
--- one transaction, which writes the values 1 to n to the key 1 and then reads v, which is not its last unless v is n
+-- the open transaction of n writes reads v, which is not its last unless v is n, and commits
 abbrev pub readBack : ℕ → ℕ → History
-readBack n v =
-    record {
-      txs = record { session = 1; status = 1 } ∷ [];
-      ops = listed 1 (n + 1) (λ i. record { tx = 1; isWrite = true; key = 1; value = i } ∷ []) ++ (record { tx = 1; isWrite = false; key = 1; value = v } ∷ []);
-    }
+readBack n v = closed (withOp (openState n .history) (record { tx = 1; isWrite = false; key = 1; value = v })) 1 1
 
 -- each number's low byte first
 pub spelt-as-they-should : findingBytes (readBack 257 256) 258 ≡ 1 ∷ 4 ∷ 2 ∷ 1 ∷ 0 ∷ 1 ∷ []

@@ -18,7 +18,8 @@
 //! then (t2, t1) is in CO. Transaction 0 is first in SO. The kinds of reads and
 //! the lists of a rejection follow their definitions by plain loops and plain
 //! search, that for a read's write through all operations; nothing is shared
-//! with [`crate::graph`].
+//! with [`crate::graph`]. A transaction's own operations are those that have its
+//! number, wherever they stand, so that transactions may overlap.
 
 use crate::report::{Finding, Level, Pair, Verdict, READ, RIVAL, SESSION, START};
 use crate::trace::{Operation, Status, Trace, MAX_TRANSACTIONS};

@@ -1,8 +1,9 @@
 //! Traces whose answers are known: those of the specification, worked there by
-//! hand, its edges, unanswered commits, and the writes of unclean reads, each
-//! with what `judge` has to print.
+//! hand, its edges, unanswered commits, the writes of unclean reads, and those of
+//! edition 2, each with what `judge` has to print.
 
 use crate::encode::Writer;
+use crate::overlap_cases;
 use crate::text;
 use crate::trace::{Status, CLOSE, END, MAX_BYTES, MAX_TRANSACTIONS, NOTE, OPEN, WRITE};
 
@@ -27,10 +28,11 @@ pub fn all() -> Vec<Case> {
     cases.extend(limits());
     cases.extend(framing());
     cases.extend(order_of_checks());
+    cases.extend(overlap_cases::all());
     cases
 }
 
-fn written(name: &'static str, notation: &str, output: String) -> Case {
+pub(crate) fn written(name: &'static str, notation: &str, output: String) -> Case {
     let bytes = text::encode(notation.as_bytes()).unwrap_or_else(|e| panic!("{name}: {e}"));
     Case {
         name,
@@ -39,7 +41,16 @@ fn written(name: &'static str, notation: &str, output: String) -> Case {
     }
 }
 
-fn refused(name: &'static str, bytes: Vec<u8>, number: u8, place: usize) -> Case {
+/// A trace that all three levels accept with this order.
+pub(crate) fn accepted(name: &'static str, bytes: Vec<u8>, order: &str) -> Case {
+    Case {
+        name,
+        bytes,
+        output: same(&format!("accepted {order}")),
+    }
+}
+
+pub(crate) fn refused(name: &'static str, bytes: Vec<u8>, number: u8, place: usize) -> Case {
     Case {
         name,
         bytes,
@@ -48,7 +59,7 @@ fn refused(name: &'static str, bytes: Vec<u8>, number: u8, place: usize) -> Case
 }
 
 /// The same block for all three levels, given without the level's name.
-fn same(block: &str) -> String {
+pub(crate) fn same(block: &str) -> String {
     ["rc ", "ra ", "tcc "]
         .map(|level| format!("{level}{block}\n"))
         .concat()
@@ -731,7 +742,7 @@ pub fn many_findings() -> Vec<Case> {
 }
 
 /// The numbers from 0 to `last`, as in an order.
-fn counting(last: usize) -> String {
+pub(crate) fn counting(last: usize) -> String {
     let numbers: Vec<String> = (0..=last).map(|n| n.to_string()).collect();
     numbers.join(" ")
 }
@@ -777,13 +788,7 @@ fn notes_of_size(size: usize) -> Vec<u8> {
 /// Transactions, operations, bytes, serials, notes; and the longest cycle.
 pub fn limits() -> Vec<Case> {
     let mut cases = Vec::new();
-    let mut accepted = |name, bytes, order: &str| {
-        cases.push(Case {
-            name,
-            bytes,
-            output: same(&format!("accepted {order}")),
-        })
-    };
+    let mut accepted = |name, bytes, order: &str| cases.push(accepted(name, bytes, order));
 
     accepted(
         "127 transactions",

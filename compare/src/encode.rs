@@ -1,20 +1,38 @@
 //! Writing traces, lawful or not.
 
-use crate::trace::{CLOSE, END, NOTE, OPEN, READ, WRITE};
+use crate::trace::{Edition, CLOSE, EDITION, EDITION_2, END, NOTE, OPEN, READ, WRITE};
 
 /// Writes record after record; serials follow by themselves.
 pub struct Writer {
     pub bytes: Vec<u8>,
+    edition: Edition,
     serial: u32,
     opened: u16,
 }
 
 impl Writer {
+    /// A trace of edition 1, as long as no edition is begun.
     pub fn new(first_serial: u32) -> Writer {
         Writer {
             bytes: Vec::new(),
+            edition: Edition::One,
             serial: first_serial,
             opened: 0,
+        }
+    }
+
+    /// A trace of edition 2, begun with the record that says so.
+    pub fn edition_2(first_serial: u32) -> Writer {
+        let mut writer = Writer::new(first_serial);
+        writer.edition(EDITION_2);
+        writer
+    }
+
+    /// A trace of the edition, begun as it has to.
+    pub fn of_edition(edition: Edition, first_serial: u32) -> Writer {
+        match edition {
+            Edition::One => Writer::new(first_serial),
+            Edition::Two => Writer::edition_2(first_serial),
         }
     }
 
@@ -33,29 +51,58 @@ impl Writer {
         self.record(OPEN, &session.to_le_bytes());
     }
 
-    /// Puts another session into the open record that begins at this byte.
-    pub fn set_session(&mut self, open: usize, session: u16) {
-        let payload = open + 8;
+    /// The record that edition 2 begins with, with a number of choice. Behind it
+    /// all is laid out as in edition 2.
+    pub fn edition(&mut self, number: u16) {
+        self.edition = Edition::Two;
+        self.record(EDITION, &number.to_le_bytes());
+    }
+
+    /// Puts another session into the record that begins at this byte and has
+    /// its session first: an open, or any record of a transaction in edition 2.
+    pub fn set_session(&mut self, record: usize, session: u16) {
+        let payload = record + 8;
         self.bytes[payload..payload + 2].copy_from_slice(&session.to_le_bytes());
     }
 
+    /// A read, as edition 1 has it.
     pub fn read(&mut self, key: u32, value: u64) {
-        self.operation(READ, key, value);
+        self.record(READ, &key_and_value(key, value));
     }
 
+    /// A write, as edition 1 has it.
     pub fn write(&mut self, key: u32, value: u64) {
-        self.operation(WRITE, key, value);
+        self.record(WRITE, &key_and_value(key, value));
     }
 
-    fn operation(&mut self, kind: u16, key: u32, value: u64) {
-        let mut payload = [0; 12];
-        payload[..4].copy_from_slice(&key.to_le_bytes());
-        payload[4..].copy_from_slice(&value.to_le_bytes());
-        self.record(kind, &payload);
-    }
-
+    /// A close, as edition 1 has it.
     pub fn close(&mut self, status: u8) {
         self.record(CLOSE, &[status]);
+    }
+
+    /// A read as the trace's edition has it: edition 1 without the session.
+    pub fn read_in(&mut self, session: u16, key: u32, value: u64) {
+        self.record_in(session, READ, &key_and_value(key, value));
+    }
+
+    /// A write as the trace's edition has it.
+    pub fn write_in(&mut self, session: u16, key: u32, value: u64) {
+        self.record_in(session, WRITE, &key_and_value(key, value));
+    }
+
+    /// A close as the trace's edition has it.
+    pub fn close_in(&mut self, session: u16, status: u8) {
+        self.record_in(session, CLOSE, &[status]);
+    }
+
+    fn record_in(&mut self, session: u16, kind: u16, fields: &[u8]) {
+        match self.edition {
+            Edition::One => self.record(kind, fields),
+            Edition::Two => {
+                let payload = [&session.to_le_bytes(), fields].concat();
+                self.record(kind, &payload);
+            }
+        }
     }
 
     pub fn note(&mut self, text: &[u8]) {
@@ -73,4 +120,11 @@ impl Writer {
         self.record(END, &number.to_le_bytes());
         self.bytes
     }
+}
+
+fn key_and_value(key: u32, value: u64) -> [u8; 12] {
+    let mut fields = [0; 12];
+    fields[..4].copy_from_slice(&key.to_le_bytes());
+    fields[4..].copy_from_slice(&value.to_le_bytes());
+    fields
 }

@@ -2,7 +2,8 @@
 
 use crate::encode::Writer;
 use crate::random::Random;
-use crate::trace::{self, Status, MAX_BYTES, MAX_NOTE, MAX_TRANSACTIONS};
+use crate::trace::{self, Edition, Status, MAX_BYTES, MAX_NOTE, MAX_TRANSACTIONS};
+use crate::weave::{self, Access, Whole};
 
 /// How a trace came about.
 #[derive(Clone, Copy, Debug, PartialEq, Eq)]
@@ -46,83 +47,116 @@ impl Origin {
     }
 }
 
-/// A random trace of a random origin.
+/// A random trace of a random origin and edition.
 pub fn any(random: &mut Random) -> (Origin, Vec<u8>) {
+    let edition = *random.pick(&[Edition::One, Edition::Two]);
     match random.below(100) {
-        0..=3 => (Origin::Bytes, bytes(random)),
-        4..=11 => (Origin::Records, records(random)),
-        12..=41 => (Origin::Small, Shape::small(random).trace(random)),
-        42..=47 => (Origin::Unclean, Shape::unclean(random).trace(random)),
-        48..=58 => (Origin::Medium, Shape::medium(random).trace(random)),
-        59..=62 => (Origin::Large, Shape::large(random).trace(random)),
-        63..=81 => (Origin::Unanswered, Web::drawn(random).trace(random)),
-        _ => (Origin::Damaged, damaged(random)),
+        0..=3 => (Origin::Bytes, bytes(random, edition)),
+        4..=11 => (Origin::Records, records(random, edition)),
+        12..=41 => (Origin::Small, Shape::small(random, edition).trace(random)),
+        42..=47 => (
+            Origin::Unclean,
+            Shape::unclean(random, edition).trace(random),
+        ),
+        48..=58 => (Origin::Medium, Shape::medium(random, edition).trace(random)),
+        59..=62 => (Origin::Large, Shape::large(random, edition).trace(random)),
+        63..=81 => (
+            Origin::Unanswered,
+            Web::drawn(random, edition).trace(random),
+        ),
+        _ => (Origin::Damaged, damaged(random, edition)),
     }
 }
 
-/// Random bytes; from a small alphabet they get further before they fail.
-fn bytes(random: &mut Random) -> Vec<u8> {
+/// Random bytes, behind the record that the edition begins with; from a small
+/// alphabet they get further before they fail.
+fn bytes(random: &mut Random, edition: Edition) -> Vec<u8> {
     let size = match random.below(20) {
         0 => random.from_to(MAX_BYTES - 2, MAX_BYTES + 232),
         1..=4 => random.below(2_000),
         _ => random.below(64),
     };
     let alphabet = *random.pick(&[2, 9, 20, 256]);
-    (0..size).map(|_| random.below(alphabet) as u8).collect()
+    let mut bytes = Writer::of_edition(edition, first_serial(random)).bytes;
+    bytes.extend((0..size).map(|_| random.below(alphabet) as u8));
+    bytes
 }
 
 /// Records with lawful frames in a random order that is often lawful too.
-fn records(random: &mut Random) -> Vec<u8> {
-    let mut writer = Writer::new(first_serial(random));
-    let mut inside = false;
+fn records(random: &mut Random, edition: Edition) -> Vec<u8> {
+    let mut writer = Writer::of_edition(edition, first_serial(random));
+    // The sessions of the open transactions.
+    let mut open: Vec<u16> = Vec::new();
     // Most of these traces would stop at their first fault, so each trace has
     // its own readiness to make one.
     let fault = *random.pick(&[0, 1, 5, 20]);
     for _ in 0..random.below(24) {
-        let lawful: &[u16] = if inside {
-            &[
-                trace::READ,
-                trace::WRITE,
-                trace::WRITE,
-                trace::CLOSE,
-                trace::NOTE,
-            ]
-        } else {
-            &[trace::OPEN, trace::OPEN, trace::NOTE]
+        let session = random.below(4) as u16;
+        let is_inside = match edition {
+            Edition::One => !open.is_empty(),
+            Edition::Two => open.contains(&session),
         };
-        let kind = if random.percent(fault) {
-            random.below(9) as u16
-        } else {
-            *random.pick(lawful)
+        let kind = match random.percent(fault) {
+            true => any_kind(random),
+            false => lawful_kind(random, edition, is_inside),
         };
-        let small = |random: &mut Random| random.below(4) as u8;
-        match kind {
-            trace::OPEN => writer.open(small(random).into()),
-            trace::READ => writer.read(small(random).into(), small(random).into()),
-            trace::WRITE => {
-                let lowest = usize::from(!random.percent(fault));
-                writer.write(small(random).into(), random.from_to(lowest, 30) as u64);
-            }
-            trace::CLOSE => {
-                let most = if random.percent(fault) { 3 } else { 2 };
-                writer.close(random.from_to(0, most) as u8);
-            }
-            trace::NOTE => writer.note(&note(random)),
-            other => writer.record(other, &vec![0; random.below(14)]),
+        any_record(random, &mut writer, kind, session, fault);
+        match (kind, edition) {
+            (trace::OPEN, _) => open.push(session),
+            (trace::CLOSE, Edition::One) => open.clear(),
+            (trace::CLOSE, Edition::Two) => open.retain(|&other| other != session),
+            _ => {}
         }
-        inside = match kind {
-            trace::OPEN => true,
-            trace::CLOSE => false,
-            _ => inside,
-        };
     }
-    if inside && !random.percent(fault) {
-        writer.close(1);
+    for session in open {
+        if !random.percent(fault) {
+            writer.close_in(session, 1);
+        }
     }
     if random.percent(fault) {
         writer.end_with(random.below(4) as u16)
     } else {
         writer.end()
+    }
+}
+
+fn any_kind(random: &mut Random) -> u16 {
+    match random.below(10) {
+        9 => trace::EDITION,
+        kind => kind as u16,
+    }
+}
+
+/// A kind that a record may have, inside a transaction or outside.
+fn lawful_kind(random: &mut Random, edition: Edition, is_inside: bool) -> u16 {
+    use trace::{CLOSE, NOTE, OPEN, READ, WRITE};
+    let lawful: &[u16] = match (edition, is_inside) {
+        (Edition::One, true) => &[READ, WRITE, WRITE, CLOSE, NOTE],
+        (Edition::One, false) => &[OPEN, OPEN, NOTE],
+        (Edition::Two, true) => &[READ, WRITE, WRITE, CLOSE],
+        (Edition::Two, false) => &[OPEN],
+    };
+    *random.pick(lawful)
+}
+
+/// A record of this kind, with the chance in percent to have a fault.
+fn any_record(random: &mut Random, writer: &mut Writer, kind: u16, session: u16, fault: usize) {
+    let small = |random: &mut Random| random.below(4) as u8;
+    match kind {
+        trace::OPEN => writer.open(session),
+        trace::READ => writer.read_in(session, small(random).into(), small(random).into()),
+        trace::WRITE => {
+            let lowest = usize::from(!random.percent(fault));
+            let value = random.from_to(lowest, 30) as u64;
+            writer.write_in(session, small(random).into(), value);
+        }
+        trace::CLOSE => {
+            let most = if random.percent(fault) { 3 } else { 2 };
+            writer.close_in(session, random.from_to(0, most) as u8);
+        }
+        trace::NOTE => writer.note(&note(random)),
+        trace::EDITION => writer.record(kind, &[random.from_to(1, 3) as u8, 0]),
+        other => writer.record(other, &vec![0; random.below(14)]),
     }
 }
 
@@ -143,6 +177,8 @@ fn note(random: &mut Random) -> Vec<u8> {
 /// What a plausible trace is like. The store it imitates answers each read
 /// rightly, or with an older value, or with any value at all.
 pub struct Shape {
+    /// In edition 2 the transactions overlap.
+    pub edition: Edition,
     pub transactions: usize,
     pub sessions: usize,
     pub keys: usize,
@@ -156,6 +192,7 @@ pub struct Shape {
     /// Of those that do not abort, those whose commit is not answered. Half of
     /// them, by chance, did commit in the store; the others did not.
     pub unanswered: usize,
+    /// In edition 1; the other has none.
     pub notes: usize,
     /// A read that gets the last value of some transaction of the store.
     pub stale: usize,
@@ -170,10 +207,21 @@ pub struct Shape {
 }
 
 impl Shape {
-    fn drawn(random: &mut Random, transactions: usize, operations_each: usize) -> Shape {
+    fn drawn(
+        random: &mut Random,
+        edition: Edition,
+        transactions: usize,
+        operations_each: usize,
+    ) -> Shape {
+        // In one session nothing overlaps.
+        let least_sessions = match edition {
+            Edition::One => 1,
+            Edition::Two => 2,
+        };
         Shape {
+            edition,
             transactions,
-            sessions: random.from_to(1, transactions.max(1)),
+            sessions: random.from_to(least_sessions, transactions.max(least_sessions)),
             keys: random.from_to(1, (transactions / 2).max(3)),
             operations_least: 0,
             operations_each,
@@ -190,23 +238,23 @@ impl Shape {
     }
 
     /// Few enough transactions to try every order.
-    fn small(random: &mut Random) -> Shape {
+    fn small(random: &mut Random, edition: Edition) -> Shape {
         let transactions = random.from_to(1, 7);
         let each = random.from_to(1, 5);
-        Shape::drawn(random, transactions, each)
+        Shape::drawn(random, edition, transactions, each)
     }
 
-    fn medium(random: &mut Random) -> Shape {
+    fn medium(random: &mut Random, edition: Edition) -> Shape {
         let transactions = random.from_to(8, 40);
         let each = random.from_to(2, 10);
-        Shape::drawn(random, transactions, each)
+        Shape::drawn(random, edition, transactions, each)
     }
 
     /// At the limits, and sometimes one above.
-    fn large(random: &mut Random) -> Shape {
+    fn large(random: &mut Random, edition: Edition) -> Shape {
         let transactions = *random.pick(&[90, 126, 127, 127, 127, 127, 127, 128]);
         let each = random.from_to(4, 20);
-        let mut shape = Shape::drawn(random, transactions, each);
+        let mut shape = Shape::drawn(random, edition, transactions, each);
         shape.operations = *random.pick(&[1_023, 1_024, 1_024, 1_024, 1_025]);
         shape.notes = *random.pick(&[0, 0, 2]);
         shape
@@ -214,11 +262,11 @@ impl Shape {
 
     /// Of any size, and most reads get any value of few keys: findings of every
     /// kind, with their writes anywhere.
-    fn unclean(random: &mut Random) -> Shape {
+    fn unclean(random: &mut Random, edition: Edition) -> Shape {
         let shape = match random.below(6) {
-            0 => Shape::large(random),
-            1 | 2 => Shape::medium(random),
-            _ => Shape::small(random),
+            0 => Shape::large(random, edition),
+            1 | 2 => Shape::medium(random, edition),
+            _ => Shape::small(random, edition),
         };
         Shape {
             keys: random.from_to(1, 3),
@@ -231,7 +279,10 @@ impl Shape {
     pub fn trace(&self, random: &mut Random) -> Vec<u8> {
         let mut plan = self.plan(random);
         self.answer_reads(random, &mut plan);
-        self.write(random, &plan)
+        match self.edition {
+            Edition::One => self.write(random, &plan),
+            Edition::Two => overlapping(random, plan.into_iter().map(|t| t.whole).collect()),
+        }
     }
 
     /// Everything but the values read.
@@ -278,7 +329,7 @@ impl Shape {
                             value = next_value[key];
                             next_value[key] += 1;
                         }
-                        PlannedOperation {
+                        Access {
                             is_write,
                             // Two of the keys may be equal by chance: then the
                             // trace may repeat a write, which is welcome.
@@ -290,14 +341,16 @@ impl Shape {
                 let session = *random.pick(&sessions);
                 let status = self.status(random);
                 Planned {
-                    session,
-                    status,
                     in_store: match status {
                         Status::Aborted => false,
                         Status::Committed => true,
                         Status::Unanswered => random.percent(50),
                     },
-                    operations,
+                    whole: Whole {
+                        session,
+                        status,
+                        operations,
+                    },
                 }
             })
             .collect()
@@ -322,24 +375,26 @@ impl Shape {
         } else {
             (0..plan.len()).collect()
         };
-        let all_writes: Vec<PlannedOperation> =
-            plan.iter().flat_map(|t| writes(&t.operations)).collect();
+        let all_writes: Vec<Access> = plan
+            .iter()
+            .flat_map(|t| writes(&t.whole.operations))
+            .collect();
         // The last values that the transactions of the store give a key.
-        let finals: Vec<PlannedOperation> = plan
+        let finals: Vec<Access> = plan
             .iter()
             .filter(|t| t.in_store)
-            .flat_map(|t| last_writes(&t.operations))
+            .flat_map(|t| last_writes(&t.whole.operations))
             .collect();
         // The same, of those whose turn has been; the latest last.
-        let mut store: Vec<PlannedOperation> = Vec::new();
+        let mut store: Vec<Access> = Vec::new();
         for turn in turns {
-            let own_writes = writes(&plan[turn].operations);
-            for index in 0..plan[turn].operations.len() {
-                let PlannedOperation { is_write, key, .. } = plan[turn].operations[index];
+            let own_writes = writes(&plan[turn].whole.operations);
+            for index in 0..plan[turn].whole.operations.len() {
+                let Access { is_write, key, .. } = plan[turn].whole.operations[index];
                 if is_write {
                     continue;
                 }
-                let before = &plan[turn].operations[..index];
+                let before = &plan[turn].whole.operations[..index];
                 let own = before.iter().rev().find(|w| w.is_write && w.key == key);
                 let value = if random.percent(self.wild) {
                     // Half of them look at the transaction itself, or the
@@ -355,10 +410,10 @@ impl Shape {
                     let latest = store.iter().rev().find(|w| w.key == key);
                     latest.map_or(0, |write| write.value)
                 };
-                plan[turn].operations[index].value = value;
+                plan[turn].whole.operations[index].value = value;
             }
             if plan[turn].in_store {
-                store.extend(last_writes(&plan[turn].operations));
+                store.extend(last_writes(&plan[turn].whole.operations));
             }
         }
     }
@@ -371,14 +426,14 @@ impl Shape {
             }
         };
         maybe_note(&mut writer, random);
-        for transaction in plan {
-            writer.open(transaction.session);
-            for operation in &transaction.operations {
+        for Planned { whole, .. } in plan {
+            writer.open(whole.session);
+            for operation in &whole.operations {
                 maybe_note(&mut writer, random);
-                operation.write(&mut writer);
+                operation.put(&mut writer, whole.session);
             }
             maybe_note(&mut writer, random);
-            writer.close(transaction.status as u8);
+            writer.close_in(whole.session, whole.status as u8);
             maybe_note(&mut writer, random);
         }
         writer.end()
@@ -386,37 +441,45 @@ impl Shape {
 }
 
 struct Planned {
-    session: u16,
-    status: Status,
     /// Whether its writes are there to be read.
     in_store: bool,
-    operations: Vec<PlannedOperation>,
+    whole: Whole,
 }
 
-#[derive(Clone, Copy)]
-struct PlannedOperation {
-    is_write: bool,
-    key: u32,
-    value: u64,
-}
-
-impl PlannedOperation {
-    fn write(&self, writer: &mut Writer) {
-        match self.is_write {
-            true => writer.write(self.key, self.value),
-            false => writer.read(self.key, self.value),
+/// The transactions in edition 2, woven together, few or many open at once.
+fn overlapping(random: &mut Random, mut wholes: Vec<Whole>) -> Vec<u8> {
+    // Sessions drawn at random soon wait for one another, so some traces have
+    // one for each transaction.
+    if random.percent(30) {
+        for (number, whole) in (1..).zip(&mut wholes) {
+            whole.session = number;
         }
     }
+    // Other numbers for the same sessions: each of these is one to one. Small
+    // numbers come to differ in their high bytes only, or by 128.
+    let renumber: fn(u16) -> u16 = match random.below(8) {
+        0 => u16::swap_bytes,
+        1 => |session| session.rotate_left(7),
+        2 => |session| !session,
+        _ => |session| session,
+    };
+    for whole in &mut wholes {
+        whole.session = renumber(whole.session);
+    }
+    let writer = Writer::edition_2(first_serial(random));
+    let most = *random.pick(&[2, 4, MAX_TRANSACTIONS, MAX_TRANSACTIONS]);
+    let chance = *random.pick(&[10, 30, 60, 90, 100]);
+    weave::weave(writer, &wholes, weave::at_random(random, most, chance))
 }
 
-fn writes(operations: &[PlannedOperation]) -> Vec<PlannedOperation> {
+fn writes(operations: &[Access]) -> Vec<Access> {
     let mut writes = operations.to_vec();
     writes.retain(|operation| operation.is_write);
     writes
 }
 
 /// The last write of each key.
-fn last_writes(operations: &[PlannedOperation]) -> Vec<PlannedOperation> {
+fn last_writes(operations: &[Access]) -> Vec<Access> {
     let all = writes(operations);
     let is_last = |&index: &usize| all[index + 1..].iter().all(|w| w.key != all[index].key);
     (0..all.len())
@@ -427,7 +490,7 @@ fn last_writes(operations: &[PlannedOperation]) -> Vec<PlannedOperation> {
 
 /// The value of some write of the key, or 0, or, if allowed, one that no
 /// write has.
-fn pick_value(random: &mut Random, from: &[PlannedOperation], key: u32, thin_air: bool) -> u64 {
+fn pick_value(random: &mut Random, from: &[Access], key: u32, thin_air: bool) -> u64 {
     let of_key: Vec<u64> = from
         .iter()
         .filter(|w| w.key == key)
@@ -445,12 +508,12 @@ fn pick_value(random: &mut Random, from: &[PlannedOperation], key: u32, thin_air
 /// A random order of turns in which each session's transactions keep theirs:
 /// the sessions' turns are shuffled, then dealt to their transactions in order.
 fn turns_within_sessions(random: &mut Random, plan: &[Planned]) -> Vec<usize> {
-    let mut session_turns: Vec<u16> = plan.iter().map(|t| t.session).collect();
+    let mut session_turns: Vec<u16> = plan.iter().map(|t| t.whole.session).collect();
     random.shuffle(&mut session_turns);
     let mut dealt = vec![false; plan.len()];
     let mut deal = |session| {
         let next = (0..plan.len())
-            .find(|&t| !dealt[t] && plan[t].session == session)
+            .find(|&t| !dealt[t] && plan[t].whole.session == session)
             .expect("as many turns as transactions");
         dealt[next] = true;
         next
@@ -462,6 +525,7 @@ fn turns_within_sessions(random: &mut Random, plan: &[Planned]) -> Vec<usize> {
 /// what counts then hangs on long or circular ways from reader to writer, which
 /// a store seldom makes.
 struct Web {
+    edition: Edition,
     transactions: usize,
     sessions: usize,
     /// As many as transactions, or few, so that writers are rivals.
@@ -477,7 +541,7 @@ struct Web {
 }
 
 impl Web {
-    fn drawn(random: &mut Random) -> Web {
+    fn drawn(random: &mut Random, edition: Edition) -> Web {
         let transactions = match random.below(20) {
             0 => random.from_to(100, MAX_TRANSACTIONS),
             1..=4 => random.from_to(8, 40),
@@ -485,6 +549,7 @@ impl Web {
             _ => random.from_to(2, 7),
         };
         let web = Web {
+            edition,
             transactions,
             sessions: *random.pick(&[2, transactions, 10 * transactions]),
             keys: *random.pick(&[1, 2, transactions, transactions, transactions]),
@@ -509,24 +574,31 @@ impl Web {
     fn trace(&self, random: &mut Random) -> Vec<u8> {
         let reads = self.reads(random);
         let statuses = self.statuses(random);
-        let mut writer = Writer::new(first_serial(random));
-        for (reader, sources) in reads.iter().enumerate() {
-            let (own, others): (Vec<usize>, Vec<usize>) =
-                sources.iter().partition(|&&source| source == reader);
-            let mut operations: Vec<PlannedOperation> = Vec::new();
-            operations.extend(others.iter().map(|&source| self.read(random, source)));
-            operations.extend(self.writes(reader));
-            operations.extend(own.iter().map(|&source| self.read(random, source)));
-            if random.percent(self.shuffled) {
-                random.shuffle(&mut operations);
-            }
-            writer.open(random.below(self.sessions) as u16);
-            for operation in operations {
-                operation.write(&mut writer);
-            }
-            writer.close(statuses[reader] as u8);
+        let wholes: Vec<Whole> = (0..self.transactions)
+            .map(|t| Whole {
+                session: random.below(self.sessions) as u16,
+                status: statuses[t],
+                operations: self.operations(random, t, &reads[t]),
+            })
+            .collect();
+        match self.edition {
+            Edition::One => weave::blocks(Edition::One, first_serial(random), &wholes),
+            Edition::Two => overlapping(random, wholes),
         }
-        writer.end()
+    }
+
+    /// Reads of others, the writes, reads of its own; or all in any order.
+    fn operations(&self, random: &mut Random, reader: usize, sources: &[usize]) -> Vec<Access> {
+        let (own, others): (Vec<usize>, Vec<usize>) =
+            sources.iter().partition(|&&source| source == reader);
+        let mut operations: Vec<Access> = Vec::new();
+        operations.extend(others.iter().map(|&source| self.read(random, source)));
+        operations.extend(self.writes(reader));
+        operations.extend(own.iter().map(|&source| self.read(random, source)));
+        if random.percent(self.shuffled) {
+            random.shuffle(&mut operations);
+        }
+        operations
     }
 
     /// Whom each transaction reads: one to three patterns, one over another.
@@ -580,17 +652,17 @@ impl Web {
     }
 
     /// Both writes of a transaction are of its key.
-    fn writes(&self, writer: usize) -> [PlannedOperation; 2] {
-        [1, 2].map(|which| PlannedOperation {
+    fn writes(&self, writer: usize) -> [Access; 2] {
+        [1, 2].map(|which| Access {
             is_write: true,
             key: (writer % self.keys) as u32,
             value: 2 * writer as u64 + which,
         })
     }
 
-    fn read(&self, random: &mut Random, source: usize) -> PlannedOperation {
+    fn read(&self, random: &mut Random, source: usize) -> Access {
         let [first, last] = self.writes(source);
-        PlannedOperation {
+        Access {
             is_write: false,
             ..match random.percent(self.intermediate) {
                 true => first,
@@ -602,12 +674,12 @@ impl Web {
 
 /// A plausible trace with one to three faults. Most leave the trace framed and
 /// numbered, so that the fault itself is what the judge has to see.
-fn damaged(random: &mut Random) -> Vec<u8> {
+fn damaged(random: &mut Random, edition: Edition) -> Vec<u8> {
     let mut bytes = match random.below(10) {
-        0 => Shape::medium(random).trace(random),
-        1 if random.percent(20) => Shape::large(random).trace(random),
-        2 => Web::drawn(random).trace(random),
-        _ => Shape::small(random).trace(random),
+        0 => Shape::medium(random, edition).trace(random),
+        1 if random.percent(20) => Shape::large(random, edition).trace(random),
+        2 => Web::drawn(random, edition).trace(random),
+        _ => Shape::small(random, edition).trace(random),
     };
     for _ in 0..random.from_to(1, 3) {
         if bytes.is_empty() {
@@ -625,6 +697,24 @@ struct Loose {
     kind: u16,
     serial: u32,
     payload: Vec<u8>,
+}
+
+impl Loose {
+    /// One to be numbered with the others.
+    fn new(kind: u16, payload: Vec<u8>) -> Loose {
+        Loose {
+            length: 6 + payload.len() as u16,
+            kind,
+            serial: 0,
+            payload,
+        }
+    }
+
+    /// The record that edition 2 begins with, mostly with the right number.
+    fn edition(random: &mut Random) -> Loose {
+        let number = *random.pick(&[2, 2, 2, 0, 1, 3, 0x0102, 0x0200]);
+        Loose::new(trace::EDITION, u16::to_le_bytes(number).to_vec())
+    }
 }
 
 fn loosen(bytes: &[u8]) -> Vec<Loose> {
@@ -674,8 +764,9 @@ fn damage(random: &mut Random, bytes: &mut Vec<u8>) {
     }
     let at = random.below(records.len());
     let other = random.below(records.len());
+    let first_serial = records[0].serial;
     let mut renumber = true;
-    match random.below(12) {
+    match random.below(16) {
         0 => records.swap(at, other),
         1 => {
             records.swap(at, other);
@@ -691,7 +782,7 @@ fn damage(random: &mut Random, bytes: &mut Vec<u8>) {
                 .wrapping_add(random.below(5) as u16)
                 .wrapping_sub(2)
         }
-        5 => records[at].kind = random.below(9) as u16,
+        5 => records[at].kind = any_kind(random),
         6 => {
             records[at].serial = match random.below(3) {
                 0 => random.draw() as u32,
@@ -720,13 +811,29 @@ fn damage(random: &mut Random, bytes: &mut Vec<u8>) {
                 .filter(|&at| records[at].kind == trace::CLOSE)
                 .collect();
             if !closes.is_empty() {
-                records[*random.pick(&closes)].payload = vec![random.below(4) as u8];
+                if let Some(status) = records[*random.pick(&closes)].payload.last_mut() {
+                    *status = random.below(4) as u8;
+                }
             }
         }
         10 => {
             records[at].payload.push(0);
             records[at].length += 1;
         }
+        11 => {
+            // Another record's session, if both have one.
+            let session = records[other].payload.first_chunk::<2>().copied();
+            let place = records[at].payload.first_chunk_mut();
+            if let (Some(session), Some(place)) = (session, place) {
+                *place = session;
+            }
+        }
+        12 => records.insert(at, Loose::edition(random)),
+        13 => records.insert(at, Loose::new(trace::NOTE, note(random))),
+        14 => match records[0].kind {
+            trace::EDITION => drop(records.remove(0)),
+            _ => records.insert(0, Loose::edition(random)),
+        },
         _ => {
             if records[at].payload.pop().is_some() {
                 records[at].length -= 1;
@@ -734,9 +841,8 @@ fn damage(random: &mut Random, bytes: &mut Vec<u8>) {
         }
     }
     if renumber {
-        let first = records.first().map_or(0, |record| record.serial);
         for (index, record) in records.iter_mut().enumerate() {
-            record.serial = first.wrapping_add(index as u32);
+            record.serial = first_serial.wrapping_add(index as u32);
         }
     }
     *bytes = tighten(&records);

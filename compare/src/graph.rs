@@ -39,7 +39,7 @@ pub struct History {
     /// Transaction 0 and all that count as committed.
     counted: Set,
     findings: Vec<Finding>,
-    /// In the order of the trace, so those of one reader stand together.
+    /// Those of one reader stand together, in its own order.
     reads: Vec<ExternalRead>,
     session_before: Rows,
     source_before: Rows,
@@ -47,7 +47,8 @@ pub struct History {
 
 impl History {
     pub fn new(trace: &Trace) -> History {
-        let counting = Counting::new(trace);
+        let own = OwnOperations::new(trace);
+        let counting = Counting::new(trace, &own);
         let counted = counting.counted;
         let mut session_before = EMPTY;
         let mut sessions: FastMap<u16, Set> = FastMap::default();
@@ -65,18 +66,28 @@ impl History {
             session_before,
             source_before: EMPTY,
         };
-        history.judge_reads(trace, &counting.write_read, &Keys::new(trace, counted));
+        let keys = Keys::new(trace, &own, counted);
+        history.judge_reads(trace, &own, &counting.write_read, &keys);
         history
     }
 
-    /// Gives every read of a counted transaction its kind.
-    fn judge_reads(&mut self, trace: &Trace, write_read: &[Option<u16>], keys: &Keys) {
-        // The number of the last write so far of each key, by any transaction.
-        // Transactions do not overlap, so a transaction's own writes hide no
-        // other it needs.
+    /// Gives every read of a counted transaction its kind, one transaction
+    /// after another: "between" and "before" go by its own operations.
+    fn judge_reads(
+        &mut self,
+        trace: &Trace,
+        own: &OwnOperations,
+        write_read: &[Option<u16>],
+        keys: &Keys,
+    ) {
+        let author = |write: u16| trace.operation(write).transaction;
+        // The number of the last write so far of each key. Those of the
+        // transactions before are left there, and tell themselves by their author.
         let mut last_write: Vec<Option<u16>> = vec![None; keys.writers.len()];
-        for (index, operation) in trace.operations.iter().enumerate() {
-            let number = index as u16 + 1;
+        for &index in &own.indexes {
+            let number = index + 1;
+            let index = usize::from(index);
+            let operation = &trace.operations[index];
             let slot = usize::from(keys.slot_of[index]);
             if operation.is_write {
                 last_write[slot] = Some(number);
@@ -86,7 +97,6 @@ impl History {
             if self.counted & only(reader) == 0 {
                 continue;
             }
-            let author = |write: u16| trace.operation(write).transaction;
             let own_last = last_write[slot].filter(|&write| author(write) == reader);
             let write = write_read[index];
             let kind = match write {
@@ -121,6 +131,8 @@ impl History {
                 write: write.unwrap_or(0),
             });
         }
+        // Those of transactions that overlap were found one after another.
+        self.findings.sort_unstable_by_key(|f| f.operation);
     }
 
     pub fn judge(&self, level: Level) -> Verdict {
@@ -229,7 +241,48 @@ impl History {
 
 /// The transactions that count as committed, 0 among them, ascending.
 pub fn counted(trace: &Trace) -> Vec<u8> {
-    members(Counting::new(trace).counted).collect()
+    let own = OwnOperations::new(trace);
+    members(Counting::new(trace, &own).counted).collect()
+}
+
+/// The operations of each transaction. They are no neighbours in the trace
+/// where transactions overlap.
+struct OwnOperations {
+    /// The indexes of all operations: those of transaction 1 in their order,
+    /// then those of transaction 2, and so on.
+    indexes: Vec<u16>,
+    /// Where those of each transaction end.
+    ends: [u16; MAX_TRANSACTIONS + 1],
+}
+
+impl OwnOperations {
+    fn new(trace: &Trace) -> OwnOperations {
+        let mut ends = [0; MAX_TRANSACTIONS + 1];
+        for operation in &trace.operations {
+            ends[usize::from(operation.transaction)] += 1;
+        }
+        let mut end = 0;
+        for count in &mut ends {
+            end += *count;
+            *count = end;
+        }
+        // Filled from behind, so that each end comes to be a start.
+        let mut starts = ends;
+        let mut indexes = vec![0; trace.operations.len()];
+        for (index, operation) in trace.operations.iter().enumerate().rev() {
+            let start = &mut starts[usize::from(operation.transaction)];
+            *start -= 1;
+            indexes[usize::from(*start)] = index as u16;
+        }
+        OwnOperations { indexes, ends }
+    }
+
+    /// The indexes of the operations of a transaction other than 0.
+    fn of(&self, transaction: u8) -> &[u16] {
+        let number = usize::from(transaction);
+        let (start, end) = (self.ends[number - 1], self.ends[number]);
+        &self.indexes[usize::from(start)..usize::from(end)]
+    }
 }
 
 /// Which transactions count as committed, and what was looked up to know it.
@@ -246,7 +299,7 @@ impl Counting {
     /// once, when it has come to count, and the unanswered ones whose values
     /// they read come to count by it. A read of an own value is looked at only
     /// when its transaction counts already, so it never is the reason.
-    fn new(trace: &Trace) -> Counting {
+    fn new(trace: &Trace, own: &OwnOperations) -> Counting {
         let with = |status| trace.with_status(status).fold(0, |set, t| set | only(t));
         let mut uncounted: Set = with(Status::Unanswered);
         let mut waiting: Set = with(Status::Committed);
@@ -256,7 +309,7 @@ impl Counting {
         };
         while let Some(reader) = members(waiting).next() {
             waiting &= !only(reader);
-            let sources = uncounted & counting.look_up(trace, reader);
+            let sources = uncounted & counting.look_up(trace, own.of(reader));
             uncounted &= !sources;
             waiting |= sources;
             counting.counted |= sources;
@@ -264,10 +317,11 @@ impl Counting {
         counting
     }
 
-    /// Looks the reads of a transaction up, and answers whose values they read.
-    fn look_up(&mut self, trace: &Trace, reader: u8) -> Set {
+    /// Looks the reads among these operations up, and answers whose values they
+    /// read.
+    fn look_up(&mut self, trace: &Trace, indexes: &[u16]) -> Set {
         let mut sources = 0;
-        for index in trace.operations_of(reader) {
+        for index in indexes.iter().copied().map(usize::from) {
             let operation = &trace.operations[index];
             if operation.is_write {
                 continue;
@@ -292,21 +346,24 @@ struct Keys {
 }
 
 impl Keys {
-    fn new(trace: &Trace, counted: Set) -> Keys {
+    fn new(trace: &Trace, own: &OwnOperations, counted: Set) -> Keys {
         let mut slots: FastMap<u32, u16> = FastMap::default();
         let mut last_write: Vec<Option<usize>> = Vec::new();
         let mut keys = Keys {
-            slot_of: Vec::with_capacity(trace.operations.len()),
+            slot_of: vec![0; trace.operations.len()],
             writers: Vec::new(),
             written_again: vec![false; trace.operations.len()],
         };
-        for (index, operation) in trace.operations.iter().enumerate() {
+        // Transaction by transaction, so that its own writes of a key follow one
+        // another.
+        for index in own.indexes.iter().copied().map(usize::from) {
+            let operation = &trace.operations[index];
             let slot = *slots.entry(operation.key).or_insert_with(|| {
                 keys.writers.push(only(0));
                 last_write.push(None);
                 keys.writers.len() as u16 - 1
             });
-            keys.slot_of.push(slot);
+            keys.slot_of[index] = slot;
             if operation.is_write {
                 let slot = usize::from(slot);
                 keys.writers[slot] |= only(operation.transaction) & counted;

@@ -1,9 +1,10 @@
 //! An independent judge and writer of transaction traces.
 //!
 //! It is written from the specification alone, `01-scope.md` and the requests
-//! for a writer, for unanswered commits and for the writes of unclean reads, to
-//! be compared with the proved judge and writer: the two sides share no code, so
-//! a mistake would have to be made twice, in the same way, to stay unseen.
+//! for a writer, for unanswered commits, for the writes of unclean reads and for
+//! overlapping transactions, to be compared with the proved judge and writer: the
+//! two sides share no code, so a mistake would have to be made twice, in the same
+//! way, to stay unseen.
 //!
 //! * [`trace`] reads the bytes of a trace, or says why they are refused;
 //! * [`graph`] decides by forced pairs, for any trace, and is meant to be fast;
@@ -12,8 +13,9 @@
 //!   outcomes; it is meant to be obviously right;
 //! * [`report`] holds the answers and prints them as the program `judge` does;
 //! * [`writing`] writes traces from steps and turns traces into steps;
-//! * [`encode`], [`text`], [`generate`] and [`cases`] make traces, [`sequences`]
-//!   and [`sequence_cases`] sequences of steps;
+//! * [`encode`], [`text`], [`weave`], [`generate`], [`cases`] and
+//!   [`overlap_cases`] make traces, [`sequences`] and [`sequence_cases`]
+//!   sequences of steps;
 //! * [`process`], [`workers`] and [`scribes`] compare.
 
 pub mod brute;
@@ -22,6 +24,7 @@ pub mod encode;
 pub mod generate;
 pub mod graph;
 pub mod hash;
+pub mod overlap_cases;
 pub mod process;
 pub mod random;
 pub mod report;
@@ -30,6 +33,7 @@ pub mod sequence_cases;
 pub mod sequences;
 pub mod text;
 pub mod trace;
+pub mod weave;
 pub mod workers;
 pub mod writing;
 

@@ -8,8 +8,8 @@ use crate::random::Random;
 use crate::sequence_cases;
 use crate::sequences::{self, Origin};
 use crate::trace::{
-    self, Operation, Refusal, Status, Trace, Transaction, CLOSE, MAX_BYTES, MAX_OPERATIONS,
-    MAX_TRANSACTIONS, NOTE, OPEN, WRITE,
+    self, Edition, Operation, Refusal, Status, Trace, Transaction, CLOSE, MAX_BYTES,
+    MAX_OPERATIONS, MAX_TRANSACTIONS, NOTE, OPEN, WRITE,
 };
 use crate::workers::{self, add_each, Difference, Extent, Tally};
 use crate::writing::{
@@ -524,9 +524,10 @@ fn meant(steps: &[Step]) -> (Vec<Transaction>, Vec<Operation>) {
     (transactions, operations)
 }
 
-/// A trace that is read has the steps that mean its transactions and
-/// operations, and is its own rewriting if it has no notes; one that is
-/// refused is refused here too.
+/// A trace of edition 1 that is read has the steps that mean its transactions
+/// and operations, and is its own rewriting if it has no notes; one that is
+/// refused is refused here too. One of edition 2 that is read is refused where
+/// it says so.
 fn check_trace(
     way: Way,
     trace: &[u8],
@@ -540,7 +541,18 @@ fn check_trace(
                 false => Err(format!("the reader says {by_reader:?}")),
             };
         }
-        (Ok(_), Err(refusal)) => return Err(format!("read, but {refusal:?}")),
+        (Ok(read), Err(refusal)) => {
+            // No step says an edition, and the record that does stands first.
+            let of_edition = Refusal {
+                number: 6,
+                place: 0,
+            };
+            tally.of_edition_2 += usize::from(way == Way::Rewrite);
+            return match read.edition == Edition::Two && *refusal == of_edition {
+                true => Ok(()),
+                false => Err(format!("read, but {refusal:?}")),
+            };
+        }
         (Ok(read), Ok(bytes)) => (read, bytes),
     };
     if way == Way::List {
@@ -586,6 +598,7 @@ struct Outcomes {
     refused_by_reader: usize,
     rewritten_alike: usize,
     notes_left_out: usize,
+    of_edition_2: usize,
     /// Sequences written that wrap, or that reach limits.
     wrapped: usize,
     full_transactions: usize,
@@ -609,6 +622,7 @@ impl Tally for Outcomes {
         self.refused_by_reader += other.refused_by_reader;
         self.rewritten_alike += other.rewritten_alike;
         self.notes_left_out += other.notes_left_out;
+        self.of_edition_2 += other.of_edition_2;
         self.wrapped += other.wrapped;
         self.full_transactions += other.full_transactions;
         self.full_operations += other.full_operations;
@@ -703,6 +717,7 @@ impl Outcomes {
             ("steps refused by reader too", self.refused_by_reader),
             ("rewritten as they are", self.rewritten_alike),
             ("rewritten without notes", self.notes_left_out),
+            ("read, but of edition 2", self.of_edition_2),
         ] {
             lines.push(format!("  {name:<28}{count:>8}"));
         }

@@ -378,6 +378,7 @@ fn kinds_and_rests() -> Vec<SequenceCase> {
         6,
         7,
         8,
+        16,
         255,
         256,
         257,

@@ -6,18 +6,26 @@
 //! T1 w1=5 unanswered; T2 s1 r1=5 note "inside" r2=0 aborted
 //! ```
 //!
+//! In edition 2 a transaction may be written in parts, with others between:
+//!
+//! ```text
+//! edition 2; T1 w1=5 ..; T2 r1=5; T1 .. w2=6 aborted
+//! ```
+//!
 //! See [`GRAMMAR`] for the whole of it.
 
 use crate::encode::Writer;
-use crate::trace::{self, Operation, Refusal, Status, Trace};
+use crate::trace::{self, Edition, Operation, Record, Refusal, Status, Trace};
 use crate::writing::{self, Step};
-use std::collections::HashSet;
+use std::collections::{HashMap, HashSet};
 use std::fmt;
 use std::str::FromStr;
 
 /// What may be written, for `tracetext --help`.
 pub const GRAMMAR: &str = r#"Items, parted by ';' or by line ends:
   serial N          the first serial; only as the first item; default 0
+  edition 2         a trace of edition 2, in which transactions may overlap; only
+                    as the first item or behind 'serial'; default: edition 1
   T1 ...            a transaction; they are numbered T1, T2, .. in order. Then
                     may follow, parted by blanks and in this order:
       sN            its session; default: one that no other transaction has,
@@ -25,16 +33,23 @@ pub const GRAMMAR: &str = r#"Items, parted by ';' or by line ends:
       rK=V  wK=V    reads and writes of key K, value V, in any number
       note "text"   a note, anywhere among the reads and writes
       committed, aborted, unanswered or status N     default: committed
+      ..            in place of these, in edition 2: it stays open
+  T1 .. ...         in edition 2: T1, which stayed open, goes on. Then may follow
+                    reads and writes, and how it ends or '..', as above
   note "text"       a note between transactions
   end N             an end record with this number; only as the last item;
                     default: the number of transactions
 In a note's text, \" is a quote, \\ a backslash, \xNN the byte with the
 hexadecimal number NN. A value 0 written, a status above 2, a wrong end number
-or a note of more than 64 bytes is encoded as it stands, to be refused. Steps
-have no notes and no end record: a text with 'note' or 'end' has no steps.
+or a note of more than 64 bytes is encoded as it stands, to be refused; so are
+another edition than 2, and in edition 2 a note, a transaction that is never
+closed, and one in a session that has another open. Steps have no notes, no end
+record and no edition: a text with 'note', 'end' or 'edition' has no steps.
 
 Example, case 16:  T1 w1=11 w2=21; T2 w1=12 w2=22; T3 r1=12 r2=21
 An unanswered commit that counts:  T1 w1=5 unanswered; T2 r1=5
+T2 opens and reads while T1 is open, T1 writes and commits, T2 reads and aborts:
+  edition 2; T1 w1=5 ..; T2 r1=5 ..; T1 .. w2=6; T2 .. r2=6 aborted
 "#;
 
 /// What is wrong with a text, and where: line and byte of the line, from 1.
@@ -107,9 +122,8 @@ fn encode_as(text: &[u8], form: Form) -> Result<Vec<u8>, TextError> {
         tokens: Tokens::cut(text)?,
         form,
         writer: Writer::new(0),
-        transactions: 0,
-        sessions: HashSet::new(),
-        left_out: Vec::new(),
+        edition: Edition::One,
+        transactions: Vec::new(),
     };
     let end = encoder.items()?;
     encoder.choose_sessions();
@@ -122,48 +136,100 @@ fn encode_as(text: &[u8], form: Form) -> Result<Vec<u8>, TextError> {
 /// The text of a trace that is not refused: encoding it gives its bytes again.
 pub fn decode(bytes: &[u8]) -> Result<String, Refusal> {
     let trace = Trace::parse(bytes)?;
-    let is_shared = |session: u16| {
-        let of_session = trace.transactions.iter().filter(|t| t.session == session);
-        of_session.count() > 1
+    let mut decoder = Decoder {
+        trace: &trace,
+        out: String::new(),
+        opened: 0,
+        open: HashMap::new(),
+        line: None,
     };
-    let mut out = String::new();
-    let mut number = 0;
-    let mut inside = false;
     for (index, record) in trace::records(bytes).enumerate() {
         if index == 0 && record.serial != 0 {
-            out.push_str(&format!("serial {}\n", record.serial));
+            decoder.out.push_str(&format!("serial {}\n", record.serial));
         }
+        decoder.take(&record);
+    }
+    Ok(decoder.out)
+}
+
+/// A trace as far as it has been put into text.
+struct Decoder<'a> {
+    trace: &'a Trace,
+    out: String,
+    opened: u16,
+    /// The numbers of the open transactions, by what their records have before
+    /// the other fields: their session in edition 2, nothing in edition 1.
+    open: HashMap<Vec<u8>, u16>,
+    /// The transaction whose line has not ended.
+    line: Option<u16>,
+}
+
+impl Decoder<'_> {
+    fn take(&mut self, record: &Record) {
+        let session_size = self.trace.edition.session_size();
         let payload = record.payload;
         match record.kind {
+            trace::EDITION => self.out.push_str("edition 2\n"),
             trace::OPEN => {
-                number += 1;
-                inside = true;
-                out.push_str(&format!("T{number}"));
-                let session = u16::from_le_bytes([payload[0], payload[1]]);
-                // Encoding chooses the own number where no other has it.
-                if session != number || is_shared(session) {
-                    out.push_str(&format!(" s{session}"));
-                }
+                self.opened += 1;
+                self.open
+                    .insert(payload[..session_size].to_vec(), self.opened);
+                self.begin_line(self.opened);
+                self.session(u16::from_le_bytes([payload[0], payload[1]]));
             }
             trace::READ | trace::WRITE => {
+                let (session, fields) = payload.split_at(session_size);
+                self.go_on(self.open[session]);
                 let letter = if record.kind == trace::READ { 'r' } else { 'w' };
-                let (key, value) = trace::key_and_value(payload);
-                out.push_str(&format!(" {letter}{key}={value}"));
+                let (key, value) = trace::key_and_value(fields);
+                self.out.push_str(&format!(" {letter}{key}={value}"));
             }
             trace::CLOSE => {
-                inside = false;
-                out.push_str(match payload[0] {
+                let (session, fields) = payload.split_at(session_size);
+                self.go_on(self.open[session]);
+                self.open.remove(session);
+                self.line = None;
+                self.out.push_str(match fields[0] {
                     0 => " aborted\n",
                     1 => "\n",
                     _ => " unanswered\n",
                 });
             }
-            trace::NOTE if inside => out.push_str(&format!(" note {}", quote(payload))),
-            trace::NOTE => out.push_str(&format!("note {}\n", quote(payload))),
+            trace::NOTE if self.line.is_some() => {
+                self.out.push_str(&format!(" note {}", quote(payload)))
+            }
+            trace::NOTE => self.out.push_str(&format!("note {}\n", quote(payload))),
             _ => {} // the end record says nothing that is not known
         }
     }
-    Ok(out)
+
+    /// Begins the line of a transaction; one that stands before it goes on
+    /// further down.
+    fn begin_line(&mut self, number: u16) {
+        if self.line.is_some() {
+            self.out.push_str(" ..\n");
+        }
+        self.line = Some(number);
+        self.out.push_str(&format!("T{number}"));
+    }
+
+    /// More of a transaction, on its line or on another that goes on with it.
+    fn go_on(&mut self, number: u16) {
+        if self.line != Some(number) {
+            self.begin_line(number);
+            self.out.push_str(" ..");
+        }
+    }
+
+    /// The session of the transaction that was opened last. Encoding chooses
+    /// the own number where no other has it.
+    fn session(&mut self, session: u16) {
+        let all = self.trace.transactions.iter();
+        let is_shared = all.filter(|t| t.session == session).count() > 1;
+        if session != self.opened || is_shared {
+            self.out.push_str(&format!(" s{session}"));
+        }
+    }
 }
 
 /// The operations of a trace that is not refused, a line each: the number by
@@ -363,19 +429,24 @@ fn hex(digit: u8) -> Option<u8> {
 struct Encoder {
     tokens: Tokens,
     form: Form,
+    edition: Edition,
     writer: Writer,
-    transactions: u16,
-    /// The sessions that transactions have: those written out, then the others.
-    sessions: HashSet<u16>,
-    /// The transactions whose session is left out: the number of each and the
-    /// byte at which its open record begins.
-    left_out: Vec<(u16, usize)>,
+    transactions: Vec<Named>,
+}
+
+/// A transaction that the text has named.
+struct Named {
+    /// Its session if it is written out.
+    session: Option<u16>,
+    /// The bytes at which its records begin that have a session.
+    records: Vec<usize>,
+    is_open: bool,
 }
 
 impl Encoder {
     /// All items. Answers the number of the end record if it is written out.
     fn items(&mut self) -> Result<Option<u16>, TextError> {
-        let mut first_item = true;
+        self.heading()?;
         loop {
             self.tokens.skip_separators();
             let Some((at, token)) = self.tokens.peek() else {
@@ -387,12 +458,9 @@ impl Encoder {
             let word = word.clone();
             self.tokens.next += 1;
             match word.as_str() {
-                "serial" => {
-                    if !first_item {
-                        return Err(at.error("'serial' can only be the first item"));
-                    }
-                    let serial = self.tokens.number("first serial", u32::MAX)?;
-                    self.writer = Writer::new(serial);
+                "serial" => return Err(at.error("'serial' can only be the first item")),
+                "edition" => {
+                    return Err(at.error("'edition' can only be the first item or behind 'serial'"))
                 }
                 "note" => self.note(at)?,
                 "end" => {
@@ -410,56 +478,130 @@ impl Encoder {
                 _ => self.transaction(&word, at)?,
             }
             self.tokens.end_of_item()?;
-            first_item = false;
         }
     }
 
-    /// A transaction, whose name has been taken.
+    /// The items that only stand before all others.
+    fn heading(&mut self) -> Result<(), TextError> {
+        if self.heading_item("serial").is_some() {
+            let serial = self.tokens.number("first serial", u32::MAX)?;
+            self.writer = Writer::new(serial);
+            self.tokens.end_of_item()?;
+        }
+        if let Some(at) = self.heading_item("edition") {
+            if self.form == Form::Steps {
+                return Err(at.error("steps are of edition 1"));
+            }
+            let number = self.tokens.number("edition", u16::MAX)?;
+            self.writer.edition(number);
+            self.edition = Edition::Two;
+            self.tokens.end_of_item()?;
+        }
+        Ok(())
+    }
+
+    /// Takes the first word of the next item if it is this one; answers where
+    /// it stood.
+    fn heading_item(&mut self, name: &str) -> Option<Position> {
+        self.tokens.skip_separators();
+        let (at, _) = self.tokens.peek_word().filter(|(_, word)| word == name)?;
+        self.tokens.next += 1;
+        Some(at)
+    }
+
+    /// A transaction or a part of one, whose name has been taken.
     fn transaction(&mut self, name: &str, at: Position) -> Result<(), TextError> {
         let Some(digits) = name.strip_prefix('T') else {
             return Err(at.error(format!(
-                "'{name}' begins no item; expected T1, T2, .., note, serial or end"
+                "'{name}' begins no item; expected T1, T2, .., note, serial, edition or end"
             )));
         };
         let given: u16 = number(digits, at, "transaction", u16::MAX)?;
-        if self.transactions.checked_add(1) != Some(given) {
-            let next = u32::from(self.transactions) + 1;
-            return Err(at.error(format!("{name} is out of turn; T{next} comes next")));
+        let next = self.transactions.len() + 1;
+        if usize::from(given) == next {
+            self.open()?;
+        } else {
+            self.go_on(given, at)?;
         }
-        self.transactions = given;
-        match self.session()? {
-            Some(session) => {
-                self.sessions.insert(session);
-                self.writer.open(session);
-            }
-            None => {
-                self.left_out.push((given, self.writer.bytes.len()));
-                self.writer.open(0); // until all that are written out are known
+        self.rest_of_part(usize::from(given) - 1)
+    }
+
+    /// Goes on with a transaction that is open: its item begins with '..'.
+    fn go_on(&mut self, given: u16, at: Position) -> Result<(), TextError> {
+        let index = usize::from(given).checked_sub(1);
+        let is_open = index
+            .and_then(|index| self.transactions.get(index))
+            .is_some_and(|transaction| transaction.is_open);
+        match (is_open, self.takes_dots()?) {
+            (true, true) => Ok(()),
+            (true, false) => Err(at.error(format!("T{given} is open; 'T{given} ..' goes on"))),
+            (false, true) => Err(at.error(format!("T{given} is not open and cannot go on"))),
+            (false, false) => {
+                let next = self.transactions.len() + 1;
+                Err(at.error(format!("T{given} is out of turn; T{next} comes next")))
             }
         }
-        let mut status = 1;
-        while let Some((at, word)) = self.tokens.peek_word() {
+    }
+
+    /// Takes '..' if it comes next.
+    fn takes_dots(&mut self) -> Result<bool, TextError> {
+        let Some((at, _)) = self.tokens.peek_word().filter(|(_, word)| word == "..") else {
+            return Ok(false);
+        };
+        if self.edition == Edition::One {
+            return Err(at.error("'..' is for edition 2: in edition 1 transactions do not overlap"));
+        }
+        self.tokens.next += 1;
+        Ok(true)
+    }
+
+    /// Opens the next transaction.
+    fn open(&mut self) -> Result<(), TextError> {
+        let session = self.session()?;
+        self.transactions.push(Named {
+            session,
+            records: vec![self.writer.bytes.len()],
+            is_open: true,
+        });
+        // One that is left out is 0 until all that are written out are known.
+        self.writer.open(session.unwrap_or(0));
+        Ok(())
+    }
+
+    /// The operations of the transaction with this index and what comes behind
+    /// them: its status, or '..', or nothing.
+    fn rest_of_part(&mut self, index: usize) -> Result<(), TextError> {
+        let status = loop {
+            if self.takes_dots()? {
+                return Ok(());
+            }
+            let Some((at, word)) = self.tokens.peek_word() else {
+                break 1;
+            };
             self.tokens.next += 1;
             match word.as_str() {
-                "committed" => break,
-                "aborted" => {
-                    status = 0;
-                    break;
-                }
-                "unanswered" => {
-                    status = 2;
-                    break;
-                }
-                "status" => {
-                    status = self.tokens.number("status", u8::MAX)?;
-                    break;
-                }
+                "committed" => break 1,
+                "aborted" => break 0,
+                "unanswered" => break 2,
+                "status" => break self.tokens.number("status", u8::MAX)?,
                 "note" => self.note(at)?,
-                _ => self.operation(&word, at)?,
+                _ => self.operation(index, &word, at)?,
             }
-        }
-        self.writer.close(status);
+        };
+        let session = self.session_of(index);
+        self.writer.close_in(session, status);
+        self.transactions[index].is_open = false;
         Ok(())
+    }
+
+    /// The session for a record of a transaction that begins here; edition 1
+    /// has it in no record but the open.
+    fn session_of(&mut self, index: usize) -> u16 {
+        let transaction = &mut self.transactions[index];
+        if self.edition == Edition::Two {
+            transaction.records.push(self.writer.bytes.len());
+        }
+        transaction.session.unwrap_or(0)
     }
 
     /// A note, whose first word has been taken.
@@ -488,16 +630,23 @@ impl Encoder {
     /// has: its own number or, where that is taken, the next that is free,
     /// 0 coming after 65,535.
     fn choose_sessions(&mut self) {
-        for &(number, open) in &self.left_out {
+        let written_out = self.transactions.iter().flat_map(|t| t.session);
+        let mut taken: HashSet<u16> = written_out.collect();
+        for (number, transaction) in (1..=u16::MAX).zip(&self.transactions) {
+            if transaction.session.is_some() {
+                continue;
+            }
             let session = (number..=u16::MAX)
                 .chain(0..number)
-                .find(|&session| self.sessions.insert(session))
+                .find(|&session| taken.insert(session))
                 .expect("there are more sessions than transactions");
-            self.writer.set_session(open, session);
+            for &record in &transaction.records {
+                self.writer.set_session(record, session);
+            }
         }
     }
 
-    fn operation(&mut self, word: &str, at: Position) -> Result<(), TextError> {
+    fn operation(&mut self, index: usize, word: &str, at: Position) -> Result<(), TextError> {
         let wrong = || {
             at.error(format!(
                 "'{word}' is no r<key>=<value>, w<key>=<value>, note, committed, aborted, \
@@ -509,10 +658,10 @@ impl Encoder {
         let (key, value) = rest.split_once('=').ok_or_else(wrong)?;
         let key = number(key, at, "key", u32::MAX)?;
         let value = number(value, at, "value", u64::MAX)?;
-        if is_write {
-            self.writer.write(key, value);
-        } else {
-            self.writer.read(key, value);
+        let session = self.session_of(index);
+        match is_write {
+            true => self.writer.write_in(session, key, value),
+            false => self.writer.read_in(session, key, value),
         }
         Ok(())
     }
@@ -550,6 +699,37 @@ mod tests {
         let bytes = encode(text.as_bytes()).unwrap();
         assert_eq!(decode(&bytes).unwrap(), text);
         assert_eq!(decode(&encode(b"").unwrap()).unwrap(), "");
+    }
+
+    #[test]
+    fn the_text_of_edition_2_comes_back() {
+        for text in [
+            "edition 2\n",
+            "serial 4294967295\nedition 2\nT1 ..\nT2 s7 w1=5 ..\nT1 .. r1=5 w2=6 ..\n\
+             T2 .. aborted\nT3 s7 ..\nT1 .. unanswered\nT3 ..\n",
+            // Blocks are written as in edition 1, and each of a session of its own.
+            "edition 2\nT1 w1=5\nT2 r1=5 unanswered\n",
+        ] {
+            let bytes = encode(text.as_bytes()).unwrap();
+            assert_eq!(decode(&bytes).unwrap(), text);
+        }
+    }
+
+    #[test]
+    fn parts_may_be_written_apart_without_need() {
+        let apart =
+            encode(b"edition 2; T1; T2 s9 ..; T2 .. ..; T2 .. w1=5 ..; T2 .. r1=5").unwrap();
+        assert_eq!(decode(&apart).unwrap(), "edition 2\nT1\nT2 s9 w1=5 r1=5\n");
+    }
+
+    #[test]
+    fn every_record_of_edition_2_has_the_session_that_was_left_out() {
+        let bytes = encode(b"edition 2; T1 w1=5 ..; T2 s1 ..; T1 .. r1=5; T2 ..").unwrap();
+        let sessions: Vec<u16> = trace::records(&bytes)
+            .map(|record| u16::from_le_bytes([record.payload[0], record.payload[1]]))
+            .collect();
+        // The first and the last are the edition and the number of transactions.
+        assert_eq!(sessions, [2, 2, 2, 1, 2, 2, 1, 2]);
     }
 
     #[test]
@@ -636,6 +816,21 @@ mod tests {
         assert_eq!(number("T1; end 2"), 8);
         assert_eq!(number("T1 w1=0"), 8);
         assert_eq!(number("T1 w1=1 w1=1"), 10);
+        for (text, refused) in [
+            ("edition 1", 8),
+            ("edition 3; T1", 8),
+            ("edition 2; note \"\"", 6),
+            ("edition 2; T1 note \"\"", 6),
+            ("edition 2; T1 ..", 7),
+            ("edition 2; T1 .. ; T2; end 3", 7),
+            ("edition 2; T1 s5 ..; T2 s5; T1 ..", 7),
+            ("edition 2; T1 w1=0 ..; T1 ..", 8),
+            ("edition 2; T1 ..; T1 .. status 3", 8),
+            ("edition 2; T1; end 2", 8),
+            ("edition 2; T1 w1=1 ..; T2 w1=1; T1 ..", 10),
+        ] {
+            assert_eq!(number(text), refused, "{text}");
+        }
     }
 
     #[test]
@@ -694,6 +889,10 @@ mod tests {
             error("T1; end 1"),
             "line 1, column 5: steps have no end record; writing adds it"
         );
+        assert_eq!(
+            error("serial 1; edition 2; T1"),
+            "line 1, column 11: steps are of edition 1"
+        );
     }
 
     #[test]
@@ -725,6 +924,38 @@ mod tests {
         assert_eq!(
             error_of("T1; serial 5"),
             "line 1, column 5: 'serial' can only be the first item"
+        );
+        assert_eq!(
+            error_of("T1; edition 2"),
+            "line 1, column 5: 'edition' can only be the first item or behind 'serial'"
+        );
+        assert_eq!(
+            error_of("edition 2; serial 5"),
+            "line 1, column 12: 'serial' can only be the first item"
+        );
+        assert_eq!(
+            error_of("T1 w1=5 .."),
+            "line 1, column 9: '..' is for edition 2: in edition 1 transactions do not overlap"
+        );
+        assert_eq!(
+            error_of("edition 2; T1 .. r1=0"),
+            "line 1, column 18: 'r1=0' is not expected here"
+        );
+        assert_eq!(
+            error_of("edition 2; T1 ..; T1 r1=0"),
+            "line 1, column 19: T1 is open; 'T1 ..' goes on"
+        );
+        assert_eq!(
+            error_of("edition 2; T1; T1 .. r1=0"),
+            "line 1, column 16: T1 is not open and cannot go on"
+        );
+        assert_eq!(
+            error_of("edition 2; T0 .."),
+            "line 1, column 12: T0 is not open and cannot go on"
+        );
+        assert_eq!(
+            error_of("edition 2; T1 .. aborted"),
+            "line 1, column 18: 'aborted' is not expected here"
         );
         assert_eq!(
             error_of("serial"),

@@ -1,4 +1,4 @@
-//! Reading a trace: rows 2 to 11 of the table of refusals.
+//! Reading a trace of either edition: rows 2 to 11 of the table of refusals.
 //!
 //! Row 1 (the level) has no place here since [`crate::report::Level`] cannot
 //! be wrong, rows 12 to 15 concern buffers and notes asked for, which this
@@ -17,13 +17,19 @@ pub const WRITE: u16 = 3;
 pub const CLOSE: u16 = 4;
 pub const END: u16 = 5;
 pub const NOTE: u16 = 6;
+/// The record that edition 2 begins with.
+pub const EDITION: u16 = 16;
+/// The only lawful payload of that record.
+pub const EDITION_2: u16 = 2;
 
 /// Bytes of a record that its length does not count: the length field itself.
 const LENGTH_FIELD: usize = 2;
 /// Bytes that every length counts: kind and serial.
 const KIND_AND_SERIAL: usize = 6;
-/// Bytes of a read or a write.
+/// Bytes of a read or a write, without the session that it has in edition 2.
 const OPERATION_SIZE: usize = 20;
+/// Bytes of a session.
+const SESSION_SIZE: usize = 2;
 
 /// Why a trace is not judged: the number of the row and the place.
 #[derive(Clone, Copy, Debug, PartialEq, Eq)]
@@ -45,13 +51,40 @@ impl Refusal {
             4 => "length below 6, or not this kind's",
             5 => "serial does not follow",
             6 => "unknown kind",
-            7 => "record not lawful here: inside or outside a transaction",
-            8 => "written value 0, status above 2, or wrong end number",
+            7 => "record not lawful here: inside or outside a transaction, or edition not first",
+            8 => "written value 0, status above 2, wrong end number, or unknown edition",
             9 => "128th open or 1,025th operation",
             10 => "a write repeats an earlier write's key and value",
             11 => "bytes follow the end record",
             16 => "output buffer too short",
             _ => "not given when reading or writing a trace",
+        }
+    }
+}
+
+/// How the records of a trace are laid out, and whether transactions overlap.
+#[derive(Clone, Copy, Debug, PartialEq, Eq)]
+pub enum Edition {
+    One,
+    Two,
+}
+
+impl Edition {
+    /// "Edition 2 of the trace begins with a kind 16 record. Any other trace is
+    /// edition 1": also one that has no first record.
+    pub fn of(bytes: &[u8]) -> Edition {
+        match Record::at(bytes) {
+            Ok(first) if first.kind == EDITION => Edition::Two,
+            _ => Edition::One,
+        }
+    }
+
+    /// The bytes before the other fields of a read, a write or a close: in
+    /// edition 2 these "have the session before their other fields".
+    pub fn session_size(self) -> usize {
+        match self {
+            Edition::One => 0,
+            Edition::Two => SESSION_SIZE,
         }
     }
 }
@@ -92,6 +125,7 @@ pub struct Transaction {
 /// A trace that is not refused.
 #[derive(Clone, Debug)]
 pub struct Trace {
+    pub edition: Edition,
     pub transactions: Vec<Transaction>,
     pub operations: Vec<Operation>,
     /// The number of the only operation that writes this key and value.
@@ -108,13 +142,15 @@ impl Trace {
             });
         }
         let expected_operations = (bytes.len() / OPERATION_SIZE).min(MAX_OPERATIONS);
+        let edition = Edition::of(bytes);
         let mut trace = Trace {
+            edition,
             transactions: Vec::new(),
             operations: Vec::with_capacity(expected_operations),
             // Most traces have about as many reads as writes.
             writes: FastMap::with_capacity_and_hasher(expected_operations / 2, Default::default()),
         };
-        let mut inside = false;
+        let mut open = Open::none(edition);
         let mut expected_serial = None;
         let mut offset = 0;
         loop {
@@ -127,7 +163,8 @@ impl Trace {
                 return Err(refused(5));
             }
             expected_serial = Some(record.serial.wrapping_add(1));
-            trace.take(&record, &mut inside).map_err(refused)?;
+            let is_first = offset == 0;
+            trace.take(&record, is_first, &mut open).map_err(refused)?;
             offset += record.size();
             if record.kind == END {
                 break;
@@ -160,30 +197,31 @@ impl Trace {
             .filter_map(move |(number, t)| (t.status == status).then_some(number))
     }
 
-    /// The indexes of a transaction's operations: transactions do not overlap,
-    /// so they stand together.
-    pub fn operations_of(&self, transaction: u8) -> std::ops::Range<usize> {
-        let first_from = |t| self.operations.partition_point(|op| op.transaction < t);
-        first_from(transaction)..first_from(transaction + 1)
-    }
-
     /// Checks one record from row 6 on, and enters what it says.
-    fn take(&mut self, record: &Record, inside: &mut bool) -> Result<(), u8> {
+    fn take(&mut self, record: &Record, is_first: bool, open: &mut Open) -> Result<(), u8> {
         let payload = record.payload;
+        let session_size = self.edition.session_size();
         let lawful_size = match record.kind {
-            OPEN | END => payload.len() == 2,
-            READ | WRITE => payload.len() == 12,
-            CLOSE => payload.len() == 1,
-            NOTE => payload.len() <= MAX_NOTE,
+            OPEN | END | EDITION => payload.len() == 2,
+            READ | WRITE => payload.len() == session_size + 12,
+            CLOSE => payload.len() == session_size + 1,
+            // "6 for a note in edition 2"
+            NOTE if self.edition == Edition::One => payload.len() <= MAX_NOTE,
             _ => return Err(6),
         };
         if !lawful_size {
             return Err(4);
         }
+        // What an open record begins with, and in edition 2 a read, a write or
+        // a close; of other records it is not looked at.
+        let session = payload.first_chunk().map_or(0, |s| u16::from_le_bytes(*s));
+        let owner = open.of(session);
         let lawful_here = match record.kind {
             NOTE => true,
-            OPEN | END => !*inside,
-            _ => *inside,
+            EDITION => is_first,
+            OPEN => owner.is_none(),
+            END => open.is_empty(),
+            _ => owner.is_some(),
         };
         if !lawful_here {
             return Err(7);
@@ -194,14 +232,14 @@ impl Trace {
                     return Err(9);
                 }
                 self.transactions.push(Transaction {
-                    session: u16::from_le_bytes([payload[0], payload[1]]),
+                    session,
                     status: Status::Aborted, // until it is closed
                 });
-                *inside = true;
+                open.enter(session, self.transactions.len() as u8);
             }
             READ | WRITE => {
                 let is_write = record.kind == WRITE;
-                let (key, value) = key_and_value(payload);
+                let (key, value) = key_and_value(&payload[session_size..]);
                 if is_write && value == 0 {
                     return Err(8);
                 }
@@ -213,18 +251,17 @@ impl Trace {
                     return Err(10);
                 }
                 self.operations.push(Operation {
-                    transaction: self.transactions.len() as u8,
+                    transaction: owner.expect("an operation of an open transaction"),
                     is_write,
                     key,
                     value,
                 });
             }
             CLOSE => {
-                let status = Status::of_byte(payload[0]).ok_or(8)?;
-                if let Some(transaction) = self.transactions.last_mut() {
-                    transaction.status = status;
-                }
-                *inside = false;
+                let status = Status::of_byte(payload[session_size]).ok_or(8)?;
+                let closed = owner.expect("a close of an open transaction");
+                self.transactions[usize::from(closed) - 1].status = status;
+                open.leave(session);
             }
             END => {
                 let number = u16::from_le_bytes([payload[0], payload[1]]);
@@ -232,13 +269,64 @@ impl Trace {
                     return Err(8);
                 }
             }
+            EDITION if u16::from_le_bytes([payload[0], payload[1]]) != EDITION_2 => return Err(8),
             _ => {}
         }
         Ok(())
     }
 }
 
-/// Key and value from the payload of a read or a write, which has 12 bytes.
+/// The transactions that are open.
+enum Open {
+    /// In edition 1 "transactions do not overlap": all sessions share one place.
+    One(Option<u8>),
+    /// In edition 2 "each session may have one transaction open".
+    BySession(FastMap<u16, u8>),
+}
+
+impl Open {
+    fn none(edition: Edition) -> Open {
+        match edition {
+            Edition::One => Open::One(None),
+            Edition::Two => Open::BySession(FastMap::default()),
+        }
+    }
+
+    /// The transaction that a record of this session belongs to.
+    fn of(&self, session: u16) -> Option<u8> {
+        match self {
+            Open::One(transaction) => *transaction,
+            Open::BySession(open) => open.get(&session).copied(),
+        }
+    }
+
+    fn is_empty(&self) -> bool {
+        match self {
+            Open::One(transaction) => transaction.is_none(),
+            Open::BySession(open) => open.is_empty(),
+        }
+    }
+
+    fn enter(&mut self, session: u16, opened: u8) {
+        match self {
+            Open::One(transaction) => *transaction = Some(opened),
+            Open::BySession(open) => {
+                open.insert(session, opened);
+            }
+        }
+    }
+
+    fn leave(&mut self, session: u16) {
+        match self {
+            Open::One(transaction) => *transaction = None,
+            Open::BySession(open) => {
+                open.remove(&session);
+            }
+        }
+    }
+}
+
+/// Key and value from the 12 bytes of a read or a write that have them.
 pub fn key_and_value(payload: &[u8]) -> (u32, u64) {
     let (key, value) = payload.split_at(4);
     (

@@ -9,7 +9,8 @@
 
 use crate::encode::Writer;
 use crate::trace::{
-    self, Record, Refusal, Trace, CLOSE, MAX_OPERATIONS, MAX_TRANSACTIONS, OPEN, READ, WRITE,
+    self, Edition, Record, Refusal, Trace, CLOSE, MAX_OPERATIONS, MAX_TRANSACTIONS, OPEN, READ,
+    WRITE,
 };
 use std::collections::HashSet;
 
@@ -221,9 +222,16 @@ impl Sequence {
     }
 }
 
-/// The steps of a trace, notes left out, for a buffer with `room` bytes.
+/// The steps of a trace, notes left out, for a buffer with `room` bytes. Steps
+/// stay with edition 1: a trace of edition 2 begins with a record of a kind that
+/// no step has, and is refused there.
 pub fn steps_of(trace: &[u8], room: usize) -> Result<Vec<u8>, Refusal> {
-    Trace::parse(trace)?;
+    if Trace::parse(trace)?.edition == Edition::Two {
+        return Err(Refusal {
+            number: 6,
+            place: 0,
+        });
+    }
     let steps: Vec<Step> = trace::records(trace)
         .filter_map(|record| Step::of_record(&record))
         .collect();

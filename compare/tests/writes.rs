@@ -246,7 +246,7 @@ const WAYS: [&str; 27] = [
 
 #[test]
 fn random_traces_have_every_way() {
-    let found = described(random_traces(15, 4_000).map(|(_, trace)| trace));
+    let found = described(random_traces(15, 6_000).map(|(_, trace)| trace));
     let ways: Vec<&str> = found.keys().map(String::as_str).collect();
     assert_eq!(ways, WAYS);
     for (way, count) in &found {

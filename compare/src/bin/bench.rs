@@ -4,7 +4,8 @@ use ferozhak_compare::encode::Writer;
 use ferozhak_compare::generate::Shape;
 use ferozhak_compare::random::Random;
 use ferozhak_compare::report::{Level, Verdict};
-use ferozhak_compare::trace::{Status, Trace, MAX_OPERATIONS, MAX_TRANSACTIONS};
+use ferozhak_compare::trace::{Edition, Status, Trace, MAX_OPERATIONS, MAX_TRANSACTIONS};
+use ferozhak_compare::weave::{self, Whole};
 use ferozhak_compare::{judge_all, judge_one, Answer};
 use std::hint::black_box;
 use std::io::{self, Write as _};
@@ -111,7 +112,10 @@ fn describe(bytes: &[u8]) -> String {
         .collect();
     let (transactions, operations) = (trace.transactions.len(), trace.operations.len());
     let size = bytes.len();
-    format!("{transactions} transactions, {operations} operations, {size} bytes{said}")
+    let open = weave::most_open(bytes);
+    format!(
+        "{transactions} transactions, {open} open at once, {operations} operations, {size} bytes{said}"
+    )
 }
 
 /// Nanoseconds a call: the median and the least of many rounds.
@@ -164,7 +168,56 @@ fn traces() -> Vec<(String, Vec<u8>)> {
     for transactions in [16, 32, 64, MAX_TRANSACTIONS] {
         traces.push((format!("grow-{transactions:03}"), typical(transactions)));
     }
+    traces.extend(edition_2());
     traces
+}
+
+/// Traces of edition 2: histories of above as blocks, and with overlap.
+fn edition_2() -> Vec<(String, Vec<u8>)> {
+    let typical = wholes_of(&typical(MAX_TRANSACTIONS));
+    // A store that keeps to the order of the trace keeps any sessions' order.
+    let in_order = wholes_of(&full(|shape| shape.mixed = false));
+    let findings = wholes_of(&findings());
+    let chain = wholes_of(&chain());
+    let blocks = |wholes: &[Whole]| weave::blocks(Edition::Two, 0, wholes);
+    let open =
+        |most, wholes: &[Whole]| weave::weave(Writer::edition_2(0), wholes, weave::in_turn(most));
+    let mut named = Vec::new();
+    for (name, bytes) in [
+        ("typical-blocks", blocks(&typical)),
+        ("findings-blocks", blocks(&findings)),
+        ("slow-chain-blocks", blocks(&chain)),
+        (
+            "typical-8-open",
+            open(8, &in_sessions(&in_order, |t| t % 8)),
+        ),
+        (
+            "typical-127-open",
+            open(127, &in_sessions(&in_order, |t| t)),
+        ),
+        (
+            "typical-127-open-modulo-256",
+            open(127, &in_sessions(&in_order, |t| 256 * t + 1)),
+        ),
+        ("findings-127-open", open(127, &findings)),
+        ("slow-chain-127-open", open(127, &chain)),
+    ] {
+        named.push((format!("edition-2-{name}"), bytes));
+    }
+    named
+}
+
+fn wholes_of(bytes: &[u8]) -> Vec<Whole> {
+    weave::wholes(&Trace::parse(bytes).expect("a trace for measuring is read"))
+}
+
+/// The same transactions in other sessions, by number.
+fn in_sessions(wholes: &[Whole], session: impl Fn(u16) -> u16) -> Vec<Whole> {
+    let moved = |(number, whole): (u16, &Whole)| Whole {
+        session: session(number),
+        ..whole.clone()
+    };
+    (1..).zip(wholes).map(moved).collect()
 }
 
 /// A store that answers rightly, so that the trace is accepted: 8 or 9
@@ -181,6 +234,7 @@ fn full(change: impl Fn(&mut Shape)) -> Vec<u8> {
 /// has 127 transactions.
 fn shaped(transactions: usize, change: impl Fn(&mut Shape)) -> Vec<u8> {
     let mut shape = Shape {
+        edition: Edition::One,
         transactions,
         sessions: transactions / 8,
         keys: transactions,

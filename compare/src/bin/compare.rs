@@ -3,13 +3,15 @@
 //! write traces with the independent writer.
 
 use ferozhak_compare::cases::{self, Case};
+use ferozhak_compare::encode::Writer;
 use ferozhak_compare::generate::{self, Origin};
 use ferozhak_compare::process::{run_once, spawn};
 use ferozhak_compare::random::Random;
 use ferozhak_compare::report::{self, Finding, Level, Verdict};
-use ferozhak_compare::trace::{Refusal, Status, Trace, MAX_BYTES};
+use ferozhak_compare::trace::{Edition, Refusal, Status, Trace, MAX_BYTES};
+use ferozhak_compare::weave::{self, Judged};
 use ferozhak_compare::workers::{self, add_each, Difference, Extent, Tally};
-use ferozhak_compare::{brute, graph, scribes, Answer};
+use ferozhak_compare::{brute, graph, judge_text, judge_trace, scribes, Answer};
 use std::io::{self, BufRead, BufReader, Write};
 use std::process::{Child, ChildStdin, ChildStdout, ExitCode};
 
@@ -17,11 +19,13 @@ const USAGE: &str = "Usage:
   compare --judge COMMAND [options]    compares the program with the Rust judge: a run for each trace
   compare --stream COMMAND [options]   the same with the program `stream`: many traces a run
   compare --self [options]             compares the Rust judge's two deciders only, also on what counts as committed
-                                       and on the writes of unclean reads
+                                       and on the writes of unclean reads, and its answers of the same transactions
+                                       in both editions and woven together in another way
   compare --scribe COMMAND [options]   compares the program `scribe` with the Rust writer: many items a run
   compare --writer COMMAND [options]   the same with the program `writer`: a run for each sequence of steps
   compare --rewrite COMMAND [options]  the same with the program `rewrite`: a run for each trace
 A COMMAND is a program and its arguments, parted by spaces.
+Half of the random traces are of edition 2, with transactions that overlap.
 Options:
   --traces N    at least this many traces (default 100000); with --scribe, --writer and --rewrite
                 this many random sequences and as many random traces, besides the known cases
@@ -176,12 +180,10 @@ impl Subject {
 
     fn check(self, judge: &mut Judge, summary: &mut Summary) -> Result<(), Box<Difference>> {
         let parsed = Trace::parse(&self.bytes);
-        let answer = parsed
-            .as_ref()
-            .map(ferozhak_compare::judge_trace)
-            .map_err(|r| *r);
+        let answer = parsed.as_ref().map(judge_trace).map_err(|r| *r);
         let ours = report::print(&answer);
         summary.count(self.origin, &answer);
+        summary.editions.count(&self.bytes, &answer);
         if let Some(expected) = &self.expected {
             if *expected != ours {
                 let expected = expected.clone();
@@ -201,18 +203,67 @@ impl Subject {
             {
                 return Err(self.differs(tried, brute, "the graph", graph));
             }
+            self.check_relatives(trace, verdicts, judge, summary)?;
         }
-        match judge.judge(&self.bytes) {
-            Ok(None) => Ok(()),
-            Ok(Some(theirs)) if theirs == ours.as_bytes() => Ok(()),
-            Ok(Some(theirs)) => {
-                let theirs = String::from_utf8_lossy(&theirs).into_owned();
-                Err(self.differs("the program", theirs, "the Rust judge", ours))
+        self.check_program(judge, ours)
+    }
+
+    /// What the program prints is what the Rust judge prints.
+    fn check_program(self, judge: &mut Judge, ours: String) -> Result<(), Box<Difference>> {
+        let theirs = match judge.judge(&self.bytes) {
+            Ok(None) => return Ok(()),
+            Ok(Some(theirs)) if theirs == ours.as_bytes() => return Ok(()),
+            Ok(Some(theirs)) => String::from_utf8_lossy(&theirs).into_owned(),
+            Err(message) => format!("did not run: {message}\n"),
+        };
+        Err(self.differs("the program", theirs, "the Rust judge", ours))
+    }
+
+    /// The same transactions get the same text as blocks of either edition, and
+    /// the same answer but for operation numbers however they overlap. The
+    /// program is asked of some of these traces too.
+    fn check_relatives(
+        &self,
+        trace: &Trace,
+        verdicts: &[Verdict; 3],
+        judge: &mut Judge,
+        summary: &mut Summary,
+    ) -> Result<(), Box<Difference>> {
+        const EACH_FOR_PROGRAM: usize = 8;
+        let relatives = relatives(trace, self.index);
+        let [one, two, woven] = relatives.each_ref().map(|bytes| judge_text(bytes));
+        summary.relatives += 1;
+        summary.relatives_woven += usize::from(weave::most_open(&relatives[2]) > 1);
+        let judged = Judged { trace, verdicts };
+        let names = ["blocks of edition 1", "blocks of edition 2", "woven anew"];
+        for (name, bytes) in names.into_iter().zip(&relatives) {
+            if !is_like(&judged, bytes) {
+                let (said, ours) = (judge_text(bytes), format!("{verdicts:?}\n"));
+                return Err(self
+                    .relative(name, bytes)
+                    .differs(name, said, "the trace", ours));
             }
-            Err(message) => {
-                let message = format!("did not run: {message}\n");
-                Err(self.differs("the program", message, "the Rust judge", ours))
+        }
+        if one != two {
+            let relative = self.relative(names[1], &relatives[1]);
+            return Err(relative.differs(names[1], two, names[0], one));
+        }
+        if self.index.is_multiple_of(EACH_FOR_PROGRAM) {
+            for ((name, bytes), ours) in names.into_iter().zip(&relatives).zip([one, two, woven]) {
+                self.relative(name, bytes).check_program(judge, ours)?;
             }
+        }
+        Ok(())
+    }
+
+    /// A trace that has the same transactions.
+    fn relative(&self, name: &str, bytes: &[u8]) -> Subject {
+        Subject {
+            index: self.index,
+            name: format!("{}, {name}", self.name),
+            origin: self.origin,
+            bytes: bytes.to_vec(),
+            expected: None,
         }
     }
 
@@ -230,6 +281,32 @@ impl Subject {
             answers: [(one, said), (other, ours)],
         })
     }
+}
+
+/// The transactions of a trace as blocks of edition 1, as blocks of edition 2,
+/// and woven together at random.
+fn relatives(trace: &Trace, stream: usize) -> [Vec<u8>; 3] {
+    let mut random = Random::new(2, stream as u64);
+    let wholes = weave::wholes(trace);
+    let serial = random.draw() as u32;
+    let most = random.from_to(2, 16);
+    let turns = weave::at_random(&mut random, most, 50);
+    [
+        weave::blocks(Edition::One, serial, &wholes),
+        weave::blocks(Edition::Two, serial, &wholes),
+        weave::weave(Writer::edition_2(serial), &wholes, turns),
+    ]
+}
+
+/// Whether the bytes are a trace with the same answer but for numbers.
+fn is_like(judged: &Judged, bytes: &[u8]) -> bool {
+    let Ok(other) = Trace::parse(bytes) else {
+        return false;
+    };
+    judged.is_like(&Judged {
+        trace: &other,
+        verdicts: &judge_trace(&other),
+    })
 }
 
 /// What the graph says, and what was tried to contradict it.
@@ -348,7 +425,7 @@ fn check_choices(
     }
     let mut some_choice = [false; 3];
     for choice in brute::answered(trace).into_iter().flatten() {
-        let verdicts = ferozhak_compare::judge_trace(&choice);
+        let verdicts = judge_trace(&choice);
         for (some, verdict) in some_choice.iter_mut().zip(&verdicts) {
             *some |= is_accepted(verdict);
         }
@@ -455,7 +532,7 @@ struct Summary {
     origins: [usize; Origin::ALL.len()],
     accepted: [usize; 3],
     rejected: [usize; 3],
-    refusals: [usize; Refusal::NUMBERS],
+    editions: Editions,
     /// Findings by kind, in all traces.
     kinds: [usize; 7],
     /// Findings by where their write is.
@@ -471,6 +548,75 @@ struct Summary {
     /// Unanswered transactions that count as committed, and that do not.
     counted: usize,
     uncounted: usize,
+    /// Traces whose transactions were judged in both editions and woven anew,
+    /// and those of which two were open at once then.
+    relatives: usize,
+    relatives_woven: usize,
+}
+
+/// How many traces are of edition 2, and what there is in each edition.
+#[derive(Default)]
+struct Editions {
+    two: usize,
+    /// Of edition 2, not refused, with two transactions open at once.
+    overlapping: usize,
+    /// The same, with eight.
+    overlapping_8: usize,
+    /// Refusals by edition and number.
+    refusals: [[usize; Refusal::NUMBERS]; 2],
+}
+
+impl Editions {
+    fn count(&mut self, bytes: &[u8], answer: &Answer) {
+        let edition = Edition::of(bytes);
+        match answer {
+            Err(refusal) => self.refusals[edition as usize][usize::from(refusal.number)] += 1,
+            Ok(_) if edition == Edition::Two => {
+                let most_open = weave::most_open(bytes);
+                self.overlapping += usize::from(most_open >= 2);
+                self.overlapping_8 += usize::from(most_open >= 8);
+            }
+            Ok(_) => {}
+        }
+        self.two += usize::from(edition == Edition::Two);
+    }
+
+    fn add(&mut self, other: &Editions) {
+        self.two += other.two;
+        self.overlapping += other.overlapping;
+        self.overlapping_8 += other.overlapping_8;
+        for (to, from) in self.refusals.iter_mut().zip(&other.refusals) {
+            add_each(to, from);
+        }
+    }
+
+    fn describe(&self) -> Vec<String> {
+        let [one, two] = &self.refusals;
+        let refused: usize = two.iter().sum();
+        let mut lines = vec![
+            format!(
+                "of edition 2: {} traces, {refused} of them refused; of the others {} have two \
+                 transactions open at once, {} have eight",
+                self.two, self.overlapping, self.overlapping_8
+            ),
+            "refusals by edition (1 and 12 to 15 cannot be given by the program):".into(),
+        ];
+        for number in 2..=11 {
+            let (one, two) = (one[number], two[number]);
+            lines.push(format!("  {number:>2} {one:>9} {two:>9}"));
+        }
+        for (edition, refusals) in [(1, one), (2, two)] {
+            let missing: Vec<String> = (2..=11)
+                .filter(|&number| refusals[number] == 0)
+                .map(|number| number.to_string())
+                .collect();
+            lines.push(match missing.is_empty() {
+                true => format!("  edition {edition}: every one from 2 to 11 occurred"),
+                false => format!("  edition {edition}: did not occur: {}", missing.join(" ")),
+            });
+        }
+        lines
+    }
 }
 
 /// How many findings have no write, one before the read, one behind it, and one
@@ -514,7 +660,7 @@ impl Tally for Summary {
         add_each(&mut self.origins, &other.origins);
         add_each(&mut self.accepted, &other.accepted);
         add_each(&mut self.rejected, &other.rejected);
-        add_each(&mut self.refusals, &other.refusals);
+        self.editions.add(&other.editions);
         add_each(&mut self.kinds, &other.kinds);
         self.writes.add(&other.writes);
         for (to, from) in self.reasons.iter_mut().zip(&other.reasons) {
@@ -525,18 +671,16 @@ impl Tally for Summary {
         self.choices += other.choices;
         self.counted += other.counted;
         self.uncounted += other.uncounted;
+        self.relatives += other.relatives;
+        self.relatives_woven += other.relatives_woven;
     }
 }
 
 impl Summary {
     fn count(&mut self, origin: Origin, answer: &Answer) {
         self.origins[origin as usize] += 1;
-        let verdicts = match answer {
-            Err(refusal) => {
-                self.refusals[usize::from(refusal.number)] += 1;
-                return;
-            }
-            Ok(verdicts) => verdicts,
+        let Ok(verdicts) = answer else {
+            return;
         };
         for (level, verdict) in verdicts.iter().enumerate() {
             match verdict {
@@ -575,6 +719,10 @@ impl Summary {
                 "{} traces also by judging every choice of outcomes",
                 self.choices
             ),
+            format!(
+                "{} traces also as blocks of both editions and woven anew, {} of these with two open at once",
+                self.relatives, self.relatives_woven
+            ),
             "origins:".into(),
         ];
         for origin in Origin::ALL {
@@ -593,18 +741,7 @@ impl Summary {
             "unanswered transactions: counted {}, not counted {}",
             self.counted, self.uncounted
         ));
-        lines.push("refusals (1 and 12 to 15 cannot be given by the program):".into());
-        for number in 2..=11 {
-            lines.push(format!("  {number:>2} {:>9}", self.refusals[number]));
-        }
-        let missing: Vec<String> = (2..=11)
-            .filter(|&number| self.refusals[number] == 0)
-            .map(|number| number.to_string())
-            .collect();
-        lines.push(match missing.is_empty() {
-            true => "  every one from 2 to 11 occurred".into(),
-            false => format!("  did not occur: {}", missing.join(" ")),
-        });
+        lines.extend(self.editions.describe());
         lines.push("findings by kind:".into());
         for kind in 1..=6 {
             lines.push(format!("  {kind:>2} {:>9}", self.kinds[kind]));

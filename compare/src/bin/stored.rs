@@ -1,38 +1,198 @@
-//! Writes the stored input and output of the program `stream`: all cases with
-//! known answers, each trace behind its length, each answer before a line `--`.
-//! Usage: `stored DIR`, where DIR is the folder of the crate `stream`.
+//! Writes the stored input and output of the programs `stream` and `scribe`.
+//!
+//! For `stream` these are all cases with known answers, each trace behind its
+//! length, each answer before a line `--`; for `scribe` some items, each answer
+//! behind its length.
 
-use ferozhak_compare::cases;
-use ferozhak_compare::trace::MAX_BYTES;
-use std::path::PathBuf;
+use ferozhak_compare::scribes::Way;
+use ferozhak_compare::trace::{EDITION, MAX_BYTES, MAX_TRANSACTIONS};
+use ferozhak_compare::writing::{self, Step};
+use ferozhak_compare::{cases, text};
+use std::path::Path;
 use std::process::ExitCode;
 use std::{env, fs, io};
 
+const USAGE: &str = "Usage:
+  stored DIR             writes stdin and stdout of the crate `stream` into its folder DIR
+  stored --scribe DIR    the same of the crate `scribe`
+";
+
 fn main() -> ExitCode {
-    let Some(folder) = env::args_os().nth(1).map(PathBuf::from) else {
-        eprintln!("usage: stored DIR");
-        return ExitCode::from(2);
+    let arguments: Vec<String> = env::args().skip(1).collect();
+    let words: Vec<&str> = arguments.iter().map(String::as_str).collect();
+    let (folder, (input, output)) = match words[..] {
+        ["--scribe", folder] => (folder, scribe()),
+        [folder] if !folder.starts_with("--") => (folder, stream()),
+        _ => {
+            eprint!("{USAGE}");
+            return ExitCode::from(2);
+        }
     };
-    match write(&folder) {
+    match write(Path::new(folder), &input, &output) {
         Ok(()) => ExitCode::SUCCESS,
         Err(error) => {
-            eprintln!("stored: {}: {error}", folder.display());
+            eprintln!("stored: {folder}: {error}");
             ExitCode::FAILURE
         }
     }
 }
 
-fn write(folder: &std::path::Path) -> io::Result<()> {
+fn write(folder: &Path, input: &[u8], output: &[u8]) -> io::Result<()> {
+    fs::write(folder.join("stdin"), input)?;
+    fs::write(folder.join("stdout"), output)
+}
+
+/// Input and output of `stream`.
+fn stream() -> (Vec<u8>, Vec<u8>) {
     let mut input = Vec::new();
     let mut output = String::new();
     for case in cases::all() {
         let kept = &case.bytes[..case.bytes.len().min(MAX_BYTES + 1)];
-        let length = u16::try_from(kept.len()).expect("a kept trace is short");
-        input.extend_from_slice(&length.to_le_bytes());
-        input.extend_from_slice(kept);
+        input.extend(behind_length(kept));
         output.push_str(&case.output);
         output.push_str("--\n");
     }
-    fs::write(folder.join("stdin"), input)?;
-    fs::write(folder.join("stdout"), output)
+    (input, output.into_bytes())
+}
+
+/// Input and output of `scribe`.
+fn scribe() -> (Vec<u8>, Vec<u8>) {
+    let mut input = Vec::new();
+    let mut output = Vec::new();
+    for (way, room, bytes) in items() {
+        input.push(way.letter());
+        input.extend(room.to_le_bytes());
+        input.extend(behind_length(&bytes));
+        let answer = way.answer(&bytes, room.into());
+        output.extend(behind_length(&writing::print(&answer)));
+    }
+    (input, output)
+}
+
+fn behind_length(bytes: &[u8]) -> Vec<u8> {
+    let length = u16::try_from(bytes.len()).expect("what is stored is short");
+    [&length.to_le_bytes(), bytes].concat()
+}
+
+/// What is asked, the room, and of what.
+type Item = (Way, u16, Vec<u8>);
+
+const AMPLE: u16 = u16::MAX;
+const CASE_16: &str = "T1 w1=11 w2=21; T2 w1=12 w2=22; T3 r1=12 r2=21";
+
+fn items() -> Vec<Item> {
+    let mut items = steps();
+    items.extend(traces());
+    items.extend(unanswered());
+    items.extend(edition_2());
+    items
+}
+
+fn encode(notation: &str) -> Vec<u8> {
+    text::encode(notation.as_bytes()).expect("what is stored can be encoded")
+}
+
+fn steps_of(notation: &str) -> Vec<u8> {
+    text::steps(notation.as_bytes()).expect("what is stored has steps")
+}
+
+/// The trace without its last bytes.
+fn cut(trace: &[u8], bytes: usize) -> Vec<u8> {
+    trace[..trace.len() - bytes].to_vec()
+}
+
+/// Steps that are written, with different rooms, and a fault of each number.
+fn steps() -> Vec<Item> {
+    let case_16 = steps_of(CASE_16);
+    let no_steps = steps_of("serial 7");
+    let kind_5 = Step {
+        kind: 5,
+        ..Step::default()
+    };
+    let mut many: Vec<Step> = [Step::open(0), Step::close(0)].repeat(MAX_TRANSACTIONS);
+    many.push(Step::open(0));
+    let mut items = vec![
+        (AMPLE, case_16.clone()),
+        (187, case_16.clone()),
+        (186, case_16.clone()),
+        (0, case_16.clone()),
+        (
+            AMPLE,
+            steps_of("serial 4294967294; T1 w1=5; T2 r1=5 aborted"),
+        ),
+        (AMPLE, vec![1, 0, 0]),
+        (AMPLE, vec![]),
+        (AMPLE, no_steps.clone()),
+        (0, no_steps),
+        (AMPLE, cut(&case_16, 1)),
+    ];
+    for steps in [
+        vec![Step::open(0), kind_5],
+        vec![Step::open(0), Step::read(1, 2), Step::open(0)],
+        vec![Step::open(0), Step::read(1, 2)],
+        vec![Step::open(0), Step::write(1, 0)],
+        vec![Step::open(0), Step::close(2)],
+        many,
+        vec![Step::open(0), Step::write(1, 2), Step::write(1, 2)],
+    ] {
+        items.push((AMPLE, writing::input_of(1, &steps)));
+    }
+    let item = |(room, bytes)| (Way::Steps, room, bytes);
+    items.into_iter().map(item).collect()
+}
+
+/// Traces turned into steps and rewritten, with different rooms.
+fn traces() -> Vec<Item> {
+    let case_16 = encode(CASE_16);
+    let noted = encode(r#"note "first"; T1 w1=5 note "second"; T2 r1=5 aborted"#);
+    vec![
+        (Way::List, AMPLE, case_16.clone()),
+        (Way::List, 192, case_16.clone()),
+        (Way::List, 191, case_16.clone()),
+        (Way::List, AMPLE, vec![]),
+        (Way::List, AMPLE, cut(&case_16, 1)),
+        (Way::List, 0, [case_16.as_slice(), &[0]].concat()),
+        (Way::List, AMPLE, noted.clone()),
+        (Way::Rewrite, AMPLE, case_16.clone()),
+        (Way::Rewrite, 187, case_16.clone()),
+        (Way::Rewrite, 186, case_16.clone()),
+        (Way::Rewrite, 0, case_16[..4].to_vec()),
+        (Way::Rewrite, AMPLE, noted),
+    ]
+}
+
+fn unanswered() -> Vec<Item> {
+    let trace = encode("serial 7; T1 w1=5 unanswered");
+    vec![
+        (Way::Steps, 100, steps_of("serial 7; T1 w1=5 unanswered")),
+        (Way::Steps, 100, steps_of("serial 7; T1 w1=5 status 3")),
+        (Way::List, 100, trace.clone()),
+        (Way::Rewrite, 100, trace),
+    ]
+}
+
+/// Steps stay with edition 1: a trace of edition 2 is refused by the reader, or
+/// else for its first record, whatever the room.
+fn edition_2() -> Vec<Item> {
+    let traces = [
+        encode("edition 2; T1 w1=5 ..; T2 r1=5; T1 .."),
+        encode("edition 2; T1 w1=5; T2 r1=5"),
+        encode("edition 2"),
+        encode("edition 3"),
+        encode("edition 2; T1; note \"\""),
+        encode("edition 2; T1 ..; T2"),
+        cut(&encode("edition 2; T1"), 1),
+        [encode("edition 2; T1").as_slice(), &[0]].concat(),
+    ];
+    let of_trace = |trace: &Vec<u8>| {
+        [(Way::List, AMPLE), (Way::Rewrite, 0)].map(|(way, room)| (way, room, trace.clone()))
+    };
+    let mut items: Vec<Item> = traces.iter().flat_map(of_trace).collect();
+    let step = Step {
+        kind: EDITION,
+        detail: 2,
+        ..Step::default()
+    };
+    items.push((Way::Steps, AMPLE, writing::input_of(0, &[step])));
+    items
 }

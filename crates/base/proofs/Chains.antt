@@ -1,11 +1,13 @@
 -- Searches from the top down, and along a chain: of the numbers that pass p, each knows the one before it. A search for a q that only such numbers
 -- pass may follow the chain. A loop's invariant says that the whole search equals the same search up to j, the place in the chain.
 use Prim.Native.Nat.{ℕ, zero, suc, _+_, _<_, _≤_}
-use mathlib.Core.Path.{_≡_, refl}
+use mathlib.Core.Path.{_≡_, refl, _∙_}
 use mathlib.Core.Bool.{Bool, true, false}
 use mathlib.Core.Logic.{⊎-elim}
 use native.Mathlib.Omega.{arith}
 use native.Mathlib.Numerals.{add-one}
+use lib.Dec.{eqb}
+use borrow.Author.Tests.{eqb-true, eqb-false}
 use Rattle.base.specs.Base.{some, last}
 use Rattle.base.proofs.Tests.{clash, is-false, same-test, pick-on, pick-off, ifso, split}
 use Rattle.base.proofs.Searches.{some-at, some-of}
@@ -57,6 +59,24 @@ pub last-same : (p q : ℕ → Bool) (n : ℕ) → ((i : ℕ) → i < n → p i 
 unfolding last
 last-same p q zero h = refl
 last-same p q (suc n) h = rw (h n (omega arith), last-same p q n (λ i l. h i (omega arith)))
+
+-- where t passes no longer, and all others do as they did
+module _ (p q : ℕ → Bool) (t : ℕ) (same : (i : ℕ) → (i ≡ t → ⊥) → q i ≡ p i) (off : q t ≡ false) where
+  -- where it was the last, the last before it is
+  pub drop-hit : (n : ℕ) → last p n ≡ t → last q n ≡ last p t
+  drop-hit n e =
+      last-is q n (last p t)
+      (λ z. let r = last-passes p t z in let l = r .1 in (same _ (λ x. omega arith) ∙ r .0, omega (arith, e, last-le p n)))
+      (λ i a b.
+      ⊎-elim (λ l. same i (λ x. omega arith) ∙ last-none p t i a l)
+      (λ g. ⊎-elim (λ l. same i (λ x. omega arith) ∙ last-none p n i (rw e l) b) (λ m. let x : i ≡ t = omega arith in rw x off) (split t i))
+      (split i t))
+
+  -- where it was not, that stays
+  pub drop-miss : (n : ℕ) → (last p n ≡ t → ⊥) → last q n ≡ last p n
+  drop-miss n d =
+      last-is q n (last p n) (λ z. let r = last-passes p n z in (same _ d ∙ r .0, r .1))
+      (λ i a b. ifso (eqb i t) (λ y. rw (eqb-true i t y) off) (λ y. same i (eqb-false i t y) ∙ last-none p n i a b))
 
 -- the last q is found from the last of the chain on, where q is only passed by those that pass p
 pub last-chain : (p q : ℕ → Bool) → ((i : ℕ) → q i ≡ true → p i ≡ true) → (n : ℕ) → last q n ≡ last q (last p n + 1)

@@ -1,13 +1,18 @@
 -- A record is read the same where its bytes are the same.
 use Prim.Native.Nat.{ℕ, zero, suc, _+_, _-_, _<_, _≤_}
 use mathlib.Core.Path.{_≡_, refl, ap}
+use mathlib.Core.Bool.{true}
 use mathlib.Core.List.{List}
 use native.Mathlib.Omega.{arith}
+use lib.Dec.{eqb}
 use lib.ListN.{length, getD, take, drop, length-take, length-drop}
 use lib.Seq.{getD-take, getD-drop, ext-getD}
+use borrow.Author.Tests.{eqb-true}
+use Rattle.base.specs.Base.{_and_}
+use Rattle.base.proofs.Tests.{ifso}
 use Rattle.rules.specs.Numbers.{le, part}
-use Rattle.rules.specs.Records.{nextAt, eventAt, breaks, frameRows}
-use Rattle.demand1.specs.Rows.{len, kind, serial}
+use Rattle.rules.specs.Records.{nextAt, isSecond, eventAt, breaks, isOtherEdition, frameRows}
+use Rattle.demand1.specs.Rows.{len, kind, serial, edition}
 use Rattle.demand1.proofs.Events.{Framed}
 
 -- the same bytes have the same byte at each place
@@ -21,7 +26,7 @@ pub record Agree (s b : List ℕ) (a e : ℕ) : Type 0 where
 
 module _ {s b : List ℕ} {a e : ℕ} (x : Agree s b a e) where
   -- a number between them
-  agree-le : (w at : ℕ) → a ≤ at → at + w ≤ e → le w b at ≡ le w s at
+  pub agree-le : (w at : ℕ) → a ≤ at → at + w ≤ e → le w b at ≡ le w s at
   unfolding le
   agree-le zero at l h = refl
   agree-le (suc w) at l h = rw (x .same at l (omega arith), agree-le w (at + 1) (omega arith) (omega arith))
@@ -42,34 +47,50 @@ module _ {s b : List ℕ} {a e : ℕ} (x : Agree s b a e) where
 
 -- ── a record whose header is the same ──
 
-module _ {s b : List ℕ} {at : ℕ} (x : Agree s b at (at + 8)) where
-  pub agree-len : len b at ≡ len s at
-  agree-len = agree-le x 2 at (omega arith) (omega arith)
+pub agree-kind : {s b : List ℕ} {at : ℕ} → Agree s b at (at + 8) → kind b at ≡ kind s at
+agree-kind {at = at} x = agree-le x 2 (at + 2) (omega arith) (omega arith)
 
-  pub agree-kind : kind b at ≡ kind s at
-  agree-kind = agree-le x 2 (at + 2) (omega arith) (omega arith)
+-- the first record says the edition
+pub agree-second : {s b : List ℕ} → Agree s b 0 8 → isSecond b ≡ isSecond s
+unfolding isSecond
+agree-second x = rw (x .long, agree-kind x)
+
+-- the records of s and b at `at` have the same header and edition, and the same two bytes behind the header unless these are of a close of edition 1
+pub record SameHead (s b : List ℕ) (at : ℕ) : Type 0 where
+  pub header : Agree s b at (at + 8)
+  pub second : isSecond b ≡ isSecond s
+  pub front : (kind s at ≡ 4 → isSecond s ≡ true) → le 2 b (at + 8) ≡ le 2 s (at + 8)
+
+module _ {s b : List ℕ} {at : ℕ} (x : SameHead s b at) where
+  pub agree-len : len b at ≡ len s at
+  agree-len = agree-le (x .header) 2 at (omega arith) (omega arith)
 
   pub agree-serial : serial b at ≡ serial s at
-  agree-serial = agree-le x 4 (at + 4) (omega arith) (omega arith)
+  agree-serial = agree-le (x .header) 4 (at + 4) (omega arith) (omega arith)
 
-  -- rows 3 to 6
-  pub agree-frame : (n : ℕ) → frameRows b at n ≡ frameRows s at n
+  -- a kind 16 record is no close
+  agree-edition : isOtherEdition (kind s at) (edition b at) ≡ isOtherEdition (kind s at) (edition s at)
+  unfolding isOtherEdition _and_
+  agree-edition = ifso (eqb (kind s at) 16) (λ t. rw (x .front (λ k. absurd (omega (arith, eqb-true (kind s at) 16 t))))) (λ t. rw t)
+
+  -- rows 3 to 6, and a kind 16 record's
+  pub agree-frame : (n : ℕ) → frameRows (isSecond b) b at n ≡ frameRows (isSecond s) s at n
   unfolding frameRows breaks
-  agree-frame n = rw (x .long, agree-len, agree-kind, agree-serial)
+  agree-frame n = rw (x .header .long, x .second, agree-len, agree-kind (x .header), agree-serial, agree-edition)
 
   pub agree-framed : Framed s at → Framed b at
   agree-framed f =
       record {
         sized = record {
           low = rw agree-len (f .sized .low);
-          there = rw (agree-len, x .long) (f .sized .there);
-          kind-low = rw agree-kind (f .sized .kind-low);
-          kind-high = rw agree-kind (f .sized .kind-high);
+          there = rw (agree-len, x .header .long) (f .sized .there);
+          known = rw (agree-kind (x .header)) (f .sized .known);
+          no-note = rw (x .second, agree-kind (x .header)) (f .sized .no-note);
         };
-        fits = rw (agree-kind, agree-len) (f .fits);
+        fits = rw (x .second, agree-kind (x .header), agree-len) (f .fits);
       }
 
   -- .. and its payload too
   pub agree-event : Agree s b at (nextAt s at) → eventAt b at ≡ eventAt s at
   unfolding eventAt
-  agree-event y = rw (agree-kind, agree-len, agree-part y (at + 8) (nextAt s at) (omega arith) (omega arith))
+  agree-event y = rw (x .second, agree-kind (x .header), agree-len, agree-part y (at + 8) (nextAt s at) (omega arith) (omega arith))

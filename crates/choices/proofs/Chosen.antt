@@ -11,8 +11,9 @@ use lib.Seq.{ext-getD}
 use borrow.Author.Tests.{eqb-true, eqb-false, eq-eqb, ne-eqb}
 use Rattle.base.specs.Base.{pick, numbered}
 use Rattle.base.proofs.Tests.{ifso, split, pick-on, pick-off}
+use Rattle.base.proofs.Chains.{last-same}
 use Rattle.base.proofs.Numbered.{numbered-length, numbered-at, numbered-more}
-use Rattle.rules.specs.History.{History, Tx, Op, zeroth, noTx, tx, op, txCount, opCount, isOpen, current, writesValue, writeOf, opened, closed, withOp}
+use Rattle.rules.specs.History.{History, Tx, Op, zeroth, noTx, tx, op, txCount, opCount, size, isOpen, current, isOpenOf, openOf, anyOpen, writesValue, writeOf, opened, closed, withOp}
 use Rattle.rules.proofs.History.{open-count, open-txs, open-old, open-new, close-count, close-whole, close-other}
 use Rattle.demand1.specs.Lawful.{IsOp, IsWrite, IsTx, Over, says-aborted, says-committed, says-unanswered, LawfulHistory}
 use Rattle.demand1.proofs.Events.{same-or}
@@ -113,6 +114,19 @@ module _ (f : ℕ → Bool) (h : History) where
   pub chosen-current : current (chosen f h) ≡ current h
   unfolding current
   chosen-current = rw (chosen-count, chosen-open (txCount h))
+
+  -- so each session has the same one open, and any one is
+  still-open : (n t : ℕ) → isOpenOf (chosen f h) n t ≡ isOpenOf h n t
+  unfolding isOpenOf
+  still-open n t = rw (chosen-open t, chosen-session t)
+
+  pub chosen-open-of : (n : ℕ) → openOf (chosen f h) n ≡ openOf h n
+  unfolding openOf
+  chosen-open-of n = rw chosen-count (last-same (isOpenOf (chosen f h) n) (isOpenOf h n) (size h) (λ t l. still-open n t))
+
+  pub chosen-any : anyOpen (chosen f h) ≡ anyOpen h
+  unfolding anyOpen
+  chosen-any = rw chosen-count (last-same (isOpen (chosen f h)) (isOpen h) (size h) (λ t l. chosen-open t))
 
   -- ── how it grows ──
 

@@ -1,5 +1,5 @@
 -- One turn of reading, with and without the chosen outcomes: the same rows refuse, and what is entered is the same but for the chosen outcome.
-use Prim.Native.Nat.{ℕ, _+_}
+use Prim.Native.Nat.{ℕ}
 use mathlib.Core.Path.{_≡_, refl, ap, sym, _∙_}
 use mathlib.Core.Bool.{Bool, true, false, false≢true}
 use mathlib.Core.List.{List}
@@ -8,16 +8,17 @@ use lib.Dec.{ltb, eqb}
 use lib.ListN.{length}
 use borrow.Author.Tests.{ltb-false, eqb-true, eqb-false, le-ltb}
 use Rattle.base.proofs.Tests.{ifso, pick-of}
-use Rattle.rules.specs.History.{History, current}
-use Rattle.rules.specs.Records.{eventAt}
-use Rattle.rules.specs.Reading.{misplaced, unlawful, excess, repeats, stepRows, entered, isEnd, textAt, State, eventIn, refusalNo, after, refused, read, finished}
+use Rattle.rules.specs.History.{History}
+use Rattle.rules.specs.Records.{isSecond, sessionAt, eventAt}
+use Rattle.rules.specs.Reading.{misplaced, unlawful, excess, repeats, stepRows, entered, isEnd, textAt, State, eventIn, metBy, met, refusalNo, after, refused, read, finished}
 use Rattle.rules.specs.declared.Event.{Event}
 use Rattle.rules.specs.declared.Event.the-variants.{Open, Read, Write, Close, End, Note, Other}
+use Rattle.rules.proofs.Meeting.{met-first, met-second}
 use Rattle.demand1.specs.Rows.{len, Passes}
 use Rattle.demand1.proofs.Refusals.{refusal-none}
 use Rattle.choices.specs.Choices.{statusBy, chosen, chosenReading, isUnansweredClose}
-use Rattle.choices.proofs.Chosen.{outcome-most, status-chosen, status-kept, chosen-op-count, chosen-count, chosen-write, chosen-current, chosen-with-op, chosen-opened, chosen-closed}
-use Rattle.choices.proofs.Agree.{Agree, agree-len, agree-serial, agree-frame}
+use Rattle.choices.proofs.Chosen.{outcome-most, status-chosen, status-kept, chosen-op-count, chosen-count, chosen-write, chosen-current, chosen-open-of, chosen-any, chosen-with-op, chosen-opened, chosen-closed}
+use Rattle.choices.proofs.Agree.{SameHead, agree-len, agree-serial, agree-frame}
 
 -- ── a turn of the walk ──
 
@@ -105,6 +106,11 @@ module _ (f : ℕ → Bool) where
   chosen-rows h u Note = refl
   chosen-rows h u Other = refl
 
+  -- which open transaction is met
+  chosen-met : (h : History) (n : ℕ) (d e : Event) → isEnd d ≡ isEnd e → metBy (chosen f h) n d ≡ metBy h n e
+  unfolding metBy
+  chosen-met h n d e q = rw (q, chosen-any f h, chosen-open-of f h n)
+
   -- what is entered
   chosen-entered : (h : History) (t : ℕ) (e : Event) → entered (chosen f h) t (eventBy t e) ≡ chosen f (entered h t e)
   unfolding eventBy entered
@@ -133,32 +139,40 @@ module _ (f : ℕ → Bool) where
   abbrev pub chosenState : State → State
   chosenState st = record { at = st .at; serial = st .serial; history = chosen f (st .history); notes = st .notes }
 
-  module _ {s b : List ℕ} (st : State) (x : Agree s b (st .at) (st .at + 8)) where
+  module _ {s b : List ℕ} (st : State) (x : SameHead s b (st .at)) where
     abbrev h : History
     h = st .history
 
+    -- the transaction that it meets, where it is the end of both or of none
+    met-same : isEnd (eventIn b (chosenState st)) ≡ isEnd (eventIn s st) → met b (chosenState st) ≡ met s st
+    met-same q =
+        ifso (isSecond s)
+        (λ e.
+        met-second b (chosenState st) (x .second ∙ e) ∙ chosen-met h (sessionAt b (st .at)) (eventIn b (chosenState st)) (eventIn s st) q
+        ∙ ap (λ (n : ℕ). metBy h n (eventIn s st)) (x .front (λ k. e)) ∙ sym (met-second s st e))
+        (λ e. met-first b (chosenState st) (x .second ∙ e) ∙ chosen-current f h ∙ sym (met-first s st e))
+
     -- the rows that refuse it, by its event
-    same-refusal : {e : Event} → eventAt b (st .at) ≡ e → stepRows h (current h) e ≡ stepRows h (current h) (eventIn s st)
-        → refusalNo b (chosenState st) ≡ refusalNo s st
+    same-refusal : {e : Event} → eventAt b (st .at) ≡ e → isEnd e ≡ isEnd (eventIn s st)
+        → stepRows h (met s st) e ≡ stepRows h (met s st) (eventIn s st) → refusalNo b (chosenState st) ≡ refusalNo s st
     unfolding refusalNo
-    same-refusal {e} q r =
-        rw (agree-frame x (st .serial), chosen-current f h, q, chosen-rows h (current h) e, r)
+    same-refusal {e} q d r = rw (agree-frame x (st .serial), met-same (ap isEnd q ∙ d), q, chosen-rows h (met s st) e, r)
 
     pub refusal-same : eventAt b (st .at) ≡ eventAt s (st .at) → refusalNo b (chosenState st) ≡ refusalNo s st
-    refusal-same q = same-refusal q refl
+    refusal-same q = same-refusal q refl refl
 
     -- its event is that of s with the chosen outcome
-    module _ (q : eventAt b (st .at) ≡ eventBy (current (st .history)) (eventAt s (st .at))) where
+    module _ (q : eventAt b (st .at) ≡ eventBy (met s st) (eventAt s (st .at))) where
       pub refusal-by : refusalNo b (chosenState st) ≡ refusalNo s st
-      refusal-by = same-refusal q (by-rows h (current h) (current h) (eventIn s st))
+      refusal-by = same-refusal q (by-end (met s st) (eventIn s st)) (by-rows h (met s st) (met s st) (eventIn s st))
 
       pub end-by : isEnd (eventIn b (chosenState st)) ≡ isEnd (eventIn s st)
-      end-by = ap isEnd q ∙ by-end (current h) (eventIn s st)
+      end-by = ap isEnd q ∙ by-end (met s st) (eventIn s st)
 
       pub after-by : after b (chosenState st) ≡ chosenState (after s st)
       unfolding after
       after-by =
-          rw (agree-len x, agree-serial x, chosen-current f h, q, chosen-entered h (current h) (eventIn s st), by-text s b (st .at) (current h) (eventIn s st) (agree-len x))
+          rw (agree-len x, agree-serial x, met-same end-by, q, chosen-entered h (met s st) (eventIn s st), by-text s b (st .at) (met s st) (eventIn s st) (agree-len x))
 
 -- what stands behind the end
 pub finished-by : (f : ℕ → Bool) (s b : List ℕ) (st : State) → length b ≡ length s → finished b (chosenState f st) ≡ chosenReading f (finished s st)

@@ -8,19 +8,18 @@ use lib.Dec.{ltb}
 use lib.ListN.{length, getD}
 use Rattle.base.proofs.Tests.{ifso}
 use Rattle.rules.specs.Numbers.{le}
-use Rattle.rules.specs.History.{current}
-use Rattle.rules.specs.Records.{eventAt}
-use Rattle.rules.specs.Reading.{State, eventIn, refusalNo, isEnd, after, refused, finished, walk}
+use Rattle.rules.specs.Records.{isSecond, fieldsFrom, fieldsAt, eventAt}
+use Rattle.rules.specs.Reading.{State, eventIn, met, refusalNo, isEnd, after, refused, finished, walk}
 use Rattle.rules.specs.declared.Event.the-variants.{Close}
 use Rattle.rules.proofs.Walking.{walk-refused, walk-end, walk-on, by-turn}
-use Rattle.demand1.specs.Rows.{status}
+use Rattle.demand1.specs.Rows.{kind, status, Passes}
 use Rattle.demand1.proofs.Events.{Framed, passes-framed, close-event}
 use Rattle.demand1.proofs.Steps.{after-within}
 use Rattle.choices.specs.Choices.{outcomeOf, chosenReading, isUnansweredClose, chosenAt, chosenFrom}
 use Rattle.choices.proofs.Chosen.{status-chosen}
-use Rattle.choices.proofs.Agree.{same-byte, Agree, agree-kind, agree-framed, agree-event}
+use Rattle.choices.proofs.Agree.{same-byte, Agree, agree-le, agree-kind, SameHead, agree-framed, agree-event}
 use Rattle.choices.proofs.Turns.{none-refuses, eventBy, event-kept, end-kept, chosenState, refusal-same, refusal-by, end-by, after-by, finished-by}
-use Rattle.choices.proofs.Replaced.{unanswered-close, close-length, keeping, at-status, at-other, from-refused, from-end, from-on, from-length, from-before}
+use Rattle.choices.proofs.Replaced.{unanswered-close, status-within, keeping, at-status, at-other, from-refused, from-end, from-on, from-length, from-before}
 
 -- a number of one byte
 one-byte : (s : List ℕ) (at : ℕ) → le 1 s at ≡ getD s at 0
@@ -31,22 +30,40 @@ module _ (f : ℕ → Bool) (s : List ℕ) where
   -- b goes on from a state as the trace with the chosen outcomes does
   pub record GoesOn (k : ℕ) (st : State) (b : List ℕ) : Type 0 where
     pub long : length b ≡ length s
+    pub second : isSecond b ≡ isSecond s
     pub same : (i : ℕ) → st .at ≤ i → getD b i 0 ≡ getD (chosenFrom k f s st) i 0
 
   module _ (k : ℕ) (st : State) (b : List ℕ) (g : GoesOn k st b) where
-    -- the header of the record there is that of s
-    header : Agree s b (st .at) (st .at + 8)
-    header = record { long = g .long; same = λ i l h. g .same i l ∙ from-before f s k st i h }
+    -- the bytes of the record there are those of s but for a close's status
+    near : (a e : ℕ) → st .at ≤ a → e ≤ st .at + 16 → ((i : ℕ) → i < e → kind s (st .at) ≡ 4 → i ≡ fieldsAt s (st .at) → ⊥) → Agree s b a e
+    near a e m n d =
+        record { long = g .long; same = λ i l h. g .same i (omega arith) ∙ from-before f s k st i (omega arith) (d i h) }
+
+    head : SameHead s b (st .at)
+    head =
+        record {
+          header = near (st .at) (st .at + 8) (omega arith) (omega arith) (λ i l _ q. omega arith);
+          second = g .second;
+          front =
+              λ second.
+              agree-le
+              (near (st .at + 8) (st .at + 10) (omega arith) (omega arith)
+              (λ i l c q. let z : i ≡ st .at + 8 + 2 = rw (second c) at q in omega arith))
+              2 (st .at + 8) (omega arith) (omega arith);
+        }
 
     -- where nothing is left to replace, the whole record is
     stays : chosenFrom k f s st ≡ s → eventAt b (st .at) ≡ eventAt s (st .at)
-    stays q = agree-event header (record { long = g .long; same = λ i l h. g .same i l ∙ same-byte i q })
+    stays q = agree-event head (record { long = g .long; same = λ i l h. g .same i l ∙ same-byte i q })
 
   -- ── a record that passes and is not the end ──
 
   module _ (k : ℕ) (st : State) (b : List ℕ) (g : GoesOn (suc k) st b) (t : ltb 0 (refusalNo s st) ≡ false) (e : isEnd (eventIn s st) ≡ false) where
+    passes : Passes s st
+    passes = none-refuses s st t
+
     framed : Framed s (st .at)
-    framed = passes-framed (none-refuses s st t)
+    framed = passes-framed passes
 
     abbrev behind : List ℕ
     behind = chosenFrom k f s (after s st)
@@ -56,44 +73,42 @@ module _ (f : ℕ → Bool) (s : List ℕ) where
     byte i l = g .same i l ∙ same-byte i (from-on f s k st t e)
 
     -- a close with status 2 gets the chosen one
-    event-replaced : isUnansweredClose (eventIn s st) ≡ true → eventAt b (st .at) ≡ eventBy f (current (st .history)) (eventIn s st)
+    event-replaced : isUnansweredClose (eventIn s st) ≡ true → eventAt b (st .at) ≡ eventBy f (met s st) (eventIn s st)
     unfolding eventBy
     event-replaced u =
         let c = unanswered-close framed u in
-        let x = header (suc k) st b g in
-        let room : st .at + 8 < length behind = omega (arith, from-length f s k (after s st), close-length framed (c .0), framed .sized .there) in
-        let z : status b (st .at) ≡ outcomeOf f (current (st .history)) =
-        one-byte b (st .at + 8) ∙ byte (st .at + 8) (omega arith) ∙ at-status f s st behind u room in
-        close-event (agree-framed x framed) (agree-kind x ∙ c .0) ∙ ap Close z
-        ∙ sym (ap (eventBy f (current (st .history))) (close-event framed (c .0)) ∙ ap Close (status-chosen f (current (st .history)) (c .1)))
+        let x = head (suc k) st b g in
+        let there = fieldsAt s (st .at) in
+        let room : there < length behind = omega (arith, from-length f s k (after s st), status-within s st passes u, after-within s st passes .1) in
+        let z : status b (st .at) ≡ outcomeOf f (met s st) =
+        ap (λ (e : Bool). le 1 b (st .at + 8 + fieldsFrom e)) (g .second) ∙ one-byte b there ∙ byte there (omega arith) ∙ at-status f s st behind u room in
+        close-event (agree-framed x framed) (agree-kind (x .header) ∙ c .0) ∙ ap Close z
+        ∙ sym (ap (eventBy f (met s st)) (close-event framed (c .0)) ∙ ap Close (status-chosen f (met s st) (c .1)))
 
     -- any other record stays as it is
-    event-stays : isUnansweredClose (eventIn s st) ≡ false → eventAt b (st .at) ≡ eventBy f (current (st .history)) (eventIn s st)
+    event-stays : isUnansweredClose (eventIn s st) ≡ false → eventAt b (st .at) ≡ eventBy f (met s st) (eventIn s st)
     unfolding after
     event-stays u =
-        agree-event (header (suc k) st b g)
+        agree-event (head (suc k) st b g)
         (record {
           long = g .long;
-          same = λ i l h. byte i l ∙ same-byte i (keeping f s st behind u) ∙ from-before f s k (after s st) i (omega arith);
+          same = λ i l h. byte i l ∙ same-byte i (keeping f s st behind u) ∙ from-before f s k (after s st) i (omega arith) (λ _ q. omega arith);
         })
-        ∙ sym (event-kept f (current (st .history)) (eventIn s st) u)
+        ∙ sym (event-kept f (met s st) (eventIn s st) u)
 
-    event : eventAt b (st .at) ≡ eventBy f (current (st .history)) (eventIn s st)
+    event : eventAt b (st .at) ≡ eventBy f (met s st) (eventIn s st)
     event = ifso (isUnansweredClose (eventIn s st)) event-replaced event-stays
 
     -- behind it nothing of it is replaced: b goes on
     beyond : (i : ℕ) → after s st .at ≤ i → getD (chosenAt f s st behind) i 0 ≡ getD behind i 0
-    unfolding after
-    beyond i l =
-        ifso (isUnansweredClose (eventIn s st))
-        (λ u. at-other f s st behind i (λ q. omega (arith, close-length framed (unanswered-close framed u .0))))
-        (λ u. same-byte i (keeping f s st behind u))
+    beyond i l = at-other f s st behind i (λ u q. omega (arith, status-within s st passes u))
 
     goes-on : GoesOn k (after s st) b
     goes-on =
         record {
           long = g .long;
-          same = λ i l. byte i (omega (arith, after-within s st (none-refuses s st t) .0)) ∙ beyond i l;
+          second = g .second;
+          same = λ i l. byte i (omega (arith, after-within s st passes .0)) ∙ beyond i l;
         }
 
   -- ── the walk ──
@@ -104,16 +119,16 @@ module _ (f : ℕ → Bool) (s : List ℕ) where
   walk-by (suc k) st b g =
       by-turn s st
       (λ t.
-      let q = refusal-same f st (header (suc k) st b g) (stays (suc k) st b g (from-refused f s k st t)) in
+      let q = refusal-same f st (head (suc k) st b g) (stays (suc k) st b g (from-refused f s k st t)) in
       walk-refused b (chosenState f st) k (ap (ltb 0) q ∙ t) ∙ ap (λ (n : ℕ). refused n (st .at)) q ∙ sym (ap (chosenReading f) (walk-refused s st k t)))
       (λ t e.
-      let x = header (suc k) st b g in
-      let q : eventAt b (st .at) ≡ eventBy f (current (st .history)) (eventIn s st) =
-      stays (suc k) st b g (from-end f s k st e) ∙ sym (end-kept f (current (st .history)) (eventIn s st) e) in
+      let x = head (suc k) st b g in
+      let q : eventAt b (st .at) ≡ eventBy f (met s st) (eventIn s st) =
+      stays (suc k) st b g (from-end f s k st e) ∙ sym (end-kept f (met s st) (eventIn s st) e) in
       walk-end b (chosenState f st) k (ap (ltb 0) (refusal-by f st x q) ∙ t) (end-by f st x q ∙ e)
       ∙ ap (finished b) (after-by f st x q) ∙ finished-by f s b (after s st) (g .long) ∙ sym (ap (chosenReading f) (walk-end s st k t e)))
       (λ t e.
-      let x = header (suc k) st b g in
+      let x = head (suc k) st b g in
       let q = event k st b g t e in
       walk-on b (chosenState f st) k (ap (ltb 0) (refusal-by f st x q) ∙ t) (end-by f st x q ∙ e)
       ∙ ap (walk k b) (after-by f st x q) ∙ walk-by k (after s st) b (goes-on k st b g t e) ∙ sym (ap (chosenReading f) (walk-on s st k t e)))

@@ -5,7 +5,7 @@ use mathlib.Core.Path.{_≡_, refl}
 use mathlib.Core.Bool.{Bool}
 use mathlib.Core.List.{List, [], _∷_, _++_, map}
 use lib.Dec.{eqb}
-use Rattle.rules.specs.Traces.{trace, whole, opens, closes, ends, note, block, T, U, r, w}
+use Rattle.rules.specs.Traces.{trace, whole, overlapping, edition, opens, closes, closesOf, ends, note, block, T, U, r, w, rOf, wOf}
 use Rattle.rules.specs.Edges.{as-they-should}
 use Rattle.choices.specs.Choices.{outcomeOf, isUnansweredClose, chosenAt, chosenFrom, chosenBytes}
 
@@ -34,6 +34,14 @@ choiceTable =
     ∷ choiceCase (trace 0 (U 1 [] ++ U 1 [] ++ ends 2 ∷ U 1 [])) (trace 0 (block 1 0 [] ++ block 1 1 [] ++ ends 2 ∷ U 1 []))
     -- one that is open still
     ∷ choiceCase (trace 0 (U 1 [] ++ opens 2 ∷ [])) (trace 0 (block 1 0 [] ++ opens 2 ∷ []))
+    -- edition 2, two that overlap: each gets its own outcome, whichever is closed first, and the sessions stay
+    ∷ choiceCase (overlapping 2 (opens 1 ∷ opens 2 ∷ wOf 1 1 5 ∷ wOf 2 1 6 ∷ closesOf 1 2 ∷ rOf 2 2 2 ∷ closesOf 2 2 ∷ []))
+    (overlapping 2 (opens 1 ∷ opens 2 ∷ wOf 1 1 5 ∷ wOf 2 1 6 ∷ closesOf 1 0 ∷ rOf 2 2 2 ∷ closesOf 2 1 ∷ []))
+    ∷ choiceCase (overlapping 2 (opens 1 ∷ opens 2 ∷ closesOf 2 2 ∷ closesOf 1 2 ∷ []))
+    (overlapping 2 (opens 1 ∷ opens 2 ∷ closesOf 2 1 ∷ closesOf 1 0 ∷ []))
+    -- answered ones of session 2 and of session 514, whose two bytes are 2; then a close of a session with none open
+    ∷ choiceCase (trace 0 (edition 2 ∷ opens 2 ∷ opens 514 ∷ closesOf 2 1 ∷ closesOf 514 0 ∷ closesOf 2 2 ∷ ends 2 ∷ []))
+    (trace 0 (edition 2 ∷ opens 2 ∷ opens 514 ∷ closesOf 2 1 ∷ closesOf 514 0 ∷ closesOf 2 2 ∷ ends 2 ∷ []))
     ∷ []
 
 abbrev pub chosenSo : ChoiceCase → ChoiceCase

@@ -7,11 +7,12 @@ use mathlib.Core.List.{List}
 use lib.ListN.{length, getD, set}
 use lib.Dec.{ltb, eqb}
 use Rattle.base.specs.Base.{_or_, pick, numbered}
-use Rattle.rules.specs.History.{History, tx, txCount, current}
-use Rattle.rules.specs.Reading.{State, begin, eventIn, refusalNo, isEnd, after, Reading, refused, read}
+use Rattle.rules.specs.History.{History, tx, txCount}
+use Rattle.rules.specs.Records.{fieldsAt}
+use Rattle.rules.specs.Reading.{State, begin, eventIn, met, refusalNo, isEnd, after, Reading, refused, read}
 use Rattle.rules.specs.declared.Event.{Event}
 use Rattle.rules.specs.declared.Event.the-variants.{Open, Read, Write, Close, End, Note, Other}
-use Rattle.demand1.specs.Rows.{kind, status, Passes, Reaches}
+use Rattle.demand1.specs.Rows.{kind, status, Passes, Whose, Reaches}
 
 -- ── in a history ──
 
@@ -48,9 +49,10 @@ isUnansweredClose (End n) = false
 isUnansweredClose Note = false
 isUnansweredClose Other = false
 
--- the bytes b with the status byte of the record that reading s has come to replaced, where it is a close with status 2
+-- the bytes b with the status byte of the record that reading s has come to replaced, where it is a close with status 2. In edition 2 closes "have the
+-- session before their other fields"
 unfoldable pub chosenAt : (ℕ → Bool) → List ℕ → State → List ℕ → List ℕ
-chosenAt f s st b = pick (isUnansweredClose (eventIn s st)) (set b (st .at + 8) (outcomeOf f (current (st .history)))) b
+chosenAt f s st b = pick (isUnansweredClose (eventIn s st)) (set b (fieldsAt s (st .at)) (outcomeOf f (met s st))) b
 
 -- s with each status 2 from a state on replaced, record by record: it goes as far as reading goes, as `walk` does
 unfoldable pub chosenFrom : ℕ → (ℕ → Bool) → List ℕ → State → List ℕ
@@ -71,8 +73,9 @@ pub record Unanswered (s : List ℕ) (st : State) : Type 0 where
   pub closes : kind s (st .at) ≡ 4
   pub unanswered : status s (st .at) ≡ 2
 
--- b is s with the status of each of those closes replaced by the one chosen for the transaction that it closes, the latest; no other byte differs
+-- b is s with the status of each of those closes, which in edition 2 "have the session before their other fields", replaced by the one chosen for the
+-- transaction that it closes; no other byte differs
 pub record Answered (f : ℕ → Bool) (s b : List ℕ) : Type 0 where
   pub same-length : length b ≡ length s
-  pub replaced : (st : State) → Unanswered s st → getD b (st .at + 8) 0 ≡ outcomeOf f (txCount (st .history))
-  pub elsewhere : (i : ℕ) → ((st : State) → Unanswered s st → i ≡ st .at + 8 → ⊥) → getD b i 0 ≡ getD s i 0
+  pub replaced : (st : State) (t : ℕ) → Unanswered s st → Whose s st t → getD b (fieldsAt s (st .at)) 0 ≡ outcomeOf f t
+  pub elsewhere : (i : ℕ) → ((st : State) → Unanswered s st → i ≡ fieldsAt s (st .at) → ⊥) → getD b i 0 ≡ getD s i 0

@@ -1,19 +1,21 @@
 -- A well-framed record's event, by its fields' offsets.
 use Prim.Native.Nat.{ℕ, zero, suc, _+_, _-_, _<_, _≤_}
-use mathlib.Core.Path.{_≡_, refl, ap}
+use mathlib.Core.Path.{_≡_, refl, ap, _∙_}
+use mathlib.Core.Bool.{Bool, true, false}
 use mathlib.Core.List.{List}
-use mathlib.Core.Logic.{inl, inr}
+use mathlib.Core.Logic.{⊎-elim}
 use native.Mathlib.Omega.{arith}
 use native.Mathlib.Decide.{ℕ-discrete}
 use lib.ListN.{length, drop}
 use lib.Seq.{getD-take, getD-drop}
 use Rattle.base.specs.Base.{pick}
 use Rattle.rules.specs.Numbers.{le, part}
-use Rattle.rules.specs.Records.{eventOf, eventAt, payloadAt}
+use Rattle.base.proofs.Tests.{split}
+use Rattle.rules.specs.Records.{isSecond, fieldsFrom, fieldsAt, eventOf, eventAt, payloadAt}
 use Rattle.rules.specs.Reading.{State}
 use Rattle.rules.specs.declared.Event.{Event}
-use Rattle.rules.specs.declared.Event.the-variants.{Open, Read, Write, Close, End, Note}
-use Rattle.demand1.specs.Rows.{len, kind, session, key, value, status, endNumber, behind, WrongLength, open-not-8, read-not-18, write-not-18, close-not-7, end-not-8, Check, lengthLow, bytesThere, kindKnown, lengthFits, rank, Fails, Passes}
+use Rattle.rules.specs.declared.Event.the-variants.{Open, Read, Write, Close, End, Note, Other}
+use Rattle.demand1.specs.Rows.{len, kind, session, key, value, status, endNumber, behind, UnknownKind, below-1, above-6, note-in-second, WrongLength, open-not-8, read-not-18, read-not-20, write-not-18, write-not-20, close-not-7, close-not-9, end-not-8, Check, lengthLow, bytesThere, kindKnown, lengthFits, rank, Fails, Passes}
 
 -- a number in a part is the number in the whole, where it lies within the part
 pub le-part : (w a e : ℕ) (s : List ℕ) (i : ℕ) → i + w ≤ e - a → le w (part a e s) i ≡ le w s (a + i)
@@ -34,16 +36,46 @@ at-least a b h = omega arith
 pub below : (a b : ℕ) → (b ≤ a → ⊥) → a < b
 below a b h = omega arith
 
+-- what row 6 leaves of a kind
+pub data KindKnown (k : ℕ) : Type 0 where
+  is-open : k ≡ 1 → KindKnown k
+  is-read : k ≡ 2 → KindKnown k
+  is-write : k ≡ 3 → KindKnown k
+  is-close : k ≡ 4 → KindKnown k
+  is-end : k ≡ 5 → KindKnown k
+  is-note : k ≡ 6 → KindKnown k
+  is-edition : k ≡ 16 → KindKnown k
+
 -- what the first five checks leave, and the sixth
 pub record Sized (s : List ℕ) (at : ℕ) : Type 0 where
   pub low : 6 ≤ len s at
   pub there : behind s at ≤ length s
-  pub kind-low : 1 ≤ kind s at
-  pub kind-high : kind s at ≤ 6
+  pub known : KindKnown (kind s at)
+  pub no-note : isSecond s ≡ true → kind s at ≡ 6 → ⊥
 
 pub record Framed (s : List ℕ) (at : ℕ) : Type 0 where
   pub sized : Sized s at
-  pub fits : WrongLength (kind s at) (len s at) → ⊥
+  pub fits : WrongLength (isSecond s) (kind s at) (len s at) → ⊥
+
+-- by cases on equality
+pub same-or : {P : Type 0} (a b : ℕ) → (a ≡ b → P) → ((a ≡ b → ⊥) → P) → P
+same-or {P} a b f g = go (ℕ-discrete a b)
+  where
+    go : Dec (a ≡ b) → P
+    go (yes e) = f e
+    go (no d) = g d
+
+-- a number that is not another than b
+pub exactly : (a b : ℕ) → ((a ≡ b → ⊥) → ⊥) → a ≡ b
+exactly a b h = same-or a b (λ e. e) (λ d. absurd (h d))
+
+pub kind-known : {second : Bool} (k : ℕ) → (UnknownKind second k → ⊥) → KindKnown k
+kind-known k u = ⊎-elim (λ g. same-or k 16 is-edition (λ d. absurd (u (above-6 g d)))) (λ l. low (at-least 1 k (λ g. u (below-1 g))) l) (split 6 k)
+  where
+    low : 1 ≤ k → k ≤ 6 → KindKnown k
+    low l h =
+        same-or k 1 is-open
+        (λ d1. same-or k 2 is-read (λ d2. same-or k 3 is-write (λ d3. same-or k 4 is-close (λ d4. same-or k 5 is-end (λ d5. is-note (omega arith))))))
 
 -- the checks leave it
 pub is-sized : {s : List ℕ} {st : State} → Clear (Fails s st) 5 → Sized s (st .at)
@@ -51,8 +83,8 @@ is-sized p =
     record {
       low = at-least 6 _ (p lengthLow (omega arith));
       there = at-least _ _ (p bytesThere (omega arith));
-      kind-low = at-least 1 _ (λ l. p kindKnown (omega arith) (inl l));
-      kind-high = at-least _ 6 (λ l. p kindKnown (omega arith) (inr l));
+      known = kind-known _ (p kindKnown (omega arith));
+      no-note = λ e k. p kindKnown (omega arith) (note-in-second e k);
     }
 
 pub is-framed : {s : List ℕ} {st : State} → Clear (Fails s st) 6 → Framed s (st .at)
@@ -69,94 +101,110 @@ pub data ShapeOf (k s x v c n : ℕ) (e : Event) : Type 0 where
   close-record : k ≡ 4 → e ≡ Close c → ShapeOf k s x v c n e
   end-record : k ≡ 5 → e ≡ End n → ShapeOf k s x v c n e
   note-record : k ≡ 6 → e ≡ Note → ShapeOf k s x v c n e
+  edition-record : k ≡ 16 → e ≡ Other → ShapeOf k s x v c n e
 
--- the kind is one of the six, and decides
+-- the kind is known, and decides
 pub record Kinded (k s x v c n : ℕ) (e : Event) : Type 0 where
-  pub low : 1 ≤ k
-  pub high : k ≤ 6
+  pub known : KindKnown k
   pub as-open : k ≡ 1 → e ≡ Open s
   pub as-read : k ≡ 2 → e ≡ Read x v
   pub as-write : k ≡ 3 → e ≡ Write x v
   pub as-close : k ≡ 4 → e ≡ Close c
   pub as-end : k ≡ 5 → e ≡ End n
   pub as-note : k ≡ 6 → e ≡ Note
+  pub as-edition : k ≡ 16 → e ≡ Other
 
 -- a record's
 abbrev pub Shape : List ℕ → ℕ → Type 0
 Shape s at = ShapeOf (kind s at) (session s at) (key s at) (value s at) (status s at) (endNumber s at) (eventAt s at)
 
--- a length that fits leaves the table's length; d is how far a field of the payload reaches
-payload : {s : List ℕ} {at : ℕ} → Framed s at → (w i n : ℕ) → len s at ≡ n → 6 + (i + w) ≤ n → le w (payloadAt s at) i ≡ le w s (at + (8 + i))
-payload {s} {at} f w i n e l =
-    let a : at + (8 + i) ≡ at + 8 + i = omega arith in
-    rw a (le-part w (at + 8) (at + 2 + len s at) s i (omega arith))
-
--- by cases on equality
-pub same-or : {P : Type 0} (a b : ℕ) → (a ≡ b → P) → ((a ≡ b → ⊥) → P) → P
-same-or {P} a b f g = go (ℕ-discrete a b)
-  where
-    go : Dec (a ≡ b) → P
-    go (yes e) = f e
-    go (no d) = g d
-
--- by cases on a kind
-pub by-kind : {P : Type 0} (k : ℕ) → 1 ≤ k → k ≤ 6 → (k ≡ 1 → P) → (k ≡ 2 → P) → (k ≡ 3 → P) → (k ≡ 4 → P) → (k ≡ 5 → P) → (k ≡ 6 → P) → P
-by-kind k l h p1 p2 p3 p4 p5 p6 =
-    same-or k 1 p1 (λ d1. same-or k 2 p2 (λ d2. same-or k 3 p3 (λ d3. same-or k 4 p4 (λ d4. same-or k 5 p5 (λ d5. p6 (omega arith))))))
-
--- an event has one of the six shapes
+-- an event has one of the seven shapes
 pub shape-of : {k s x v c n : ℕ} {e : Event} → Kinded k s x v c n e → ShapeOf k s x v c n e
-shape-of {k} w =
-    by-kind k (w .low) (w .high) (λ q. open-record q (w .as-open q)) (λ q. read-record q (w .as-read q)) (λ q. write-record q (w .as-write q))
-    (λ q. close-record q (w .as-close q)) (λ q. end-record q (w .as-end q)) (λ q. note-record q (w .as-note q))
+shape-of {k} {s} {x} {v} {c} {n} {e} w = go (w .known)
+  where
+    go : KindKnown k → ShapeOf k s x v c n e
+    go (is-open q) = open-record q (w .as-open q)
+    go (is-read q) = read-record q (w .as-read q)
+    go (is-write q) = write-record q (w .as-write q)
+    go (is-close q) = close-record q (w .as-close q)
+    go (is-end q) = end-record q (w .as-end q)
+    go (is-note q) = note-record q (w .as-note q)
+    go (is-edition q) = edition-record q (w .as-edition q)
 
--- a number that is not another than b
-pub exactly : (a b : ℕ) → ((a ≡ b → ⊥) → ⊥) → a ≡ b
-exactly a b h = same-or a b (λ e. e) (λ d. absurd (h d))
+-- a length that fits is the table's: of a read or a write, and of a close
+module _ {k n : ℕ} where
+  read-length : (second : Bool) → (WrongLength second k n → ⊥) → k ≡ 2 → n ≡ 18 + fieldsFrom second
+  read-length true f q = exactly n 20 (λ d. f (read-not-20 refl q d))
+  read-length false f q = exactly n 18 (λ d. f (read-not-18 refl q d))
+
+  write-length : (second : Bool) → (WrongLength second k n → ⊥) → k ≡ 3 → n ≡ 18 + fieldsFrom second
+  write-length true f q = exactly n 20 (λ d. f (write-not-20 refl q d))
+  write-length false f q = exactly n 18 (λ d. f (write-not-18 refl q d))
+
+  pub close-length : (second : Bool) → (WrongLength second k n → ⊥) → k ≡ 4 → n ≡ 7 + fieldsFrom second
+  close-length true f q = exactly n 9 (λ d. f (close-not-9 refl q d))
+  close-length false f q = exactly n 7 (λ d. f (close-not-7 refl q d))
 
 module _ {s : List ℕ} {at : ℕ} (f : Framed s at) where
+  -- a number of the payload, w bytes from the i-th on
+  payload : (w i : ℕ) → 6 + (i + w) ≤ len s at → le w (payloadAt s at) i ≡ le w s (at + 8 + i)
+  payload w i l = le-part w (at + 8) (at + 2 + len s at) s i (omega arith)
+
+  -- the key and the value behind the session, if there is one
+  key-there : len s at ≡ 18 + fieldsFrom (isSecond s) → le 4 (payloadAt s at) (fieldsFrom (isSecond s)) ≡ key s at
+  key-there e = payload 4 (fieldsFrom (isSecond s)) (omega arith)
+
+  value-there : len s at ≡ 18 + fieldsFrom (isSecond s) → le 8 (payloadAt s at) (fieldsFrom (isSecond s) + 4) ≡ value s at
+  value-there e =
+      let a : at + 8 + (fieldsFrom (isSecond s) + 4) ≡ fieldsAt s at + 4 = omega arith in
+      payload 8 (fieldsFrom (isSecond s) + 4) (omega arith) ∙ ap (le 8 s) a
+
+  -- a number that begins the payload
+  front : len s at ≡ 8 → le 2 (payloadAt s at) 0 ≡ le 2 s (at + 8)
+  front e = let a : at + 8 + 0 ≡ at + 8 = omega arith in payload 2 0 (omega arith) ∙ ap (le 2 s) a
+
   -- each kind with what its payload says
   pub open-event : kind s at ≡ 1 → eventAt s at ≡ Open (session s at)
   unfolding eventAt eventOf pick
-  open-event k = rw k (ap Open (payload f 2 0 8 (exactly (len s at) 8 (λ d. f .fits (open-not-8 k d))) (omega arith)))
+  open-event k = rw k (ap Open (front (exactly (len s at) 8 (λ d. f .fits (open-not-8 k d)))))
 
   pub read-event : kind s at ≡ 2 → eventAt s at ≡ Read (key s at) (value s at)
   unfolding eventAt eventOf pick
-  read-event k =
-      let e = exactly (len s at) 18 (λ d. f .fits (read-not-18 k d)) in
-      rw (k, payload f 4 0 18 e (omega arith), payload f 8 4 18 e (omega arith))
+  read-event k = let e = read-length (isSecond s) (f .fits) k in rw (k, key-there e, value-there e)
 
   pub write-event : kind s at ≡ 3 → eventAt s at ≡ Write (key s at) (value s at)
   unfolding eventAt eventOf pick
-  write-event k =
-      let e = exactly (len s at) 18 (λ d. f .fits (write-not-18 k d)) in
-      rw (k, payload f 4 0 18 e (omega arith), payload f 8 4 18 e (omega arith))
+  write-event k = let e = write-length (isSecond s) (f .fits) k in rw (k, key-there e, value-there e)
 
   pub close-event : kind s at ≡ 4 → eventAt s at ≡ Close (status s at)
   unfolding eventAt eventOf pick
-  close-event k = rw k (ap Close (payload f 1 0 7 (exactly (len s at) 7 (λ d. f .fits (close-not-7 k d))) (omega arith)))
+  close-event k = let e = close-length (isSecond s) (f .fits) k in rw k (ap Close (payload 1 (fieldsFrom (isSecond s)) (omega arith)))
 
   pub end-event : kind s at ≡ 5 → eventAt s at ≡ End (endNumber s at)
   unfolding eventAt eventOf pick
-  end-event k = rw k (ap End (payload f 2 0 8 (exactly (len s at) 8 (λ d. f .fits (end-not-8 k d))) (omega arith)))
+  end-event k = rw k (ap End (front (exactly (len s at) 8 (λ d. f .fits (end-not-8 k d)))))
 
   pub note-event : kind s at ≡ 6 → eventAt s at ≡ Note
   unfolding eventAt eventOf pick
   note-event k = rw k
 
+  pub edition-event : kind s at ≡ 16 → eventAt s at ≡ Other
+  unfolding eventAt eventOf pick
+  edition-event k = rw k
+
   pub kinded : Kinded (kind s at) (session s at) (key s at) (value s at) (status s at) (endNumber s at) (eventAt s at)
   kinded =
       record {
-        low = f .sized .kind-low;
-        high = f .sized .kind-high;
+        known = f .sized .known;
         as-open = open-event;
         as-read = read-event;
         as-write = write-event;
         as-close = close-event;
         as-end = end-event;
         as-note = note-event;
+        as-edition = edition-event;
       }
 
-  -- a well-framed record has one of the six shapes
+  -- a well-framed record has one of the seven shapes
   pub shape : Shape s at
   shape = shape-of kinded

@@ -1,15 +1,16 @@
 -- Every history that a trace is read into is lawful: by induction over the records that pass.
 use Prim.Native.Nat.{ℕ, _+_, _<_, _≤_}
 use mathlib.Core.Path.{_≡_, refl, sym, _∙_}
-use mathlib.Core.Bool.{true, false}
+use mathlib.Core.Bool.{Bool, true, false}
 use mathlib.Core.List.{List}
 use mathlib.Core.Logic.{_⊎_, inl, inr, ⊎-elim}
 use native.Mathlib.Omega.{arith}
-use Rattle.base.proofs.Tests.{clash, split}
+use Rattle.base.proofs.Tests.{clash, ifso, split}
 use Rattle.rules.specs.History.{History, Op, tx, op, txCount, opCount, empty, opened, closed, withOp}
+use Rattle.rules.specs.Records.{isSecond}
 use Rattle.rules.specs.Reading.{State, Stretch}
 use Rattle.demand1.specs.Lawful.{IsOp, IsWrite, IsTx, Over, says-aborted, says-committed, says-unanswered, LawfulHistory}
-use Rattle.demand1.specs.Rows.{session, status, opIn, Inside, Passes, inPlace, valueLawful, withinLimit, newWrite, open-inside, read-outside, write-outside, close-outside, end-inside, written-0, status-above-2, open-128th, read-1025th, write-1025th, Next, after-open, after-read, after-write, after-close, after-note, Reaches, start, on, ReadInto, to-the-end}
+use Rattle.demand1.specs.Rows.{kind, session, status, opIn, Inside, OpenOf, Misplaced, Passes, inPlace, valueLawful, withinLimit, newWrite, open-inside, read-outside, write-outside, close-outside, end-inside, end-with-open, in-first, in-second, written-0, status-above-2, open-128th, read-1025th, write-1025th, Whose, the-latest, of-its-session, Next, after-open, after-read, after-write, after-close, after-note, after-edition, Reaches, start, on, ReadInto, to-the-end}
 use Rattle.rules.proofs.History.{with-op-count, with-op-old, with-op-new, open-count, open-old, open-new, close-count, close-this, close-other}
 use Rattle.demand1.proofs.Events.{same-or, at-least, below}
 use Rattle.demand1.proofs.Steps.{inside}
@@ -109,54 +110,63 @@ over-most (says-aborted e) = omega arith
 over-most (says-committed e) = omega arith
 over-most (says-unanswered e) = omega arith
 
--- each is over, but for the latest, which may be open
-record LawfulTxs (h : History) : Type 0 where
+-- each is over or open; in edition 1 none but the latest is open
+record LawfulTxs (second : Bool) (h : History) : Type 0 where
   pub few-txs : txCount h ≤ 127
-  pub so-far : (t : ℕ) → IsTx h t → Over (tx h t .status) ⊎ ((t ≡ txCount h) × Inside h)
+  pub so-far : (t : ℕ) → IsTx h t → Over (tx h t .status) ⊎ ((tx h t .status ≡ 3) × (second ≡ false → t ≡ txCount h))
 
--- outside a transaction each is over
-all-over : {h : History} → LawfulTxs h → (Inside h → ⊥) → (t : ℕ) → IsTx h t → Over (tx h t .status)
-all-over r out t i = ⊎-elim (λ o. o) (λ l. absurd (out (l .1))) (r .so-far t i)
+-- where none is open each is over
+all-over : {second : Bool} {h : History} → LawfulTxs second h → (second ≡ false → Inside h → ⊥) → (second ≡ true → (n t : ℕ) → OpenOf h n t → ⊥) → (t : ℕ)
+    → IsTx h t → Over (tx h t .status)
+all-over {second} {h} r out none t i = ⊎-elim (λ o. o) (λ l. absurd (ifso second (λ e. two e l) (λ e. one e l))) (r .so-far t i)
+  where
+    one : second ≡ false → (tx h t .status ≡ 3) × (second ≡ false → t ≡ txCount h) → ⊥
+    one e l = let q = l .1 e in out e (omega (arith, i .from), rw (← q) (l .0))
+
+    two : second ≡ true → (tx h t .status ≡ 3) × (second ≡ false → t ≡ txCount h) → ⊥
+    two e l = none e (tx h t .session) t (record { is-tx = i; of-session = refl; is-open = l .0 })
 
 -- the transactions stay
-txs-kept : {h : History} (g : History) → g .txs ≡ h .txs → LawfulTxs h → LawfulTxs g
+txs-kept : {second : Bool} {h : History} (g : History) → g .txs ≡ h .txs → LawfulTxs second h → LawfulTxs second g
 unfolding tx
-txs-kept {h} g e r =
+txs-kept {h = h} g e r =
     record { few-txs = rw e (r .few-txs); so-far = λ t i. rw e (r .so-far t (record { from = i .from; to = rw e at (i .to) })) }
 
--- one more is open
-txs-more : {h : History} (s : ℕ) → LawfulTxs h → (Inside h → ⊥) → txCount h < 127 → LawfulTxs (opened h s)
-txs-more {h} s r out l =
+-- one more is open; in edition 1 it is the only one
+txs-more : {second : Bool} {h : History} (s : ℕ) → LawfulTxs second h → (second ≡ false → Inside h → ⊥) → txCount h < 127 → LawfulTxs second (opened h s)
+txs-more {second} {h} s r out l =
     record {
       few-txs = omega (arith, open-count h s);
       so-far = λ t i.
-          ⊎-elim (λ g. let n : t ≡ txCount h + 1 = omega (arith, open-count h s, i .to) in inr (n ∙ sym (open-count h s), (omega (arith, open-count h s), rw (open-count h s, open-new h s))))
-          (λ o. inl (rw (open-old h s t o) (all-over r out t (record { from = i .from; to = o })))) (split (txCount h) t);
+          ⊎-elim (λ g. let n : t ≡ txCount h + 1 = omega (arith, open-count h s, i .to) in inr (rw (n, open-new h s), λ _. n ∙ sym (open-count h s)))
+          (λ o. rw (open-old h s t o) (old t (record { from = i .from; to = o }))) (split (txCount h) t);
     }
+  where
+    old : (t : ℕ) → IsTx h t → Over (tx h t .status) ⊎ ((tx h t .status ≡ 3) × (second ≡ false → t ≡ txCount (opened h s)))
+    old t i =
+        ⊎-elim inl (λ x. inr (x .0, λ e. let q = x .1 e in absurd (out e (omega (arith, i .from), rw (← q) (x .0))))) (r .so-far t i)
 
--- the open one is closed
-txs-close : {h : History} (x : ℕ) → LawfulTxs h → Inside h → x ≤ 2 → LawfulTxs (closed h (txCount h) x)
-txs-close {h} x r ins l =
+-- transaction a is closed
+txs-close : {second : Bool} {h : History} (a x : ℕ) → LawfulTxs second h → IsTx h a → x ≤ 2 → LawfulTxs second (closed h a x)
+txs-close {second} {h} a x r at l =
     record {
-      few-txs = omega (arith, close-count h (txCount h) x, r .few-txs);
+      few-txs = omega (arith, close-count h a x, r .few-txs);
       so-far = λ t i.
-          let to : t ≤ txCount h = omega (arith, close-count h (txCount h) x, i .to) in
-          inl (same-or t (txCount h)
-          (λ e. rw (e, close-this h (txCount h) x (ins .0) (omega arith)) (over x l))
-          (λ d. rw (close-other h (txCount h) x t (i .from) to d)
-          (⊎-elim (λ o. o) (λ b. absurd (d (b .0))) (r .so-far t (record { from = i .from; to = to })))));
+          let to : t ≤ txCount h = omega (arith, close-count h a x, i .to) in
+          same-or t a (λ e. inl (rw (e, close-this h a x (at .from) (at .to)) (over x l)))
+          (λ d. rw (close-other h a x t (i .from) to d, close-count h a x) (r .so-far t (record { from = i .from; to = to })));
     }
 
 -- ── by induction ──
 
 -- what holds between two records
-record Growing (h : History) : Type 0 where
+record Growing (second : Bool) (h : History) : Type 0 where
   pub ops : LawfulOps h
-  pub txs : LawfulTxs h
+  pub txs : LawfulTxs second h
 
 -- before the first record
-growing-begin : Growing empty
-growing-begin =
+growing-begin : (second : Bool) → Growing second empty
+growing-begin second =
     record {
       ops = record {
         few-ops = omega arith;
@@ -167,42 +177,45 @@ growing-begin =
       txs = record { few-txs = omega arith; so-far = λ t i. absurd (omega (arith, i .from, i .to)) };
     }
 
--- one operation more, in the open transaction
-grown-op : {h : History} (o : Op) → Growing h → Inside h → o .tx ≡ txCount h → opCount h < 1024 → (o .isWrite ≡ true → o .value ≡ 0 → ⊥)
-    → (o .isWrite ≡ true → (i : ℕ) → IsWrite h (o .key) (o .value) i → ⊥) → Growing (withOp h o)
+-- one operation more, of a transaction
+grown-op : {second : Bool} {h : History} (o : Op) → Growing second h → IsTx h (o .tx) → opCount h < 1024 → (o .isWrite ≡ true → o .value ≡ 0 → ⊥)
+    → (o .isWrite ≡ true → (i : ℕ) → IsWrite h (o .key) (o .value) i → ⊥) → Growing second (withOp h o)
 unfolding withOp
-grown-op {h} o g ins t l z n =
-    record {
-      ops = ops-more h o (g .ops) (record { room = l; in-tx = rw t (record { from = ins .0; to = omega arith }); not-zero = z; new = n });
-      txs = txs-kept (withOp h o) refl (g .txs);
-    }
+grown-op {h = h} o g i l z n =
+    record { ops = ops-more h o (g .ops) (record { room = l; in-tx = i; not-zero = z; new = n }); txs = txs-kept (withOp h o) refl (g .txs) }
 
-module _ (s : List ℕ) (st : State) (p : Passes s st) (g : Growing (st .history)) where
+module _ (s : List ℕ) (st : State) (p : Passes s st) (g : Growing (isSecond s) (st .history)) where
+  -- what a record belongs to is a transaction
+  whose-tx : {t : ℕ} → Whose s st t → ((Inside (st .history) → ⊥) → Misplaced (kind s (st .at)) (st .history)) → IsTx (st .history) t
+  whose-tx (the-latest e) m = record { from = inside s st p e m .0; to = omega arith }
+  whose-tx (of-its-session e o) m = o .is-tx
+
   -- a passing record leaves the history growing
-  grown : {x : State} → Next s st x → Growing (x .history)
+  grown : {x : State} → Next s st x → Growing (isSecond s) (x .history)
   unfolding opened closed
   grown (after-open k) =
       record {
         ops = ops-kept (opened (st .history) (session s (st .at))) refl (omega (arith, open-count (st .history) (session s (st .at)))) (g .ops);
-        txs = txs-more (session s (st .at)) (g .txs) (λ i. p inPlace (open-inside k i)) (below _ 127 (λ l. p withinLimit (open-128th k l)));
+        txs = txs-more (session s (st .at)) (g .txs) (λ e i. p inPlace (in-first e (open-inside k i))) (below _ 127 (λ l. p withinLimit (open-128th k l)));
       }
-  grown (after-read k) =
-      grown-op (opIn s (st .at) (st .history) false) g (inside s st p (read-outside k)) refl (below _ 1024 (λ l. p withinLimit (read-1025th k l)))
-      (λ w. absurd (clash w refl)) (λ w. absurd (clash w refl))
-  grown (after-write k) =
-      grown-op (opIn s (st .at) (st .history) true) g (inside s st p (write-outside k)) refl (below _ 1024 (λ l. p withinLimit (write-1025th k l)))
+  grown (after-read {t} k w) =
+      grown-op (opIn s (st .at) t false) g (whose-tx w (read-outside k)) (below _ 1024 (λ l. p withinLimit (read-1025th k l))) (λ w. absurd (clash w refl))
+      (λ w. absurd (clash w refl))
+  grown (after-write {t} k w) =
+      grown-op (opIn s (st .at) t true) g (whose-tx w (write-outside k)) (below _ 1024 (λ l. p withinLimit (write-1025th k l)))
       (λ _ z. p valueLawful (written-0 k z)) (λ _ i w. p newWrite (record { writes = k; by = i; earlier = w }))
-  grown (after-close k) =
+  grown (after-close {t} k w) =
       let h = st .history in
       record {
-        ops = ops-kept (closed h (txCount h) (status s (st .at))) refl (omega (arith, close-count h (txCount h) (status s (st .at)))) (g .ops);
-        txs = txs-close (status s (st .at)) (g .txs) (inside s st p (close-outside k)) (at-least _ 2 (λ l. p valueLawful (status-above-2 k l)));
+        ops = ops-kept (closed h t (status s (st .at))) refl (omega (arith, close-count h t (status s (st .at)))) (g .ops);
+        txs = txs-close t (status s (st .at)) (g .txs) (whose-tx w (close-outside k)) (at-least _ 2 (λ l. p valueLawful (status-above-2 k l)));
       }
   grown (after-note k) = g
+  grown (after-edition k) = g
 
 -- the history of a state that reading comes to
-growing : {s : List ℕ} {st : State} → Reaches s st → Growing (st .history)
-growing start = growing-begin
+growing : {s : List ℕ} {st : State} → Reaches s st → Growing (isSecond s) (st .history)
+growing {s} start = growing-begin (isSecond s)
 growing {s} (on {st} r p n) = grown s st p (growing r) n
 
 -- a trace that is read gives a lawful history
@@ -215,5 +228,5 @@ lawful-history (to-the-end l r p k e) =
       in-tx = g .ops .in-tx;
       not-zero = g .ops .not-zero;
       one-write = g .ops .one-write;
-      is-over = all-over (g .txs) (λ i. p inPlace (end-inside k i));
+      is-over = all-over (g .txs) (λ e i. p inPlace (in-first e (end-inside k i))) (λ e n t o. p inPlace (in-second e (end-with-open k o)));
     }

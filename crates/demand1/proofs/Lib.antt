@@ -1,6 +1,7 @@
 pub mod Histories
 pub mod Events
 pub mod Steps
+pub mod Sessions
 pub mod Lawful
 pub mod Checks
 pub mod Refusals

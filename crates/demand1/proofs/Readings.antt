@@ -16,6 +16,7 @@ use Rattle.rules.proofs.Walking as turns
 use Rattle.demand1.specs.Rows.{kind, behind, lengthField, numberOf, Passes, Reaches, start, on, Refuses, too-long, at-record, bytes-behind, ReadInto, to-the-end, OneOutcome}
 use Rattle.demand1.proofs.Events.{same-or}
 use Rattle.demand1.proofs.Steps.{next-is, next-after, next-not-end, end-after, is-end, not-end, after-within}
+use Rattle.demand1.proofs.Sessions.{one-open-each}
 use Rattle.demand1.proofs.Refusals.{FirstOf, passing, failing, first, number-positive, refusal-none, refusal-row}
 
 module _ (s : List ℕ) (st : State) where
@@ -55,7 +56,7 @@ module _ (s : List ℕ) (st : State) where
 -- reading comes to no place past the end
 pub reached-within : {s : List ℕ} {st : State} → Reaches s st → st .at ≤ length s
 reached-within start = omega arith
-reached-within {s} (on {st} r p n) = rw (next-is s st p n) (after-within s st p .1)
+reached-within {s} (on {st} r p n) = rw (next-is s st p (one-open-each r) n) (after-within s st p .1)
 
 -- ── what the walk says holds ──
 
@@ -100,7 +101,7 @@ module _ (s : List ℕ) (short : length s ≤ 32768) where
   resumed (on {st} {next} r p n) v f = resumed r v (λ g l. walk-on s st g p (next-not-end n) ∙ later g l)
     where
       e : next ≡ after s st
-      e = next-is s st p n
+      e = next-is s st p (one-open-each r) n
 
       later : (g : ℕ) → length s < st .at + suc g → walk g s (after s st) ≡ v
       later zero l = let w = after-within s st p in absurd (omega (arith, w .0, w .1))

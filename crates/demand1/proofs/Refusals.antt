@@ -1,5 +1,5 @@
 -- The number that refuses is that of the first check that fails, 0 where none does: of any rows, and of a record's.
-use Prim.Native.Nat.{ℕ, suc, _<_}
+use Prim.Native.Nat.{ℕ, suc, _<_, _≤_}
 use mathlib.Core.Path.{_≡_, refl, ap, sym, _∙_}
 use mathlib.Core.Bool.{Bool, true}
 use mathlib.Core.List.{List, [], _∷_, _++_}
@@ -8,10 +8,9 @@ use native.Mathlib.Omega.{arith}
 use lib.ListN.{getD}
 use Rattle.base.specs.Base.{Row, row, firstFit}
 use Rattle.base.proofs.Tests.{ifso, clash, split}
-use Rattle.rules.specs.History.{current}
-use Rattle.rules.specs.Records.{frameRows}
-use Rattle.rules.specs.Reading.{State, eventIn, refusalNo, stepRows}
-use Rattle.demand1.specs.Rows.{Check, lengthField, lengthLow, bytesThere, serialFollows, kindKnown, lengthFits, inPlace, valueLawful, withinLimit, newWrite, rank, numberOf, Fails, NoneFails, Passes, FirstFailing}
+use Rattle.rules.specs.Records.{isSecond, frameRows}
+use Rattle.rules.specs.Reading.{State, eventIn, met, refusalNo, stepRows}
+use Rattle.demand1.specs.Rows.{Check, lengthField, lengthLow, bytesThere, serialFollows, kindKnown, lengthFits, editionFirst, editionIs2, inPlace, valueLawful, withinLimit, newWrite, rank, numberOf, Fails, NoneFails, Passes, FirstFailing}
 use Rattle.demand1.specs.Tests.{test}
 use Rattle.demand1.proofs.Events.{Clear}
 use Rattle.demand1.proofs.Checks.{check-row}
@@ -21,26 +20,29 @@ use Rattle.demand1.proofs.Checks.{check-row}
 -- the check at a place
 abbrev checkOf : ℕ → Check
 checkOf n =
-    getD (lengthField ∷ lengthLow ∷ bytesThere ∷ serialFollows ∷ kindKnown ∷ lengthFits ∷ inPlace ∷ valueLawful ∷ withinLimit ∷ newWrite ∷ []) n lengthField
+    getD (lengthField ∷ lengthLow ∷ bytesThere ∷ serialFollows ∷ kindKnown ∷ lengthFits ∷ editionFirst ∷ editionIs2 ∷ inPlace ∷ valueLawful ∷ withinLimit ∷ newWrite ∷ []) n lengthField
 
 -- a check's place in the order, and its number
 record Placed (c : Check) : Type 0 where
   pub is : checkOf (rank c) ≡ c
-  pub below : rank c < 10
+  pub below : rank c < 12
   pub numbered : 0 < numberOf c
+  pub most : numberOf c ≤ 10
 
 -- each has one
 placed : (c : Check) → Placed c
-placed lengthField = record { is = refl; below = omega arith; numbered = omega arith }
-placed lengthLow = record { is = refl; below = omega arith; numbered = omega arith }
-placed bytesThere = record { is = refl; below = omega arith; numbered = omega arith }
-placed serialFollows = record { is = refl; below = omega arith; numbered = omega arith }
-placed kindKnown = record { is = refl; below = omega arith; numbered = omega arith }
-placed lengthFits = record { is = refl; below = omega arith; numbered = omega arith }
-placed inPlace = record { is = refl; below = omega arith; numbered = omega arith }
-placed valueLawful = record { is = refl; below = omega arith; numbered = omega arith }
-placed withinLimit = record { is = refl; below = omega arith; numbered = omega arith }
-placed newWrite = record { is = refl; below = omega arith; numbered = omega arith }
+placed lengthField = record { is = refl; below = omega arith; numbered = omega arith; most = omega arith }
+placed lengthLow = record { is = refl; below = omega arith; numbered = omega arith; most = omega arith }
+placed bytesThere = record { is = refl; below = omega arith; numbered = omega arith; most = omega arith }
+placed serialFollows = record { is = refl; below = omega arith; numbered = omega arith; most = omega arith }
+placed kindKnown = record { is = refl; below = omega arith; numbered = omega arith; most = omega arith }
+placed lengthFits = record { is = refl; below = omega arith; numbered = omega arith; most = omega arith }
+placed editionFirst = record { is = refl; below = omega arith; numbered = omega arith; most = omega arith }
+placed editionIs2 = record { is = refl; below = omega arith; numbered = omega arith; most = omega arith }
+placed inPlace = record { is = refl; below = omega arith; numbered = omega arith; most = omega arith }
+placed valueLawful = record { is = refl; below = omega arith; numbered = omega arith; most = omega arith }
+placed withinLimit = record { is = refl; below = omega arith; numbered = omega arith; most = omega arith }
+placed newWrite = record { is = refl; below = omega arith; numbered = omega arith; most = omega arith }
 
 -- a place has one check
 same-rank : (c d : Check) → rank c ≡ rank d → c ≡ d
@@ -49,6 +51,10 @@ same-rank c d e = sym (placed c .is) ∙ ap checkOf e ∙ placed d .is
 -- no number is 0
 pub number-positive : (c : Check) → 0 < numberOf c
 number-positive c = placed c .numbered
+
+-- and none is above 10
+pub number-most : (c : Check) → numberOf c ≤ 10
+number-most c = placed c .most
 
 -- ── the first that fails ──
 
@@ -87,7 +93,7 @@ module _ (F : Check → Type 0) (passes : Check → Bool) (tells : (c : Check) �
       }
 
   -- no row is left
-  pub told-end : Clear F 10 → RowTold []
+  pub told-end : Clear F 12 → RowTold []
   unfolding firstFit
   told-end q = record { is = passing (λ c. q c (placed c .below)) }
 
@@ -118,7 +124,7 @@ module _ (s : List ℕ) (st : State) where
   unfolding refusalNo frameRows stepRows
   first = rows .is
     where
-      rows : RowTold (Fails s st) (test s st) (check-row s st) (frameRows s (st .at) (st .serial) ++ stepRows (st .history) (current (st .history)) (eventIn s st))
+      rows : RowTold (Fails s st) (test s st) (check-row s st) (frameRows (isSecond s) s (st .at) (st .serial) ++ stepRows (st .history) (met s st) (eventIn s st))
       rows =
           told-row (Fails s st) (test s st) (check-row s st) lengthField (λ d l _. omega arith)
           (λ p1. told-row (Fails s st) (test s st) (check-row s st) lengthLow p1
@@ -126,10 +132,12 @@ module _ (s : List ℕ) (st : State) where
           (λ p3. told-row (Fails s st) (test s st) (check-row s st) serialFollows p3
           (λ p4. told-row (Fails s st) (test s st) (check-row s st) kindKnown p4
           (λ p5. told-row (Fails s st) (test s st) (check-row s st) lengthFits p5
-          (λ p6. told-row (Fails s st) (test s st) (check-row s st) inPlace p6
-          (λ p7. told-row (Fails s st) (test s st) (check-row s st) valueLawful p7
-          (λ p8. told-row (Fails s st) (test s st) (check-row s st) withinLimit p8
-          (λ p9. told-row (Fails s st) (test s st) (check-row s st) newWrite p9 (told-end (Fails s st) (test s st) (check-row s st)))))))))))
+          (λ p6. told-row (Fails s st) (test s st) (check-row s st) editionFirst p6
+          (λ p7. told-row (Fails s st) (test s st) (check-row s st) editionIs2 p7
+          (λ p8. told-row (Fails s st) (test s st) (check-row s st) inPlace p8
+          (λ p9. told-row (Fails s st) (test s st) (check-row s st) valueLawful p9
+          (λ p10. told-row (Fails s st) (test s st) (check-row s st) withinLimit p10
+          (λ p11. told-row (Fails s st) (test s st) (check-row s st) newWrite p11 (told-end (Fails s st) (test s st) (check-row s st)))))))))))))
 
   -- no row refuses a record exactly if it passes every check
   pub refusal-none : (refusalNo s st ≡ 0) ↔ Passes s st

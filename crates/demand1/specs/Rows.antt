@@ -1,4 +1,5 @@
--- Document 01's table of refusals as conditions in its own terms, apart from the functions that compute. The theorems say that the two agree.
+-- Document 01's table of refusals, with document 02's second edition, as conditions in their own terms, apart from the functions that compute. The theorems
+-- say that the two agree.
 use Prim.Native.Nat.{ℕ, _+_, _-_, _%_, _^_, _<_, _≤_}
 use mathlib.Core.Path.{_≡_}
 use mathlib.Core.Bool.{Bool, true, false}
@@ -7,8 +8,9 @@ use mathlib.Core.Logic.{_⊎_}
 use lib.ListN.{length}
 use Rattle.rules.specs.Numbers.{le}
 use Rattle.rules.specs.History.{History, Op, tx, txCount, opCount, opened, closed, withOp}
+use Rattle.rules.specs.Records.{isSecond, fieldsAt}
 use Rattle.rules.specs.Reading.{State, begin, Stretch}
-use Rattle.demand1.specs.Lawful.{IsWrite}
+use Rattle.demand1.specs.Lawful.{IsTx, IsWrite}
 
 -- ── a record's fields, by their offsets ──
 
@@ -22,33 +24,56 @@ module _ (s : List ℕ) (at : ℕ) where
   abbrev pub serial : ℕ
   serial = le 4 s (at + 4)
 
+  -- of an open; in edition 2 also of a read, a write or a close, which "have the session before their other fields"
   abbrev pub session : ℕ
   session = le 2 s (at + 8)
 
+  -- those other fields
   abbrev pub key : ℕ
-  key = le 4 s (at + 8)
+  key = le 4 s (fieldsAt s at)
 
   abbrev pub value : ℕ
-  value = le 8 s (at + 12)
+  value = le 8 s (fieldsAt s at + 4)
 
   abbrev pub status : ℕ
-  status = le 1 s (at + 8)
+  status = le 1 s (fieldsAt s at)
 
   abbrev pub endNumber : ℕ
   endNumber = le 2 s (at + 8)
+
+  -- what a kind 16 record says
+  abbrev pub edition : ℕ
+  edition = le 2 s (at + 8)
 
   -- the byte behind the record
   abbrev pub behind : ℕ
   behind = at + 2 + len
 
--- the trace is inside a transaction: the latest opened one is open
+-- "Edition 2 of the trace begins with a kind 16 record": its first record has that kind. "Any other trace is edition 1"
+pub record BeginsWith16 (s : List ℕ) : Type 0 where
+  pub there : 4 ≤ length s
+  pub first-kind : kind s 0 ≡ 16
+
+-- ── which transactions are open ──
+
+-- edition 1: the trace is inside a transaction, the latest opened one being open
 abbrev pub Inside : History → Type 0
 Inside h = (1 ≤ txCount h) × (tx h (txCount h) .status ≡ 3)
 
--- ── the ten checks of a record, in the document's order ──
+-- edition 2: t is a transaction of session n, and open
+pub record OpenOf (h : History) (n t : ℕ) : Type 0 where
+  pub is-tx : IsTx h t
+  pub of-session : tx h t .session ≡ n
+  pub is-open : tx h t .status ≡ 3
+
+-- "Each session may have one transaction open."
+abbrev pub OneOpenEach : History → Type 0
+OneOpenEach h = (n t u : ℕ) → OpenOf h n t → OpenOf h n u → t ≡ u
+
+-- ── the checks of a record, in the document's order ──
 
 pub data Check : Type 0 where
-  lengthField lengthLow bytesThere serialFollows kindKnown lengthFits inPlace valueLawful withinLimit newWrite : Check
+  lengthField lengthLow bytesThere serialFollows kindKnown lengthFits editionFirst editionIs2 inPlace valueLawful withinLimit newWrite : Check
 
 -- the number that each gives
 abbrev pub numberOf : Check → ℕ
@@ -58,12 +83,14 @@ numberOf bytesThere = 3
 numberOf serialFollows = 5
 numberOf kindKnown = 6
 numberOf lengthFits = 4
+numberOf editionFirst = 7
+numberOf editionIs2 = 8
 numberOf inPlace = 7
 numberOf valueLawful = 8
 numberOf withinLimit = 9
 numberOf newWrite = 10
 
--- its place in the order
+-- its place in the order. The two of a kind 16 record are no other record's, so that 7 and 8 keep their order
 abbrev pub rank : Check → ℕ
 rank lengthField = 0
 rank lengthLow = 1
@@ -71,10 +98,12 @@ rank bytesThere = 2
 rank serialFollows = 3
 rank kindKnown = 4
 rank lengthFits = 5
-rank inPlace = 6
-rank valueLawful = 7
-rank withinLimit = 8
-rank newWrite = 9
+rank editionFirst = 6
+rank editionIs2 = 7
+rank inPlace = 8
+rank valueLawful = 9
+rank withinLimit = 10
+rank newWrite = 11
 
 -- where F says which checks fail: none does; c is the first that does
 abbrev pub NoneFails : (Check → Type 0) → Type 0
@@ -84,22 +113,45 @@ pub record FirstFailing (F : Check → Type 0) (c : Check) : Type 0 where
   pub fails : F c
   pub none-before : (d : Check) → rank d < rank c → F d → ⊥
 
--- the length that the table gives each kind
-pub data WrongLength (k n : ℕ) : Type 0 where
-  open-not-8 : k ≡ 1 → (n ≡ 8 → ⊥) → WrongLength k n
-  read-not-18 : k ≡ 2 → (n ≡ 18 → ⊥) → WrongLength k n
-  write-not-18 : k ≡ 3 → (n ≡ 18 → ⊥) → WrongLength k n
-  close-not-7 : k ≡ 4 → (n ≡ 7 → ⊥) → WrongLength k n
-  end-not-8 : k ≡ 5 → (n ≡ 8 → ⊥) → WrongLength k n
-  note-above-70 : k ≡ 6 → 70 < n → WrongLength k n
+-- the kinds are 1 to 6 and 16; "6 for a note in edition 2"
+pub data UnknownKind (second : Bool) (k : ℕ) : Type 0 where
+  below-1 : k < 1 → UnknownKind second k
+  above-6 : 6 < k → (k ≡ 16 → ⊥) → UnknownKind second k
+  note-in-second : second ≡ true → k ≡ 6 → UnknownKind second k
 
--- "open inside a transaction; read, write or close outside one; end inside one"
+-- the length that the tables give each kind: "Read and write (length 20) and close (length 9)" in edition 2
+pub data WrongLength (second : Bool) (k n : ℕ) : Type 0 where
+  open-not-8 : k ≡ 1 → (n ≡ 8 → ⊥) → WrongLength second k n
+  read-not-18 : second ≡ false → k ≡ 2 → (n ≡ 18 → ⊥) → WrongLength second k n
+  read-not-20 : second ≡ true → k ≡ 2 → (n ≡ 20 → ⊥) → WrongLength second k n
+  write-not-18 : second ≡ false → k ≡ 3 → (n ≡ 18 → ⊥) → WrongLength second k n
+  write-not-20 : second ≡ true → k ≡ 3 → (n ≡ 20 → ⊥) → WrongLength second k n
+  close-not-7 : second ≡ false → k ≡ 4 → (n ≡ 7 → ⊥) → WrongLength second k n
+  close-not-9 : second ≡ true → k ≡ 4 → (n ≡ 9 → ⊥) → WrongLength second k n
+  end-not-8 : k ≡ 5 → (n ≡ 8 → ⊥) → WrongLength second k n
+  note-above-70 : k ≡ 6 → 70 < n → WrongLength second k n
+  edition-not-8 : k ≡ 16 → (n ≡ 8 → ⊥) → WrongLength second k n
+
+-- edition 1: "open inside a transaction; read, write or close outside one; end inside one"
 pub data Misplaced (k : ℕ) (h : History) : Type 0 where
   open-inside : k ≡ 1 → Inside h → Misplaced k h
   read-outside : k ≡ 2 → (Inside h → ⊥) → Misplaced k h
   write-outside : k ≡ 3 → (Inside h → ⊥) → Misplaced k h
   close-outside : k ≡ 4 → (Inside h → ⊥) → Misplaced k h
   end-inside : k ≡ 5 → Inside h → Misplaced k h
+
+-- edition 2, n being the record's session: "an operation or close of a session with none open, an open in a session with one or an end with any open"
+pub data Astray (k n : ℕ) (h : History) : Type 0 where
+  open-again : {t : ℕ} → k ≡ 1 → OpenOf h n t → Astray k n h
+  read-of-none : k ≡ 2 → ((t : ℕ) → OpenOf h n t → ⊥) → Astray k n h
+  write-of-none : k ≡ 3 → ((t : ℕ) → OpenOf h n t → ⊥) → Astray k n h
+  close-of-none : k ≡ 4 → ((t : ℕ) → OpenOf h n t → ⊥) → Astray k n h
+  end-with-open : {m t : ℕ} → k ≡ 5 → OpenOf h m t → Astray k n h
+
+-- row 7, by edition
+pub data OutOfPlace (second : Bool) (k n : ℕ) (h : History) : Type 0 where
+  in-first : second ≡ false → Misplaced k h → OutOfPlace second k n h
+  in-second : second ≡ true → Astray k n h → OutOfPlace second k n h
 
 -- "written value 0; status above 1; end number wrong", where v, c and n are the value, the status and the end number;
 -- of the status document 02 says: "8 now begins at status 3"
@@ -126,9 +178,11 @@ Fails s st lengthField = length s < st .at + 2
 Fails s st lengthLow = len s (st .at) < 6
 Fails s st bytesThere = length s < behind s (st .at)
 Fails s st serialFollows = (0 < st .at) × (serial s (st .at) ≡ st .serial → ⊥)
-Fails s st kindKnown = (kind s (st .at) < 1) ⊎ (6 < kind s (st .at))
-Fails s st lengthFits = WrongLength (kind s (st .at)) (len s (st .at))
-Fails s st inPlace = Misplaced (kind s (st .at)) (st .history)
+Fails s st kindKnown = UnknownKind (isSecond s) (kind s (st .at))
+Fails s st lengthFits = WrongLength (isSecond s) (kind s (st .at)) (len s (st .at))
+Fails s st editionFirst = (kind s (st .at) ≡ 16) × (0 < st .at)
+Fails s st editionIs2 = (kind s (st .at) ≡ 16) × (edition s (st .at) ≡ 2 → ⊥)
+Fails s st inPlace = OutOfPlace (isSecond s) (kind s (st .at)) (session s (st .at)) (st .history)
 Fails s st valueLawful = Unlawful (kind s (st .at)) (value s (st .at)) (status s (st .at)) (endNumber s (st .at)) (st .history)
 Fails s st withinLimit = Excess (kind s (st .at)) (st .history)
 Fails s st newWrite = Repeated (kind s (st .at)) (key s (st .at)) (value s (st .at)) (st .history)
@@ -142,9 +196,15 @@ Passes s st = NoneFails (Fails s st)
 abbrev pub moved : List ℕ → State → History → List Stretch → State
 moved s st h notes = record { at = behind s (st .at); serial = (serial s (st .at) + 1) % 2 ^ 32; history = h; notes = notes }
 
--- the operation that a read or a write is: "Transactions do not overlap", so it belongs to the latest opened
-abbrev pub opIn : List ℕ → ℕ → History → Bool → Op
-opIn s at h w = record { tx = txCount h; isWrite = w; key = key s at; value = value s at }
+-- the transaction that a read, a write or a close belongs to: in edition 1, "Transactions do not overlap", the latest opened; in edition 2 the open one of
+-- its session
+pub data Whose (s : List ℕ) (st : State) : ℕ → Type 0 where
+  the-latest : isSecond s ≡ false → Whose s st (txCount (st .history))
+  of-its-session : {t : ℕ} → isSecond s ≡ true → OpenOf (st .history) (session s (st .at)) t → Whose s st t
+
+-- the operation that a read or a write of transaction t is
+abbrev pub opIn : List ℕ → ℕ → ℕ → Bool → Op
+opIn s at t w = record { tx = t; isWrite = w; key = key s at; value = value s at }
 
 -- a note's text, as a stretch of the trace
 abbrev pub noteText : List ℕ → ℕ → Stretch
@@ -153,10 +213,11 @@ noteText s at = record { start = at + 8; length = len s at - 6 }
 -- the state behind the record, which is not the end
 pub data Next (s : List ℕ) (st : State) : State → Type 0 where
   after-open : kind s (st .at) ≡ 1 → Next s st (moved s st (opened (st .history) (session s (st .at))) (st .notes))
-  after-read : kind s (st .at) ≡ 2 → Next s st (moved s st (withOp (st .history) (opIn s (st .at) (st .history) false)) (st .notes))
-  after-write : kind s (st .at) ≡ 3 → Next s st (moved s st (withOp (st .history) (opIn s (st .at) (st .history) true)) (st .notes))
-  after-close : kind s (st .at) ≡ 4 → Next s st (moved s st (closed (st .history) (txCount (st .history)) (status s (st .at))) (st .notes))
+  after-read : {t : ℕ} → kind s (st .at) ≡ 2 → Whose s st t → Next s st (moved s st (withOp (st .history) (opIn s (st .at) t false)) (st .notes))
+  after-write : {t : ℕ} → kind s (st .at) ≡ 3 → Whose s st t → Next s st (moved s st (withOp (st .history) (opIn s (st .at) t true)) (st .notes))
+  after-close : {t : ℕ} → kind s (st .at) ≡ 4 → Whose s st t → Next s st (moved s st (closed (st .history) t (status s (st .at))) (st .notes))
   after-note : kind s (st .at) ≡ 6 → Next s st (moved s st (st .history) (st .notes ++ (noteText s (st .at) ∷ [])))
+  after-edition : kind s (st .at) ≡ 16 → Next s st (moved s st (st .history) (st .notes))
 
 -- ── how far reading comes, and how it ends ──
 

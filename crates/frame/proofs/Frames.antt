@@ -1,19 +1,19 @@
 -- Laws of a record's fields and framing.
 use Prim.Native.Nat.{ℕ, zero, suc, _+_, _-_, _*_, _^_, _≤_, _<_, min}
 use mathlib.Core.Path.{_≡_, refl, ap, sym, _∙_}
-use mathlib.Core.Bool.{true, false}
-use mathlib.Core.List.{List, [], _∷_, _++_}
+use mathlib.Core.Bool.{Bool, true, false}
+use mathlib.Core.List.{List, _++_}
 use native.Mathlib.Omega.{arith}
 use native.Mathlib.Nat.{suc-add, pow-suc, mul-assoc, mul-comm}
 use lib.ListN.{length, getD, drop, length-take, length-drop}
-use lib.Dec.{ltb}
-use borrow.Author.Tests.{ltb-true, ltb-false, lt-ltb, le-ltb}
-use Rattle.base.specs.Base.{pick, Row, row, firstFit}
-use Rattle.base.proofs.Tests.{ifso, neither-left, neither-right, pick-on, pick-off}
+use lib.Dec.{ltb, eqb}
+use borrow.Author.Tests.{ltb-true, ltb-false, eqb-true, eqb-false, eq-eqb, ne-eqb, lt-ltb, le-ltb}
+use Rattle.base.specs.Base.{_and_, _or_, pick, Row, firstFit}
+use Rattle.base.proofs.Tests.{ifso, neither-left, neither-right, not-false, pick-on, pick-off}
 use Rattle.rules.specs.Numbers.{le, part}
-use Rattle.rules.specs.Records.{lenAt, kindAt, nextAt, lows, highs, eventOf, eventAt, breaks, isUnknown, isMisfit, frameRows}
+use Rattle.rules.specs.Records.{lenAt, kindAt, nextAt, isSecond, fieldsFrom, lows, eventOf, eventAt, breaks, isUnknown, isMisfit, isLate, isOtherEdition, frameRows}
 use Rattle.rules.specs.declared.Event.{Event}
-use Rattle.frame.specs.Framing.{Fit, framing}
+use Rattle.frame.specs.Framing.{kindRows, eventBy, Fit, framing}
 use Rattle.frame.specs.declared.Framed.the-variants as F
 use Rattle.base.proofs.Rows.{fit-past, fit-here, fit-none, fit-unfit, RowsCounted, fit-behind}
 
@@ -37,68 +37,128 @@ pub part-length : (a e : ℕ) (s : List ℕ) → e ≤ length s → length (part
 part-length a e s h = length-take (e - a) (drop a s) ∙ ap (λ (n : ℕ). min (e - a) n) (length-drop a s) ∙ omega arith
 
 -- a payload is as long as its kind's reader needs: the length field counts the six bytes of kind and serial too
-pub long-enough : (p : List ℕ) {kind k : ℕ} → kind ≡ k → getD lows kind 0 ≤ length p + 6 → getD lows k 0 - 6 ≤ length p
-long-enough p {kind} {k} e h = let g : getD lows k 0 ≤ length p + 6 = rw (← e) h in omega arith
+pub long-enough : (second : Bool) (p : List ℕ) {kind k n : ℕ} → kind ≡ k → getD (lows second) kind 0 ≤ length p + 6 → n + 6 ≡ getD (lows second) k 0 → n ≤ length p
+long-enough second p {kind} {k} e h q = let g : getD (lows second) k 0 ≤ length p + 6 = rw (← e) h in omega arith
+
+-- the least lengths of kinds 1 to 5, by their fields; those of a read, a write and a close begin where fieldsFrom says
+pub record Leasts (second : Bool) : Type 0 where
+  pub opens : 2 + 6 ≡ getD (lows second) 1 0
+  pub reads : fieldsFrom second + 12 + 6 ≡ getD (lows second) 2 0
+  pub writes : fieldsFrom second + 12 + 6 ≡ getD (lows second) 3 0
+  pub closes : fieldsFrom second + 1 + 6 ≡ getD (lows second) 4 0
+  pub ends : 2 + 6 ≡ getD (lows second) 5 0
+
+pub leasts : (second : Bool) → Leasts second
+leasts true = record { opens = refl; reads = refl; writes = refl; closes = refl; ends = refl }
+leasts false = record { opens = refl; reads = refl; writes = refl; closes = refl; ends = refl }
 
 -- what a record of the kind k says is what one of this kind does, where k is its kind
-pub of-kind : (p : List ℕ) {kind k : ℕ} {r : Event} → kind ≡ k → r ≡ eventOf k p → r ≡ eventOf kind p
-of-kind p e h = rw e h
+pub of-kind : (second : Bool) (p : List ℕ) {kind k : ℕ} {r : Event} → kind ≡ k → r ≡ eventOf second k p → r ≡ eventOf second kind p
+of-kind second p e h = rw e h
 
--- kinds that are not unknown
-pub known-kind : (kind : ℕ) → isUnknown kind ≡ false → (1 ≤ kind) × (kind ≤ 6)
-unfolding isUnknown
-known-kind kind h = (ltb-false _ _ (neither-left _ _ h), ltb-false _ _ (neither-right _ _ h))
+-- what is read in the trace's own edition is the record's event
+pub event-here : (s : List ℕ) (at : ℕ) {second : Bool} → second ≡ isSecond s → eventBy second s at ≡ eventAt s at
+unfolding eventAt
+event-here s at q = rw q
 
--- lengths that are this kind's
-pub fitting-length : (kind len : ℕ) → isMisfit kind len ≡ false → (getD lows kind 0 ≤ len) × (len ≤ getD highs kind 0)
+-- kinds that are not unknown, but for 16: as many as each edition's table of lengths has
+known-kind : (second : Bool) (kind : ℕ) → isUnknown second kind ≡ false → (kind ≡ 16 → ⊥) → (1 ≤ kind) × (kind ≤ pick second 5 6)
+unfolding isUnknown _and_
+known-kind second kind h o =
+    let g : ltb kind 1 or ltb (pick second 5 6) kind ≡ false = rw (ne-eqb kind 16 o) at h in
+    (ltb-false _ _ (neither-left _ _ g), ltb-false _ _ (neither-right _ _ g))
+
+pub kind-first : (second : Bool) (kind : ℕ) → isUnknown second kind ≡ false → (kind ≡ 16 → ⊥) → kind < 7
+unfolding pick
+kind-first true kind h o = omega (arith, known-kind true kind h o .1)
+kind-first false kind h o = omega (arith, known-kind false kind h o .1)
+
+pub kind-second : {second : Bool} (kind : ℕ) → isUnknown second kind ≡ false → (kind ≡ 16 → ⊥) → second ≡ true → kind < 6
+unfolding pick
+kind-second kind h o q = omega (arith, known-kind true kind (rw q at h) o .1)
+
+-- lengths that are this kind's: at least its least; that of kind 16; in edition 2 at least one with a session
+pub low-fits : (second : Bool) (kind len : ℕ) → isMisfit second kind len ≡ false → getD (lows second) kind 0 ≤ len
 unfolding isMisfit
-fitting-length kind len h = (ltb-false _ _ (neither-left _ _ h), ltb-false _ _ (neither-right _ _ h))
+low-fits second kind len h =
+    ifso (eqb kind 16) (λ t. rw (eqb-true kind 16 t) (none second))
+    (λ t. ltb-false _ _ (neither-left _ _ (sym (pick-off _ _ _ t) ∙ h)))
+  where
+    none : (second : Bool) → getD (lows second) 16 0 ≤ len
+    none true = omega arith
+    none false = omega arith
 
--- what each row of a framing that passes says
-pub record Framing (s : List ℕ) (at e : ℕ) : Type 0 where
-  pub two : at + 2 ≤ length s
-  pub six : 6 ≤ lenAt s at
-  pub room : nextAt s at ≤ length s
-  pub follows : breaks s at e ≡ false
-  pub known : isUnknown (kindAt s at) ≡ false
-  pub fitting : isMisfit (kindAt s at) (lenAt s at) ≡ false
+pub edition-fits : (second : Bool) (kind len : ℕ) → isMisfit second kind len ≡ false → kind ≡ 16 → len ≡ 8
+unfolding isMisfit
+edition-fits second kind len h e = eqb-true len 8 (not-false _ (sym (pick-on _ _ _ (eq-eqb kind 16 e)) ∙ h))
 
-module _ (s : List ℕ) (at e : ℕ) where
+least-session : (kind : ℕ) → 1 ≤ kind → kind ≤ 5 → 8 ≤ getD (lows true) kind 0
+least-session zero h l = absurd (omega arith)
+least-session (suc zero) h l = omega arith
+least-session (suc (suc zero)) h l = omega arith
+least-session (suc (suc (suc zero))) h l = omega arith
+least-session (suc (suc (suc (suc zero)))) h l = omega arith
+least-session (suc (suc (suc (suc (suc zero))))) h l = omega arith
+least-session (suc (suc (suc (suc (suc (suc n)))))) h l = absurd (omega arith)
+
+session-fits : (kind len : ℕ) → isUnknown true kind ≡ false → isMisfit true kind len ≡ false → 8 ≤ len
+unfolding pick
+session-fits kind len u h =
+    ifso (eqb kind 16) (λ t. omega (arith, edition-fits true kind len h (eqb-true kind 16 t)))
+    (λ t.
+    let k = known-kind true kind u (eqb-false kind 16 t) in
+    omega (arith, least-session kind (k .0) (k .1), low-fits true kind len h))
+
+-- the numbers of the rows that go by the kind, from the first
+module _ (second : Bool) (s : List ℕ) (at : ℕ) {kind len : ℕ} (k : kind ≡ kindAt s at) (l : len ≡ lenAt s at) where
+  pub kind-off : isUnknown second kind ≡ true → 6 ≡ firstFit (kindRows second s at)
+  kind-off u = rw (← k, ← l) (fit-here _ _ _ u)
+
+  module _ (u : isUnknown second kind ≡ false) where
+    pub length-off : isMisfit second kind len ≡ true → 4 ≡ firstFit (kindRows second s at)
+    length-off m = rw (← k, ← l) (fit-past _ _ _ u (fit-here _ _ _ m))
+
+    module _ (m : isMisfit second kind len ≡ false) where
+      pub late : isLate kind at ≡ true → 7 ≡ firstFit (kindRows second s at)
+      late t = rw (← k, ← l) (fit-past _ _ _ u (fit-past _ _ _ m (fit-here _ _ _ t)))
+
+      module _ (t : isLate kind at ≡ false) where
+        pub edition-off : isOtherEdition kind (le 2 s (at + 8)) ≡ true → 8 ≡ firstFit (kindRows second s at)
+        edition-off o = rw (← k, ← l) (fit-past _ _ _ u (fit-past _ _ _ m (fit-past _ _ _ t (fit-here _ _ _ o))))
+
+        pub none-off : isOtherEdition kind (le 2 s (at + 8)) ≡ false → 0 ≡ firstFit (kindRows second s at)
+        none-off o = rw (← k, ← l) (fit-past _ _ _ u (fit-past _ _ _ m (fit-past _ _ _ t (fit-past _ _ _ o fit-none))))
+
+module _ (second : Bool) (s : List ℕ) (at e : ℕ) where
   -- the numbers of the framing's rows, from the first
-  pub no-field : length s < at + 2 → 3 ≡ firstFit (frameRows s at e)
+  pub no-field : length s < at + 2 → 3 ≡ firstFit (frameRows second s at e)
   unfolding frameRows
   no-field a = fit-here _ _ _ (lt-ltb _ _ a)
 
-  pub too-small : at + 2 ≤ length s → lenAt s at < 6 → 4 ≡ firstFit (frameRows s at e)
-  unfolding frameRows
-  too-small a b = fit-past _ _ _ (le-ltb _ _ a) (fit-here _ _ _ (lt-ltb _ _ b))
-
-  pub cut-off : at + 2 ≤ length s → 6 ≤ lenAt s at → length s < nextAt s at → 3 ≡ firstFit (frameRows s at e)
-  unfolding frameRows
-  cut-off a b d = fit-past _ _ _ (le-ltb _ _ a) (fit-past _ _ _ (le-ltb _ _ b) (fit-here _ _ _ (lt-ltb _ _ d)))
-
-  -- the three length checks pass: "then 5, 6, length for its kind (4)"
-  module _ (a : at + 2 ≤ length s) (b : 6 ≤ lenAt s at) (d : nextAt s at ≤ length s) where
-    lengths-pass : {x : ℕ} → x ≡ firstFit (row (breaks s at e) 5 ∷ row (isUnknown (kindAt s at)) 6 ∷ row (isMisfit (kindAt s at) (lenAt s at)) 4 ∷ [])
-        → x ≡ firstFit (frameRows s at e)
+  module _ (a : at + 2 ≤ length s) where
+    pub too-small : lenAt s at < 6 → 4 ≡ firstFit (frameRows second s at e)
     unfolding frameRows
-    lengths-pass h = fit-past _ _ _ (le-ltb _ _ a) (fit-past _ _ _ (le-ltb _ _ b) (fit-past _ _ _ (le-ltb _ _ d) h))
+    too-small b = fit-past _ _ _ (le-ltb _ _ a) (fit-here _ _ _ (lt-ltb _ _ b))
 
-    pub serial-off : breaks s at e ≡ true → 5 ≡ firstFit (frameRows s at e)
-    serial-off p = lengths-pass (fit-here _ _ _ p)
+    module _ (b : 6 ≤ lenAt s at) where
+      pub cut-off : length s < nextAt s at → 3 ≡ firstFit (frameRows second s at e)
+      unfolding frameRows
+      cut-off d = fit-past _ _ _ (le-ltb _ _ a) (fit-past _ _ _ (le-ltb _ _ b) (fit-here _ _ _ (lt-ltb _ _ d)))
 
-    pub kind-off : breaks s at e ≡ false → isUnknown (kindAt s at) ≡ true → 6 ≡ firstFit (frameRows s at e)
-    kind-off p q = lengths-pass (fit-past _ _ _ p (fit-here _ _ _ q))
+      -- the three length checks pass
+      module _ (d : nextAt s at ≤ length s) where
+        pub serial-off : breaks s at e ≡ true → 5 ≡ firstFit (frameRows second s at e)
+        unfolding frameRows
+        serial-off p = fit-past _ _ _ (le-ltb _ _ a) (fit-past _ _ _ (le-ltb _ _ b) (fit-past _ _ _ (le-ltb _ _ d) (fit-here _ _ _ p)))
 
-    pub length-off : breaks s at e ≡ false → isUnknown (kindAt s at) ≡ false → isMisfit (kindAt s at) (lenAt s at) ≡ true → 4 ≡ firstFit (frameRows s at e)
-    length-off p q r = lengths-pass (fit-past _ _ _ p (fit-past _ _ _ q (fit-here _ _ _ r)))
+        pub by-kind : {x : ℕ} → breaks s at e ≡ false → x ≡ firstFit (kindRows second s at) → x ≡ firstFit (frameRows second s at e)
+        unfolding frameRows
+        by-kind p h = fit-past _ _ _ (le-ltb _ _ a) (fit-past _ _ _ (le-ltb _ _ b) (fit-past _ _ _ (le-ltb _ _ d) (fit-past _ _ _ p h)))
 
-    pub none-off : breaks s at e ≡ false → isUnknown (kindAt s at) ≡ false → isMisfit (kindAt s at) (lenAt s at) ≡ false → 0 ≡ firstFit (frameRows s at e)
-    none-off p q r = lengths-pass (fit-past _ _ _ p (fit-past _ _ _ q (fit-past _ _ _ r fit-none)))
-
-  pub passed : firstFit (frameRows s at e) ≡ 0 → Framing s at e
+  -- what a framing that passes leaves of the record
+  pub fit : firstFit (frameRows second s at e) ≡ 0 → Fit second s at
   unfolding frameRows
-  passed h =
+  fit h =
       let h1 = fit-unfit _ _ _ (omega arith) h in
       let h2 = fit-unfit _ _ _ (omega arith) (h1 .1) in
       let h3 = fit-unfit _ _ _ (omega arith) (h2 .1) in
@@ -106,62 +166,59 @@ module _ (s : List ℕ) (at e : ℕ) where
       let h5 = fit-unfit _ _ _ (omega arith) (h4 .1) in
       let h6 = fit-unfit _ _ _ (omega arith) (h5 .1) in
       record {
-        two = ltb-false _ _ (h1 .0);
         six = ltb-false _ _ (h2 .0);
         room = ltb-false _ _ (h3 .0);
-        follows = h4 .0;
-        known = h5 .0;
-        fitting = h6 .0;
+        low = low-fits _ _ _ (h6 .0);
+        session = λ q. session-fits _ _ (rw q at (h5 .0)) (rw q at (h6 .0));
       }
 
-  pub fit : firstFit (frameRows s at e) ≡ 0 → Fit s at
-  fit h =
-      let g = passed h in
-      record { six = g .six; room = g .room; low = fitting-length _ _ (g .fitting) .0 }
-
   -- the framing's answer, from the number of the row
-  pub framing-bad : {n : ℕ} → n ≡ firstFit (frameRows s at e) → 0 < n → F.Bad n ≡ framing s at e
+  pub framing-bad : {n : ℕ} → n ≡ firstFit (frameRows second s at e) → 0 < n → F.Bad n ≡ framing second s at e
   unfolding framing pick
-  framing-bad q h = rw (q) (rw (lt-ltb 0 (firstFit (frameRows s at e)) (omega arith)) refl)
+  framing-bad q h = rw (q) (rw (lt-ltb 0 (firstFit (frameRows second s at e)) (omega arith)) refl)
 
-  pub framing-good : firstFit (frameRows s at e) ≡ 0 → F.Good (eventAt s at) ≡ framing s at e
+  pub framing-good : firstFit (frameRows second s at e) ≡ 0 → F.Good (eventBy second s at) ≡ framing second s at e
   unfolding framing pick
   framing-good h = rw h
 
   -- what the framing's answer says of the rows
-  pub is-bad : {n : ℕ} → framing s at e ≡ F.Bad n → (firstFit (frameRows s at e) ≡ n) × (0 < n)
+  pub is-bad : {n : ℕ} → framing second s at e ≡ F.Bad n → (firstFit (frameRows second s at e) ≡ n) × (0 < n)
   unfolding framing
   is-bad {n} h =
-      ifso (ltb 0 (firstFit (frameRows s at e)))
+      ifso (ltb 0 (firstFit (frameRows second s at e)))
       (λ t.
-      let g : F.Bad (firstFit (frameRows s at e)) ≡ F.Bad n = sym (pick-on _ _ _ t) ∙ h in
-      let q : firstFit (frameRows s at e) ≡ n = cc in
+      let g : F.Bad (firstFit (frameRows second s at e)) ≡ F.Bad n = sym (pick-on _ _ _ t) ∙ h in
+      let q : firstFit (frameRows second s at e) ≡ n = cc in
       (q, rw (← q) (ltb-true _ _ t)))
       (λ t.
-      let g : F.Good (eventAt s at) ≡ F.Bad n = sym (pick-off _ _ _ t) ∙ h in
+      let g : F.Good (eventBy second s at) ≡ F.Bad n = sym (pick-off _ _ _ t) ∙ h in
       let z : _≡_ {A = ℕ} 0 1 = cc in
       absurd (omega arith))
 
-  pub is-good : {x : Event} → framing s at e ≡ F.Good x → (firstFit (frameRows s at e) ≡ 0) × (eventAt s at ≡ x)
+  pub is-good : {x : Event} → framing second s at e ≡ F.Good x → (firstFit (frameRows second s at e) ≡ 0) × (eventBy second s at ≡ x)
   unfolding framing
   is-good {x} h =
-      ifso (ltb 0 (firstFit (frameRows s at e)))
+      ifso (ltb 0 (firstFit (frameRows second s at e)))
       (λ t.
-      let g : F.Bad (firstFit (frameRows s at e)) ≡ F.Good x = sym (pick-on _ _ _ t) ∙ h in
+      let g : F.Bad (firstFit (frameRows second s at e)) ≡ F.Good x = sym (pick-on _ _ _ t) ∙ h in
       let z : _≡_ {A = ℕ} 0 1 = cc in
       absurd (omega arith))
       (λ t.
-      let g : F.Good (eventAt s at) ≡ F.Good x = sym (pick-off _ _ _ t) ∙ h in
-      let z : firstFit (frameRows s at e) ≤ 0 = ltb-false _ _ t in
+      let g : F.Good (eventBy second s at) ≡ F.Good x = sym (pick-off _ _ _ t) ∙ h in
+      let z : firstFit (frameRows second s at e) ≤ 0 = ltb-false _ _ t in
       (omega arith, cc))
 
-  pub good-fit : {x : Event} → framing s at e ≡ F.Good x → Fit s at
+  pub good-fit : {x : Event} → framing second s at e ≡ F.Good x → Fit second s at
   good-fit h = fit (is-good h .0)
 
-  -- rows behind those of the framing: where it passed they decide, where not they do not matter
-  counted : RowsCounted (frameRows s at e)
-  unfolding frameRows RowsCounted
-  counted = (omega arith, (omega arith, (omega arith, (omega arith, (omega arith, (omega arith, tt))))))
+  -- in edition 2 there is a session to read
+  pub good-session : {x : Event} → framing second s at e ≡ F.Good x → second ≡ true → at + 10 ≤ length s
+  good-session h q = let f = good-fit h in omega (arith, f .session q, f .room)
 
-  pub behind : (k : List Row) → firstFit (frameRows s at e) ≡ 0 → firstFit (frameRows s at e ++ k) ≡ firstFit k
-  behind k h = fit-behind (frameRows s at e) k counted h
+  -- rows behind those of the framing: where it passed they decide, where not they do not matter
+  counted : RowsCounted (frameRows second s at e)
+  unfolding frameRows RowsCounted
+  counted = (omega arith, (omega arith, (omega arith, (omega arith, (omega arith, (omega arith, (omega arith, (omega arith, tt))))))))
+
+  pub behind : (k : List Row) → firstFit (frameRows second s at e) ≡ 0 → firstFit (frameRows second s at e ++ k) ≡ firstFit k
+  behind k h = fit-behind (frameRows second s at e) k counted h

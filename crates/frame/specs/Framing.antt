@@ -1,19 +1,38 @@
--- What framing a record comes to.
-use Prim.Native.Nat.{ℕ, _≤_}
-use mathlib.Core.List.{List}
+-- What framing a record comes to, in edition 2 or not.
+use Prim.Native.Nat.{ℕ, _+_, _≤_}
+use mathlib.Core.Path.{_≡_}
+use mathlib.Core.Bool.{Bool, true}
+use mathlib.Core.List.{List, [], _∷_}
 use lib.ListN.{length, getD}
 use lib.Dec.{ltb}
-use Rattle.base.specs.Base.{pick, firstFit}
-use Rattle.rules.specs.Records.{lenAt, kindAt, nextAt, lows, eventAt, frameRows}
+use Rattle.base.specs.Base.{pick, Row, row, firstFit}
+use Rattle.rules.specs.Numbers.{le}
+use Rattle.rules.specs.Records.{lenAt, kindAt, nextAt, payloadAt, lows, eventOf, isUnknown, isMisfit, isLate, isOtherEdition, frameRows}
+use Rattle.rules.specs.declared.Event.{Event}
 use Rattle.frame.specs.declared.Framed.{Framed}
 use Rattle.frame.specs.declared.Framed.the-variants.{Good, Bad}
 
--- the first of the framing's rows that refuses the record at `at`, or else its event; e is the serial that has to come
-unfoldable pub framing : List ℕ → ℕ → ℕ → Framed
-framing s at e = pick (ltb 0 (firstFit (frameRows s at e))) (Bad (firstFit (frameRows s at e))) (Good (eventAt s at))
+-- the last of the framing's rows, which go by the record's kind
+abbrev pub kindRows : Bool → List ℕ → ℕ → List Row
+kindRows second s at =
+    row (isUnknown second (kindAt s at)) 6
+    ∷ row (isMisfit second (kindAt s at) (lenAt s at)) 4
+    ∷ row (isLate (kindAt s at) at) 7
+    ∷ row (isOtherEdition (kindAt s at) (le 2 s (at + 8))) 8
+    ∷ []
 
--- the record at `at` lies within the trace, and its payload is as long as its kind needs
-pub record Fit (s : List ℕ) (at : ℕ) : Type 0 where
+-- what the record at `at` says
+abbrev pub eventBy : Bool → List ℕ → ℕ → Event
+eventBy second s at = eventOf second (kindAt s at) (payloadAt s at)
+
+-- the first of the framing's rows that refuses the record at `at`, or else its event; e is the serial that has to come
+unfoldable pub framing : Bool → List ℕ → ℕ → ℕ → Framed
+framing second s at e =
+    pick (ltb 0 (firstFit (frameRows second s at e))) (Bad (firstFit (frameRows second s at e))) (Good (eventBy second s at))
+
+-- the record at `at` lies within the trace, its payload is as long as its kind needs, and in edition 2 as long as a session
+pub record Fit (second : Bool) (s : List ℕ) (at : ℕ) : Type 0 where
   pub six : 6 ≤ lenAt s at
   pub room : nextAt s at ≤ length s
-  pub low : getD lows (kindAt s at) 0 ≤ lenAt s at
+  pub low : getD (lows second) (kindAt s at) 0 ≤ lenAt s at
+  pub session : second ≡ true → 8 ≤ lenAt s at

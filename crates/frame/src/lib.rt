@@ -1,11 +1,13 @@
 // One record of a trace: its fields, the framing checks in the document's order, and what its payload says.
 ghost use mathlib.Core.Path.{_≡_};
+ghost use mathlib.Core.Bool.{false};
 ghost use Prim.Native.Nat.{_+_, _≤_};
 ghost use lib.ListN.{length, getD};
-ghost use Rattle.base.specs.Base.{firstFit};
+ghost use lib.Dec.{ltb};
+ghost use Rattle.base.specs.Base.{_or_, firstFit};
 ghost use Rattle.rules.specs.Numbers.{le};
-ghost use Rattle.rules.specs.Records.{lows, eventOf, eventAt, breaks, isUnknown, isMisfit, frameRows};
-ghost use Rattle.frame.specs.Framing.{Fit, framing};
+ghost use Rattle.rules.specs.Records.{nextAt, isSecond, fieldsFrom, lows, eventOf, breaks, isUnknown, isMisfit, isLate, isOtherEdition, frameRows};
+ghost use Rattle.frame.specs.Framing.{kindRows, eventBy, Fit, framing};
 use rules::Event;
 
 // "all little-endian": the numbers that 2, 4 and 8 bytes spell.
@@ -30,7 +32,18 @@ pub fn u64_at(s: &[u8], at: usize) -> u64
     (u32_at(s, at) as u64) + 4294967296 * (u32_at(s, at + 4) as u64)
 }
 
-// Each kind's own reader gets the payload, the part of the trace past the record's eight-byte header.
+// "Edition 2 of the trace begins with a kind 16 record": whether this one does.
+pub fn is_second(s: &[u8]) -> bool
+    ensures { λ r. ⌜ r ≡ isSecond (now (s .entry)) ⌝ }
+{
+    if s.len() < 4 {
+        return false;
+    }
+    u16_at(s, 2) == 16
+}
+
+// Each kind's own reader gets the payload, the part of the trace past the record's eight-byte header. In edition 2 "read and write
+// .. and close .. have the session before their other fields": `from` is where these begin.
 
 // Kind 1, open: session, 2 bytes.
 fn read_open(p: &[u8]) -> Event
@@ -41,27 +54,27 @@ fn read_open(p: &[u8]) -> Event
 }
 
 // Kind 2, read: key, 4; value, 8.
-fn read_read(p: &[u8]) -> Event
-    requires { ⌜ 12 ≤ length (now p) ⌝ }
-    ensures { λ r. ⌜ r ≡ Event.Read (le 4 (now (p .entry)) 0) (le 8 (now (p .entry)) 4) ⌝ }
+fn read_read(p: &[u8], from: usize) -> Event
+    requires { ⌜ from + 12 ≤ length (now p) ⌝ }
+    ensures { λ r. ⌜ r ≡ Event.Read (le 4 (now (p .entry)) from) (le 8 (now (p .entry)) (from + 4)) ⌝ }
 {
-    Event::Read(u32_at(p, 0), u64_at(p, 4))
+    Event::Read(u32_at(p, from), u64_at(p, from + 4))
 }
 
 // Kind 3, write: key, 4; value, 8.
-fn read_write(p: &[u8]) -> Event
-    requires { ⌜ 12 ≤ length (now p) ⌝ }
-    ensures { λ r. ⌜ r ≡ Event.Write (le 4 (now (p .entry)) 0) (le 8 (now (p .entry)) 4) ⌝ }
+fn read_write(p: &[u8], from: usize) -> Event
+    requires { ⌜ from + 12 ≤ length (now p) ⌝ }
+    ensures { λ r. ⌜ r ≡ Event.Write (le 4 (now (p .entry)) from) (le 8 (now (p .entry)) (from + 4)) ⌝ }
 {
-    Event::Write(u32_at(p, 0), u64_at(p, 4))
+    Event::Write(u32_at(p, from), u64_at(p, from + 4))
 }
 
 // Kind 4, close: status, 1 byte.
-fn read_close(p: &[u8]) -> Event
-    requires { ⌜ 1 ≤ length (now p) ⌝ }
-    ensures { λ r. ⌜ r ≡ Event.Close (le 1 (now (p .entry)) 0) ⌝ }
+fn read_close(p: &[u8], from: usize) -> Event
+    requires { ⌜ from + 1 ≤ length (now p) ⌝ }
+    ensures { λ r. ⌜ r ≡ Event.Close (le 1 (now (p .entry)) from) ⌝ }
 {
-    Event::Close(p[0] as u16)
+    Event::Close(p[from] as u16)
 }
 
 // Kind 5, end: number of transactions opened, 2 bytes.
@@ -72,16 +85,27 @@ fn read_end(p: &[u8]) -> Event
     Event::End(u16_at(p, 0))
 }
 
-// What the payload p of a record of this kind says. A note's text has no part in judging.
-fn event_of(kind: u16, p: &[u8]) -> Event
-    requires { ⌜ getD lows kind 0 ≤ length (now p) + 6 ⌝ }
-    ensures { λ r. ⌜ r ≡ eventOf kind (now (p .entry)) ⌝ }
+// Where those fields begin: behind the session's two bytes, or with the payload.
+fn fields_from(second: bool) -> usize
+    ensures { λ r. ⌜ r ≡ fieldsFrom second ⌝ }
 {
+    if second {
+        return 2;
+    }
+    0
+}
+
+// What the payload p of a record of this kind says. A note's text has no part in judging; kind 16 says the edition.
+fn event_of(second: bool, kind: u16, p: &[u8]) -> Event
+    requires { ⌜ getD (lows second) kind 0 ≤ length (now p) + 6 ⌝ }
+    ensures { λ r. ⌜ r ≡ eventOf second kind (now (p .entry)) ⌝ }
+{
+    let from = fields_from(second);
     match kind {
         1 => read_open(p),
-        2 => read_read(p),
-        3 => read_write(p),
-        4 => read_close(p),
+        2 => read_read(p, from),
+        3 => read_write(p, from),
+        4 => read_close(p, from),
         5 => read_end(p),
         6 => Event::Note,
         _ => Event::Other,
@@ -89,13 +113,13 @@ fn event_of(kind: u16, p: &[u8]) -> Event
 }
 
 // The event of the record at `at`, whose framing passed.
-fn event_at(s: &[u8], at: usize) -> Event
-    requires { ⌜ Fit (now s) at ⌝ }
-    ensures { λ r. ⌜ r ≡ eventAt (now (s .entry)) at ⌝ }
+fn event_at(s: &[u8], at: usize, second: bool) -> Event
+    requires { ⌜ Fit second (now s) at ⌝ }
+    ensures { λ r. ⌜ r ≡ eventBy second (now (s .entry)) at ⌝ }
 {
     let a = at + 8;
     let e = at + 2 + u16_at(s, at) as usize;
-    event_of(u16_at(s, at + 2), &s[a..e])
+    event_of(second, u16_at(s, at + 2), &s[a..e])
 }
 
 // Row 5, "serial doesn't follow"; "The first serial is free".
@@ -109,37 +133,102 @@ fn breaks_off(s: &[u8], at: usize, expected: u32) -> bool
     u32_at(s, at + 4) != expected
 }
 
-// Row 6, "unknown kind": the kinds are 1 to 6.
-fn is_unknown(kind: u16) -> bool
-    ensures { λ r. ⌜ r ≡ isUnknown kind ⌝ }
+// Row 6, "unknown kind": the kinds are 1 to 6, but "6 for a note in edition 2", and 16.
+fn is_unknown(second: bool, kind: u16) -> bool
+    ensures { λ r. ⌜ r ≡ isUnknown second kind ⌝ }
 {
+    if kind == 16 {
+        return false;
+    }
     if kind < 1 {
         return true;
+    }
+    if second {
+        return 5 < kind;
     }
     6 < kind
 }
 
-// The least and the greatest length of kinds 1 to 6.
+// The least and the greatest length of kinds 1 to 6, and of 1 to 5 in edition 2.
 const LOWS: [usize; 7] = [0, 8, 18, 18, 7, 8, 6];
 
 const HIGHS: [usize; 7] = [0, 8, 18, 18, 7, 8, 70];
 
-// Row 4, length "not this kind's".
-fn is_misfit(kind: usize, len: usize) -> bool
-    requires { ⌜ kind ≤ 6 ⌝ }
-    ensures { λ r. ⌜ r ≡ isMisfit kind len ⌝ }
+const SECOND_LOWS: [usize; 6] = [0, 8, 20, 20, 9, 8];
+
+const SECOND_HIGHS: [usize; 6] = [0, 8, 20, 20, 9, 8];
+
+fn is_outside(len: usize, low: usize, high: usize) -> bool
+    ensures { λ r. ⌜ r ≡ (ltb len low or ltb high len) ⌝ }
 {
-    if len < LOWS[kind] {
+    if len < low {
         return true;
     }
-    HIGHS[kind] < len
+    high < len
+}
+
+// Row 4, length "not this kind's".
+fn is_misfit(second: bool, kind: usize, len: usize) -> bool
+    requires { ⌜ isUnknown second kind ≡ false ⌝ }
+    ensures { λ r. ⌜ r ≡ isMisfit second kind len ⌝ }
+{
+    if kind == 16 {
+        return len != 8;
+    }
+    if second {
+        return is_outside(len, SECOND_LOWS[kind], SECOND_HIGHS[kind]);
+    }
+    is_outside(len, LOWS[kind], HIGHS[kind])
+}
+
+// Row 7, "a kind 16 that isn't first".
+fn is_late(kind: u16, at: usize) -> bool
+    ensures { λ r. ⌜ r ≡ isLate kind at ⌝ }
+{
+    if kind != 16 {
+        return false;
+    }
+    0 < at
+}
+
+// Row 8, "for another payload" than 2.
+fn is_other_edition(s: &[u8], at: usize, kind: u16) -> bool
+    requires { ⌜ ((kind ≡ 16) → at + 10 ≤ length (now s)) ⌝ }
+    ensures { λ r. ⌜ r ≡ isOtherEdition kind (le 2 (now (s .entry)) (at + 8)) ⌝ }
+{
+    if kind != 16 {
+        return false;
+    }
+    u16_at(s, at + 8) != 2
+}
+
+// The number of the first row that refuses the record at `at` for its kind, 0 where none does: "6, length for its kind (4)", then those of kind 16.
+fn kind_no(s: &[u8], at: usize, second: bool) -> u8
+    requires { ⌜ (at + 8 ≤ length (now s)) × (nextAt (now s) at ≤ length (now s)) ⌝ }
+    ensures { λ r. ⌜ r ≡ firstFit (kindRows second (now (s .entry)) at) ⌝ }
+{
+    let len = u16_at(s, at) as usize;
+    let kind = u16_at(s, at + 2);
+    if is_unknown(second, kind) {
+        return 6;
+    }
+    if is_misfit(second, kind as usize, len) {
+        return 4;
+    }
+    if is_late(kind, at) {
+        return 7;
+    }
+    if is_other_edition(s, at, kind) {
+        return 8;
+    }
+    0
 }
 
 // The number of the first row that refuses the framing of the record at `at`, 0 where none does: "length field present (3), length at least 6
 // (4), bytes present (3), then 5, 6, length for its kind (4)".
-fn frame_no(s: &[u8], at: usize, expected: u32) -> u8
+fn frame_no(s: &[u8], at: usize, expected: u32, second: bool) -> u8
     requires { ⌜ at ≤ length (now s) ⌝ }
-    ensures { λ r. ⌜ r ≡ firstFit (frameRows (now (s .entry)) at expected) ⌝ }
+    ensures { λ r. ⌜ r ≡ firstFit (frameRows second (now (s .entry)) at expected) ⌝ }
 {
     let left = s.len() - at;
     if left < 2 {
@@ -155,14 +244,7 @@ fn frame_no(s: &[u8], at: usize, expected: u32) -> u8
     if breaks_off(s, at, expected) {
         return 5;
     }
-    let kind = u16_at(s, at + 2);
-    if is_unknown(kind) {
-        return 6;
-    }
-    if is_misfit(kind as usize, len) {
-        return 4;
-    }
-    0
+    kind_no(s, at, second)
 }
 
 // What comes of framing a record: its event, or the number of the row that refuses it.
@@ -171,14 +253,14 @@ pub enum Framed {
     Bad(u8),
 }
 
-// The record at `at`, where `expected` is the serial that has to come.
-pub fn frame_at(s: &[u8], at: usize, expected: u32) -> Framed
+// The record at `at`, where `expected` is the serial that has to come, in edition 2 or not.
+pub fn frame_at(s: &[u8], at: usize, expected: u32, second: bool) -> Framed
     requires { ⌜ at ≤ length (now s) ⌝ }
-    ensures { λ r. ⌜ r ≡ framing (now (s .entry)) at expected ⌝ }
+    ensures { λ r. ⌜ r ≡ framing second (now (s .entry)) at expected ⌝ }
 {
-    let no = frame_no(s, at, expected);
+    let no = frame_no(s, at, expected, second);
     if 0 < no {
         return Framed::Bad(no);
     }
-    Framed::Good(event_at(s, at))
+    Framed::Good(event_at(s, at, second))
 }

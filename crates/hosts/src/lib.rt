@@ -38,7 +38,7 @@ pub fn promised_steps(trace: &[u8], out: &mut [u8]) -> Filled
     lister::list_steps(trace, out)
 }
 
-// A trace without notes comes out with its own bytes.
+// A trace without notes comes out with its own bytes; one of edition 2 is refused.
 pub fn own_bytes(trace: &[u8], steps: &mut [u8], out: &mut [u8]) -> Filled
     ensures { λ r. ⌜ OwnBytes (now (trace .entry)) (now (steps .entry)) (now (out .entry)) r (now (out .exit)) ⌝ }
 {

@@ -100,8 +100,8 @@ fn list_history(h: &[u64], out: &mut [u8]) -> Filled
     Filled::Length(n)
 }
 
-// Puts the steps of a trace into a lent buffer: "2 to 11, then 16". What the answer means, and what the buffer then holds, is what the definition gives
-// these bytes and this buffer.
+// Puts the steps of a trace into a lent buffer: "2 to 11, then 16". One of edition 2 has no steps: once it is read, it is refused for its first record. What
+// the answer means, and what the buffer then holds, is what the definition gives these bytes and this buffer.
 pub fn list_steps(trace: &[u8], out: &mut [u8]) -> Filled
     ensures { λ r. ⌜ fillOf (said r) (now (out .exit)) ≡ stepped (now (trace .entry)) (now (out .entry)) ⌝ }
 {
@@ -109,6 +109,11 @@ pub fn list_steps(trace: &[u8], out: &mut [u8]) -> Filled
     let read = trace::read_trace(trace, 0, &mut h);
     match read {
         Out::Bad(no, place) => Filled::Refused(no, place),
-        Out::Good(_, _, _) => list_history(&h, out),
+        Out::Good(_, _, _) => {
+            if frame::is_second(trace) {
+                return Filled::Refused(6, 0);
+            }
+            list_history(&h, out)
+        }
     }
 }

@@ -8,7 +8,8 @@ use lib.ListN.{length}
 use lib.Dec.{ltb}
 use Rattle.base.specs.Base.{pick, nth}
 use Rattle.rules.specs.History.{History}
-use Rattle.rules.specs.Reading.{Stretch, State, Reading, refused, read, begin, textAt, eventIn, refusalNo, after, finished, walk, reading}
+use Rattle.rules.specs.Records.{isSecond}
+use Rattle.rules.specs.Reading.{Stretch, State, Reading, refused, read, begin, textAt, eventIn, met, refusalNo, after, finished, walk, reading}
 use Rattle.rules.specs.Notes.{nowhere, handed, declined, isNote, notedRead, noted}
 use Rattle.rules.specs.declared.Event.{Event}
 use Rattle.rules.specs.declared.Event.the-variants.{Open, Read, Write, Close, End, Note, Other}
@@ -38,7 +39,7 @@ more-in : {n : ℕ} {l : List Stretch} (x : Stretch) → AllIn n l → EndsBy n 
 more-in {n} {l} x a p = record { at = λ k. subst (EndsBy n) (sym (nth-more l x k nowhere)) (one-in n _ x (nth l k nowhere) p (a .at k)) }
 
 -- behind a record that lies within the trace
-text-in : (s : List ℕ) (at : ℕ) (l : List Stretch) → Fit s at → AllIn (length s) l → (e : Event) → AllIn (length s) (l ++ textAt s at e)
+text-in : {second : Bool} (s : List ℕ) (at : ℕ) (l : List Stretch) → Fit second s at → AllIn (length s) l → (e : Event) → AllIn (length s) (l ++ textAt s at e)
 unfolding textAt
 text-in s at l f a (Open n) = rw (append-nil l) a
 text-in s at l f a (Read x v) = rw (append-nil l) a
@@ -65,8 +66,8 @@ unfolding pick
 kept-pick s true x y f g = f refl
 kept-pick s false x y f g = g refl
 
-passed-fit : (s : List ℕ) (st : State) → ltb 0 (refusalNo s st) ≡ false → Fit s (st .at)
-unfolding refusalNo noAt
+passed-fit : (s : List ℕ) (st : State) → ltb 0 (refusalNo s st) ≡ false → Fit (isSecond s) s (st .at)
+unfolding refusalNo met noAt
 passed-fit s st t = fit-at s (st .at) (st .serial) (st .history) t
 
 kept-walk : (f : ℕ) (s : List ℕ) (st : State) → AllIn (length s) (st .notes) → Kept s (walk f s st)

@@ -17,8 +17,9 @@ use Rattle.rules.proofs.Origin.{origin-less}
 use Rattle.rules.specs.Levels.{isStart, isSession, isRead, isRival, forced, reasons}
 use Rattle.rules.specs.Outcome.{Pair, findings, pairsOf, pairs, order, isAccepted}
 use Rattle.demand1.specs.Lawful.{LawfulHistory}
-use Rattle.demand1.specs.Rows.{Check, numberOf, lengthField, lengthLow, bytesThere, serialFollows, kindKnown, lengthFits, inPlace, valueLawful, withinLimit, newWrite, Refuses, too-long, at-record, bytes-behind}
+use Rattle.demand1.specs.Rows.{Refuses, too-long, at-record, bytes-behind}
 use Rattle.demand1.proofs.Lawful.{lawful-history}
+use Rattle.demand1.proofs.Refusals.{number-most}
 use Rattle.demand1.proofs.Readings.{reached-within, refuses-iff, reads-iff}
 use Rattle.text.specs.Lines.{rejectedLine, acceptedLine}
 use Rattle.text.specs.Answer.{findingText, pairText, blockText, readingText, answerText}
@@ -134,18 +135,6 @@ module _ {h : History} (ok : LawfulHistory h) where
 -- ── the text ──
 
 -- a refusal's number and place are small
-number-most : (c : Check) → numberOf c ≤ 10
-number-most lengthField = omega arith
-number-most lengthLow = omega arith
-number-most bytesThere = omega arith
-number-most serialFollows = omega arith
-number-most kindKnown = omega arith
-number-most lengthFits = omega arith
-number-most inPlace = omega arith
-number-most valueLawful = omega arith
-number-most withinLimit = omega arith
-number-most newWrite = omega arith
-
 refused-small : {s : List ℕ} {n p : ℕ} → Refuses s n p → (n ≤ 11) × (p ≤ 32768)
 refused-small (too-long l) = (omega arith, omega arith)
 refused-small (at-record {c = c} l r f) = (omega (arith, number-most c), omega (arith, reached-within r))

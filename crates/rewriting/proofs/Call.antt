@@ -1,11 +1,11 @@
 -- The whole call: a trace whose steps are refused, and one whose steps were listed.
 use Prim.Native.Nat.{ℕ, _≤_}
 use mathlib.Core.Path.{_≡_, refl, ap}
-use mathlib.Core.Bool.{false≢true}
+use mathlib.Core.Bool.{Bool, false≢true}
 use mathlib.Core.List.{List}
 use lib.ListN.{length, take}
 use Rattle.base.specs.Base.{pick}
-use Rattle.rules.specs.Records.{serialAt}
+use Rattle.rules.specs.Records.{serialAt, isSecond}
 use Rattle.rules.specs.Reading.{Reading, refused, read, reading, Stretch}
 use Rattle.rules.specs.History.{History}
 use Rattle.demand1.proofs.Readings.{has-record, reads-iff}
@@ -28,10 +28,10 @@ no-refusal e = false≢true (ap (λ (x : Fill). x .answer .isRefused) e)
 pub data IsRead (x : Reading) : Type 0 where
   is-read : (h : History) (notes : List Stretch) → x ≡ read h notes → IsRead x
 
-was-read : (x : Reading) (o : List ℕ) {n : ℕ} {b : List ℕ} → fillOf (answering n) b ≡ into (stepsRead x) o → IsRead x
+was-read : (second : Bool) (x : Reading) (o : List ℕ) {n : ℕ} {b : List ℕ} → fillOf (answering n) b ≡ into (stepsRead second x) o → IsRead x
 unfolding stepsRead into
-was-read (refused m p) o e = absurd (no-refusal e)
-was-read (read h notes) o e = is-read h notes refl
+was-read second (refused m p) o e = absurd (no-refusal e)
+was-read second (read h notes) o e = is-read h notes refl
 
 -- so it has a record
 read-record : (s : List ℕ) → IsRead (reading s) → 8 ≤ length s
@@ -59,7 +59,7 @@ module _ (r : Filled) (s x x₂ : List ℕ) (e : fillOf (said r) x₂ ≡ steppe
 
     pub serial-there : 8 ≤ length s
     unfolding stepped
-    serial-there = read-record s (was-read (reading s) x listed)
+    serial-there = read-record s (was-read (isSecond s) (reading s) x listed)
 
     pub front-there : n ≤ length x₂
     front-there = stepped-within (answering n) x₂ s x listed

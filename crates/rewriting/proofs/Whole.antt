@@ -1,6 +1,7 @@
 -- Whole inputs: the steps of a trace always have room.
 use Prim.Native.Nat.{ℕ, _-_, _<_, _≤_}
 use mathlib.Core.Path.{_≡_, refl, sym, _∙_}
+use mathlib.Core.Bool.{true, false}
 use mathlib.Core.List.{List}
 use native.Mathlib.Omega.{arith}
 use lib.Dec.{ltb}
@@ -8,44 +9,43 @@ use lib.ListN.{length, take, drop, length-drop}
 use borrow.Author.Tests.{lt-ltb, le-ltb}
 use lib.Seq.{take-all}
 use Rattle.base.specs.Base.{pick, joined}
-use Rattle.base.proofs.Tests.{pick-on, pick-off}
+use Rattle.base.proofs.Tests.{ifso, pick-on, pick-off}
 use Rattle.rules.specs.Numbers.{le, over}
 use Rattle.rules.specs.History.{History}
+use Rattle.rules.specs.Records.{isSecond}
 use Rattle.rules.specs.Reading.{Reading, Stretch, refused, read, reading}
 use Rattle.demand1.proofs.Lawful.{lawful-history}
 use Rattle.rules.proofs.Numbers.{over-front}
 use Rattle.demand1.proofs.Readings.{reads-iff}
-use Rattle.writing.specs.Filling.{refusing, answering, said, fillOf, into}
+use Rattle.writing.specs.Filling.{refusing, answering, said, fillOf}
 use Rattle.writing.specs.Steps.{stepBytes}
 use Rattle.writing.specs.Writing.{written, writtenGiven}
-use Rattle.writing.specs.Listing.{historySteps, stepsRead, stepped}
+use Rattle.writing.specs.Listing.{historySteps, stepped}
 use Rattle.writing.specs.Rewriting.{again, rewritten, rewrittenRead, rewrittenWhole}
 use Rattle.writing.specs.declared.Filled.{Filled}
 use Rattle.writing.specs.declared.Filled.the-variants.{Refused}
 use Rattle.writing.proofs.Filling.{into-fits}
+use Rattle.writing.proofs.Listing.{listed-refused, listed-second, listed-first}
 use Rattle.writing.proofs.Listed.{listing-length}
 use Rattle.writing.proofs.Within.{written-within, rewritten-within}
 use Rattle.rewriting.specs.Rewriting.{Rewrote, Gives}
 
 -- 16 bytes a step, of at most 2 * 127 + 1,024
-listed-read : (s x : List ℕ) (h : History) (notes : List Stretch) → reading s ≡ read h notes → 20448 ≤ length x
+listed-whole : (s x : List ℕ) (h : History) (notes : List Stretch) → reading s ≡ read h notes → isSecond s ≡ false → 20448 ≤ length x
     → stepped s x ≡ fillOf (answering (length (joined stepBytes (historySteps h)))) (over (joined stepBytes (historySteps h)) x)
-unfolding stepped stepsRead
-listed-read s x h notes e l =
+listed-whole s x h notes e f l =
     let few = lawful-history (reads-iff s h notes .0 e) in
-    rw e (into-fits (joined stepBytes (historySteps h)) x (omega (arith, listing-length s h notes e, few .few-txs, few .few-ops)))
-
-listed-refused : (s x : List ℕ) (n p : ℕ) → reading s ≡ refused n p → stepped s x ≡ fillOf (refusing n p) x
-unfolding stepped stepsRead into
-listed-refused s x n p e = rw e
+    listed-first s x e f ∙ into-fits (joined stepBytes (historySteps h)) x (omega (arith, listing-length s f h notes e, few .few-txs, few .few-ops))
 
 whole : (s x out : List ℕ) → 20448 ≤ length x → rewritten s x out ≡ rewrittenWhole s out
 unfolding rewritten again rewrittenWhole rewrittenRead pick
 whole s x out l = by (reading s) refl
   where
     by : (r : Reading) → reading s ≡ r → rewritten s x out ≡ rewrittenWhole s out
-    by (refused n p) e = rw (listed-refused s x n p e, e)
-    by (read h notes) e = rw (listed-read s x h notes e l, over-front (joined stepBytes (historySteps h)) x, e)
+    by (refused n p) e = rw (listed-refused s x e, e)
+    by (read h notes) e =
+        ifso (isSecond s) (λ (t : isSecond s ≡ true). rw (listed-second s x e t, e, t))
+        (λ (f : isSecond s ≡ false). rw (listed-whole s x h notes e f l, over-front (joined stepBytes (historySteps h)) x, e, f))
 
 pub gives-whole : {r : Filled} (s x x₂ out out₂ : List ℕ) → 20448 ≤ length x → Rewrote r s x x₂ out out₂ → Gives r out₂ (rewrittenWhole s out)
 gives-whole {r} s x x₂ out out₂ l w = record { is = w .is ∙ whole s x out l; within = rewritten-within (said r) out₂ s x out (w .is) }

@@ -3,6 +3,7 @@ pub mod Traces
 pub mod History
 pub mod Origin
 pub mod Committed
+pub mod Meeting
 pub mod Walking
 pub mod Kind
 pub mod Lists

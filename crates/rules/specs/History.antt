@@ -54,9 +54,20 @@ size h = txCount h + 1
 unfoldable pub isOpen : History → ℕ → Bool
 isOpen h t = eqb (tx h t .status) 3
 
--- "Transactions do not overlap in the trace": the one that is open is the latest; 0 where none is
+-- edition 1, "Transactions do not overlap in the trace": the one that is open is the latest; 0 where none is
 unfoldable pub current : History → ℕ
 current h = pick (isOpen h (txCount h)) (txCount h) 0
+
+-- edition 2, "Each session may have one transaction open": the open one of session n; 0 where none is
+unfoldable pub isOpenOf : History → ℕ → ℕ → Bool
+isOpenOf h n t = isOpen h t and eqb (tx h t .session) n
+
+unfoldable pub openOf : History → ℕ → ℕ
+openOf h n = last (isOpenOf h n) (size h)
+
+-- "any open", of whatever session; 0 where none is
+unfoldable pub anyOpen : History → ℕ
+anyOpen h = last (isOpen h) (size h)
 
 -- operation i is a write of the value v to the key x; the number of the last such, 0 where no write has (x, v). Row 10 lets in one at most, so that the last
 -- is the only one

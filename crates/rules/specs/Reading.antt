@@ -1,16 +1,17 @@
--- Document 01, "When the judge declines", rows 2 to 11: how a trace is read, record by record, into a history and its notes.
+-- Document 01, "When the judge declines", rows 2 to 11: how a trace is read, record by record, into a history and its notes. Document 02, "overlapping
+-- transactions": in either edition.
 use Prim.Native.Nat.{ℕ, zero, suc, _+_, _-_}
 use mathlib.Core.Bool.{Bool, true, false, not}
 use mathlib.Core.List.{List, [], _∷_, _++_}
 use lib.ListN.{length}
 use lib.Dec.{ltb, leb, eqb}
 use Rattle.base.specs.Base.{pick, Row, row, firstFit}
-use Rattle.rules.specs.History.{History, txCount, opCount, empty, opened, closed, withOp, current, writeOf}
-use Rattle.rules.specs.Records.{lenAt, nextAt, nextSerial, eventAt, frameRows}
+use Rattle.rules.specs.History.{History, txCount, opCount, empty, opened, closed, withOp, current, openOf, anyOpen, writeOf}
+use Rattle.rules.specs.Records.{lenAt, nextAt, nextSerial, isSecond, sessionAt, eventAt, frameRows}
 use Rattle.rules.specs.declared.Event.{Event}
 use Rattle.rules.specs.declared.Event.the-variants.{Open, Read, Write, Close, End, Note, Other}
 
--- ── what an event does to a history, where t is the open transaction that it belongs to, 0 where there is none ──
+-- ── what an event does to a history, where t is the open transaction that it meets, 0 where there is none ──
 
 -- row 7: "open inside a transaction; read, write or close outside one; end inside one"
 unfoldable pub misplaced : ℕ → Event → Bool
@@ -106,10 +107,23 @@ begin = record { at = 0; serial = 0; history = empty; notes = [] }
 abbrev pub eventIn : List ℕ → State → Event
 eventIn s st = eventAt s (st .at)
 
+-- the open transaction that an event of edition 2 meets, where n is its record's session, 0 where there is none: "an operation or close of a session with
+-- none open, an open in a session with one or an end with any open"
+unfoldable pub metBy : History → ℕ → Event → ℕ
+metBy h n e = pick (isEnd e) (anyOpen h) (openOf h n)
+
+-- .. that any event meets, in edition 2 or not: in edition 1 the open one
+unfoldable pub metIn : Bool → History → ℕ → Event → ℕ
+metIn second h n e = pick second (metBy h n e) (current h)
+
+-- .. that the record meets which a state has come to, in the trace's own edition
+unfoldable pub met : List ℕ → State → ℕ
+met s st = metIn (isSecond s) (st .history) (sessionAt s (st .at)) (eventIn s st)
+
 -- the number of the first row that refuses that record; 0 where none does
 unfoldable pub refusalNo : List ℕ → State → ℕ
 refusalNo s st =
-    firstFit (frameRows s (st .at) (st .serial) ++ stepRows (st .history) (current (st .history)) (eventIn s st))
+    firstFit (frameRows (isSecond s) s (st .at) (st .serial) ++ stepRows (st .history) (met s st) (eventIn s st))
 
 -- the state behind that record
 unfoldable pub after : List ℕ → State → State
@@ -117,7 +131,7 @@ after s st =
     record {
       at = nextAt s (st .at);
       serial = nextSerial s (st .at);
-      history = entered (st .history) (current (st .history)) (eventIn s st);
+      history = entered (st .history) (met s st) (eventIn s st);
       notes = st .notes ++ textAt s (st .at) (eventIn s st);
     }
 

@@ -1,9 +1,10 @@
--- Document 01, "Records": a record is a 2-byte length, a 2-byte kind, a 4-byte serial and a payload. The length counts everything after itself.
+-- Document 01, "Records": a record is a 2-byte length, a 2-byte kind, a 4-byte serial and a payload. The length counts everything after itself. Document 02,
+-- "overlapping transactions": the two editions of the trace.
 use Prim.Native.Nat.{ℕ, _+_, _%_, _^_}
-use mathlib.Core.Bool.{Bool, not}
+use mathlib.Core.Bool.{Bool, true, false, not}
 use mathlib.Core.List.{List, [], _∷_}
 use lib.ListN.{length, getD}
-use lib.Dec.{ltb, eqb}
+use lib.Dec.{ltb, leb, eqb}
 use Rattle.base.specs.Base.{_and_, _or_, pick, Row, row}
 use Rattle.rules.specs.Numbers.{le, part}
 use Rattle.rules.specs.declared.Event.{Event}
@@ -30,44 +31,80 @@ nextAt s at = at + 2 + lenAt s at
 abbrev pub nextSerial : List ℕ → ℕ → ℕ
 nextSerial s at = (serialAt s at + 1) % 2 ^ 32
 
--- the table's column "length": the least and the greatest of kinds 1 to 6
-abbrev pub lows : List ℕ
-lows = 0 ∷ 8 ∷ 18 ∷ 18 ∷ 7 ∷ 8 ∷ 6 ∷ []
+-- ── the editions ──
 
-abbrev pub highs : List ℕ
-highs = 0 ∷ 8 ∷ 18 ∷ 18 ∷ 7 ∷ 8 ∷ 70 ∷ []
+-- "Edition 2 of the trace begins with a kind 16 record": the first record's kind is there and is 16. "Any other trace is edition 1"
+unfoldable pub isSecond : List ℕ → Bool
+isSecond s = leb 4 (length s) and eqb (kindAt s 0) 16
 
--- the table's columns "kind" and "payload", of the payload p
-unfoldable pub eventOf : ℕ → List ℕ → Event
-eventOf kind p =
+-- "Read and write .. and close .. have the session before their other fields": how far these stand from the payload's first byte, in edition 2 or not
+abbrev pub fieldsFrom : Bool → ℕ
+fieldsFrom true = 2
+fieldsFrom false = 0
+
+-- the first of those fields of the record at `at`
+abbrev pub fieldsAt : List ℕ → ℕ → ℕ
+fieldsAt s at = at + 8 + fieldsFrom (isSecond s)
+
+-- the session of an open, a read, a write or a close of edition 2, which is their payload's first field
+abbrev pub sessionAt : List ℕ → ℕ → ℕ
+sessionAt s at = le 2 s (at + 8)
+
+-- ── kinds, lengths and payloads, in edition 2 or not ──
+
+-- the table's column "length": the least and the greatest of kinds 1 to 6; in edition 2 "read and write (length 20) and close (length 9)"
+abbrev pub lows : Bool → List ℕ
+lows false = 0 ∷ 8 ∷ 18 ∷ 18 ∷ 7 ∷ 8 ∷ 6 ∷ []
+lows true = 0 ∷ 8 ∷ 20 ∷ 20 ∷ 9 ∷ 8 ∷ []
+
+abbrev pub highs : Bool → List ℕ
+highs false = 0 ∷ 8 ∷ 18 ∷ 18 ∷ 7 ∷ 8 ∷ 70 ∷ []
+highs true = 0 ∷ 8 ∷ 20 ∷ 20 ∷ 9 ∷ 8 ∷ []
+
+-- the table's columns "kind" and "payload", of the payload p. A record of kind 16 says the edition and nothing else
+unfoldable pub eventOf : Bool → ℕ → List ℕ → Event
+eventOf second kind p =
     pick (eqb kind 1) (Open (le 2 p 0))
-    (pick (eqb kind 2) (Read (le 4 p 0) (le 8 p 4))
-    (pick (eqb kind 3) (Write (le 4 p 0) (le 8 p 4))
-    (pick (eqb kind 4) (Close (le 1 p 0))
+    (pick (eqb kind 2) (Read (le 4 p (fieldsFrom second)) (le 8 p (fieldsFrom second + 4)))
+    (pick (eqb kind 3) (Write (le 4 p (fieldsFrom second)) (le 8 p (fieldsFrom second + 4)))
+    (pick (eqb kind 4) (Close (le 1 p (fieldsFrom second)))
     (pick (eqb kind 5) (End (le 2 p 0))
     (pick (eqb kind 6) Note Other)))))
 
 unfoldable pub eventAt : List ℕ → ℕ → Event
-eventAt s at = eventOf (kindAt s at) (payloadAt s at)
+eventAt s at = eventOf (isSecond s) (kindAt s at) (payloadAt s at)
+
+-- ── the order of checks ──
 
 -- "The first serial is free": the first record is the one at offset 0. e is the serial that has to come
 unfoldable pub breaks : List ℕ → ℕ → ℕ → Bool
 breaks s at e = ltb 0 at and not (eqb (serialAt s at) e)
 
--- kinds 1 to 6
-unfoldable pub isUnknown : ℕ → Bool
-isUnknown kind = ltb kind 1 or ltb 6 kind
+-- kinds 1 to 6; "6 for a note in edition 2"; kind 16 is known in both
+unfoldable pub isUnknown : Bool → ℕ → Bool
+isUnknown second kind = not (eqb kind 16) and (ltb kind 1 or ltb (pick second 5 6) kind)
 
-unfoldable pub isMisfit : ℕ → ℕ → Bool
-isMisfit kind len = ltb len (getD lows kind 0) or ltb (getD highs kind 0) len
+-- "a kind 16 record, payload 2 (2 bytes, length 8)"
+unfoldable pub isMisfit : Bool → ℕ → ℕ → Bool
+isMisfit second kind len =
+    pick (eqb kind 16) (not (eqb len 8)) (ltb len (getD (lows second) kind 0) or ltb (getD (highs second) kind 0) len)
 
--- "Within a record: length field present (3), length at least 6 (4), bytes present (3), then 5, 6, length for its kind (4)"
-unfoldable pub frameRows : List ℕ → ℕ → ℕ → List Row
-frameRows s at e =
+-- "in either edition, .. a kind 16 that isn't first"; ".. another payload"
+unfoldable pub isLate : ℕ → ℕ → Bool
+isLate kind at = eqb kind 16 and ltb 0 at
+
+unfoldable pub isOtherEdition : ℕ → ℕ → Bool
+isOtherEdition kind n = eqb kind 16 and not (eqb n 2)
+
+-- "Within a record: length field present (3), length at least 6 (4), bytes present (3), then 5, 6, length for its kind (4)", and of a kind 16 record 7 and 8
+unfoldable pub frameRows : Bool → List ℕ → ℕ → ℕ → List Row
+frameRows second s at e =
     row (ltb (length s) (at + 2)) 3
     ∷ row (ltb (lenAt s at) 6) 4
     ∷ row (ltb (length s) (nextAt s at)) 3
     ∷ row (breaks s at e) 5
-    ∷ row (isUnknown (kindAt s at)) 6
-    ∷ row (isMisfit (kindAt s at) (lenAt s at)) 4
+    ∷ row (isUnknown second (kindAt s at)) 6
+    ∷ row (isMisfit second (kindAt s at) (lenAt s at)) 4
+    ∷ row (isLate (kindAt s at) at) 7
+    ∷ row (isOtherEdition (kindAt s at) (le 2 s (at + 8))) 8
     ∷ []

@@ -44,6 +44,19 @@ ends n = item 5 (bytes 2 n)
 abbrev pub note : List ℕ → Item
 note p = item 6 p
 
+-- edition 2: the record that it begins with; a read, a write and a close, which "have the session before their other fields"
+abbrev pub edition : ℕ → Item
+edition n = item 16 (bytes 2 n)
+
+abbrev pub rOf : ℕ → ℕ → ℕ → Item
+rOf s x v = item 2 (bytes 2 s ++ bytes 4 x ++ bytes 8 v)
+
+abbrev pub wOf : ℕ → ℕ → ℕ → Item
+wOf s x v = item 3 (bytes 2 s ++ bytes 4 x ++ bytes 8 v)
+
+abbrev pub closesOf : ℕ → ℕ → Item
+closesOf s c = item 4 (bytes 2 s ++ bytes 1 c)
+
 -- a transaction of session s with status c; a committed one, an unanswered one
 abbrev pub block : ℕ → ℕ → List Item → List Item
 block s c l = opens s ∷ (l ++ (closes c ∷ []))
@@ -57,6 +70,10 @@ U s l = block s 2 l
 -- n transactions and the end, with serials from 0
 abbrev pub whole : ℕ → List Item → List ℕ
 whole n l = trace 0 (l ++ (ends n ∷ []))
+
+-- the same in edition 2
+abbrev pub overlapping : ℕ → List Item → List ℕ
+overlapping n l = trace 0 (edition 2 ∷ (l ++ (ends n ∷ [])))
 
 -- a buffer of n bytes
 abbrev pub room : ℕ → List ℕ

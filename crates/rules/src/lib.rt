@@ -1,6 +1,7 @@
 // The answers and events that code and definitions share. specs/ says what they mean; nothing here computes.
 
-// A record's kind with what its payload says.
+// A record's kind with what its payload says, but for the session that a read, a write or a close of edition 2 has. Other is the record that says the
+// edition, which does nothing to the history, and any unknown kind.
 pub enum Event {
     Open(u16),
     Read(u32, u64),

@@ -15,8 +15,8 @@ pub enum Next {
     Refuse(u8),
 }
 
-// "Transactions do not overlap in the trace": the one that is open is the latest; 0 where none is.
-fn current(h: &[u64]) -> usize
+// Edition 1, "Transactions do not overlap in the trace": the one that is open is the latest; 0 where none is.
+pub fn current(h: &[u64]) -> usize
     requires { ⌜ Held (now h) ⌝ }
     ensures { λ r. ⌜ Below r (latest (historyOf (now (h .entry)))) (txCount (historyOf (now (h .entry))) + 1) ⌝ }
 {
@@ -118,12 +118,11 @@ fn take_end(h: &[u64], t: usize, n: u16) -> Next
     Next::Done
 }
 
-// The step of any event. A note "has no part in judging".
-pub fn take(event: Event, h: &mut [u64]) -> Next
-    requires { ⌜ Held (now h) ⌝ }
-    ensures { λ r. ⌜ Took r (now (h .exit)) (now (h .entry)) (latest (historyOf (now (h .entry)))) event ⌝ }
+// The step of any event, where t is the open transaction that it meets. A note "has no part in judging".
+pub fn take_in(event: Event, t: usize, h: &mut [u64]) -> Next
+    requires { ⌜ Held (now h) × (t ≤ txCount (historyOf (now h))) ⌝ }
+    ensures { λ r. ⌜ Took r (now (h .exit)) (now (h .entry)) t event ⌝ }
 {
-    let t = current(h);
     match event {
         Event::Open(s) => take_open(h, t, s),
         Event::Read(x, v) => take_read(h, t, x, v),
@@ -133,4 +132,13 @@ pub fn take(event: Event, h: &mut [u64]) -> Next
         Event::Note => Next::Text,
         Event::Other => Next::Go,
     }
+}
+
+// The same in edition 1.
+pub fn take(event: Event, h: &mut [u64]) -> Next
+    requires { ⌜ Held (now h) ⌝ }
+    ensures { λ r. ⌜ Took r (now (h .exit)) (now (h .entry)) (latest (historyOf (now (h .entry)))) event ⌝ }
+{
+    let t = current(h);
+    take_in(event, t, h)
 }

@@ -1,29 +1,31 @@
 -- The loop over the records: the reading from here on is the whole reading.
 use Prim.Native.Nat.{ℕ, suc, _+_, _-_, _≤_, _<_}
 use mathlib.Core.Path.{_≡_, refl, ap, sym, _∙_}
-use mathlib.Core.Bool.{true, false, false≢true}
+use mathlib.Core.Bool.{Bool, true, false, false≢true}
 use mathlib.Core.Logic.{⊎-elim}
 use mathlib.Core.List.{List, [], _++_, append-nil}
 use native.Mathlib.Omega.{arith}
-use lib.ListN.{length}
+use lib.ListN.{length, replicate, length-replicate}
 use lib.Dec.{ltb}
 use borrow.Author.Tests.{lt-ltb, le-ltb}
 use Rattle.base.specs.Base.{pick}
 use Rattle.base.proofs.Tests.{ifso, pick-on, pick-off}
-use Rattle.rules.specs.History.{History, current, empty}
+use Rattle.rules.specs.History.{History, txCount, empty}
 use Rattle.rules.specs.Records.{nextAt, eventAt}
-use Rattle.rules.specs.Reading.{Stretch, State, refused, read, begin, isEnd, textAt, entered, refusalNo, after, finished, walk, reading}
+use Rattle.rules.specs.Reading.{Stretch, State, refused, read, begin, isEnd, textAt, entered, metIn, met, refusalNo, after, finished, walk, reading}
 use Rattle.rules.specs.declared.Event.{Event}
 use Rattle.rules.proofs.Walking as turns
 use Rattle.rules.specs.declared.Event.the-variants as E
 use Rattle.table.specs.Table.{historyOf, Held, HoldsHistory, cleared, Becomes}
 use Rattle.steps.specs.Steps.{put}
+use Rattle.sessions.specs.Open.{Beside}
+use Rattle.sessions.proofs.Kept.{kept-none}
 use Rattle.trace.specs.declared.Tally.{Tally}
 use Rattle.trace.specs.declared.Out.{Out}
 use Rattle.trace.specs.declared.Out.the-variants.{Bad}
 use Rattle.trace.specs.declared.Turn.{Turn}
 use Rattle.trace.specs.declared.Turn.the-variants.{More, Stop}
-use Rattle.trace.specs.Turns.{tally, stateAt, noAt, finish, putAt, enteredAt, Turned}
+use Rattle.trace.specs.Turns.{tally, stateAt, noAt, metAt, finish, putAt, enteredAt, Turned}
 use Rattle.trace.specs.Trace.{good, answered, recordFrom, recorded, TraceRead}
 use Rattle.trace.proofs.Tallies.{tally-none, tally-all, one-note}
 use Rattle.trace.proofs.Turning.{fit-at, Onward, Refused, Ended, more-says, stop-says}
@@ -36,32 +38,32 @@ module _ (f : ℕ) (s g : List ℕ) (at serial : ℕ) (h : History) (notes : Lis
   next = after s (stateAt at serial h notes)
 
   abbrev table : List ℕ
-  table = put g (current h) (eventAt s at)
+  table = put g (metAt s at h) (eventAt s at)
 
   module _ (t : ltb 0 (noAt s at serial h) ≡ true) where
     walk-refused : walk (suc f) s (stateAt at serial h notes) ≡ refused (noAt s at serial h) at
-    unfolding noAt refusalNo
+    unfolding noAt refusalNo met
     walk-refused = turns.walk-refused s (stateAt at serial h notes) f t
 
     record-refused : recordFrom (suc f) s (stateAt at serial h notes) g ≡ g
-    unfolding recordFrom noAt refusalNo pick
+    unfolding recordFrom noAt refusalNo met metIn pick
     record-refused = rw t
 
   module _ (t : ltb 0 (noAt s at serial h) ≡ false) where
     walk-end : isEnd (eventAt s at) ≡ true → walk (suc f) s (stateAt at serial h notes) ≡ finished s next
-    unfolding noAt refusalNo
+    unfolding noAt refusalNo met
     walk-end u = turns.walk-end s (stateAt at serial h notes) f t u
 
     record-end : isEnd (eventAt s at) ≡ true → recordFrom (suc f) s (stateAt at serial h notes) g ≡ table
-    unfolding recordFrom noAt refusalNo pick
+    unfolding recordFrom noAt refusalNo met metIn pick
     record-end u = rw (t, u)
 
     walk-on : isEnd (eventAt s at) ≡ false → walk (suc f) s (stateAt at serial h notes) ≡ walk f s next
-    unfolding noAt refusalNo
+    unfolding noAt refusalNo met
     walk-on u = turns.walk-on s (stateAt at serial h notes) f t u
 
     record-on : isEnd (eventAt s at) ≡ false → recordFrom (suc f) s (stateAt at serial h notes) g ≡ recordFrom f s next table
-    unfolding recordFrom noAt refusalNo pick
+    unfolding recordFrom noAt refusalNo met metIn pick
     record-on u = rw (t, u)
 
 -- the end record is no note
@@ -83,8 +85,8 @@ module _ (s : List ℕ) (k at serial : ℕ) (h : History) (notes : List Stretch)
       ifso (ltb (nextAt s at) (length s)) (λ t. rw t)
       (λ t. rw (t, end-text s at (eventAt s at) u, append-nil notes, q))
 
-  end-history : {x : History} {n : List Stretch} → finished s (after s (stateAt at serial h notes)) ≡ read x n → entered h (current h) (eventAt s at) ≡ x
-  unfolding finished after
+  end-history : {x : History} {n : List Stretch} → finished s (after s (stateAt at serial h notes)) ≡ read x n → entered h (metAt s at h) (eventAt s at) ≡ x
+  unfolding finished after met metIn
   end-history {x} {n} q =
       ifso (ltb (nextAt s at) (length s))
       (λ t.
@@ -92,7 +94,7 @@ module _ (s : List ℕ) (k at serial : ℕ) (h : History) (notes : List Stretch)
       let z : _≡_ {A = ℕ} 0 1 = cc in
       absurd (omega arith))
       (λ t.
-      let w : read (entered h (current h) (eventAt s at)) (notes ++ textAt s at (eventAt s at)) ≡ read x n = sym (pick-off _ _ _ t) ∙ q in
+      let w : read (entered h (metAt s at h) (eventAt s at)) (notes ++ textAt s at (eventAt s at)) ≡ read x n = sym (pick-off _ _ _ t) ∙ q in
       cc)
 
 -- ── the loop ──
@@ -124,6 +126,10 @@ going-first s k g b l =
       whole = rw (t, b .is);
       words = rw (b .is);
     }
+
+-- no session has a transaction open
+pub beside-first : (second : Bool) {g : List ℕ} → HoldsHistory g empty → Beside second (replicate 256 0) (historyOf g)
+beside-first second b = record { room = length-replicate {A = ℕ} 256 0; kept = λ t. kept-none _ (ap (λ (h : History). txCount h) (b .is)) }
 
 -- row 2
 pub too-long : (s : List ℕ) (k : ℕ) (g₀ g : List ℕ) → Becomes g (cleared g₀) empty → 32768 < length s → TraceRead (Bad 2 32768) g g₀ s k
@@ -198,12 +204,12 @@ module _ (s : List ℕ) (k : ℕ) (g₁ : List ℕ) (at serial : ℕ) (c : Tally
   going-less q = let h = room q in omega (arith, h .0, h .1)
 
   pub going-more : {at2 serial2 : ℕ} {c2 : Tally} → r ≡ More at2 serial2 c2 → Going s k g₁ at2 serial2 c2 g2
-  unfolding putAt enteredAt pick after
+  unfolding putAt enteredAt pick after met metIn
   going-more {at2} {serial2} {c2} q =
       let x = onward q in
       let h = room q in
-      let table-is : g2 ≡ put g (current (historyOf g)) (eventAt s at) = rw (x .passes) at (t .words) in
-      let history-is : historyOf g2 ≡ entered (historyOf g) (current (historyOf g)) (eventAt s at) = rw (x .passes) at (t .history) in
+      let table-is : g2 ≡ put g (metAt s at (historyOf g)) (eventAt s at) = rw (x .passes) at (t .words) in
+      let history-is : historyOf g2 ≡ entered (historyOf g) (metAt s at (historyOf g)) (eventAt s at) = rw (x .passes) at (t .history) in
       record {
         held = t .held;
         within = h .1;

@@ -1,24 +1,24 @@
 -- One record: from the framing and the step to the turn, and what a turn says.
 use Prim.Native.Nat.{ℕ, _+_, _-_, _≤_, _<_}
-use mathlib.Core.Path.{_≡_, refl, ap, sym, _∙_, subst}
-use mathlib.Core.Bool.{true, false}
+use mathlib.Core.Path.{_≡_, refl, sym, _∙_, subst}
+use mathlib.Core.Bool.{Bool, true, false}
 use mathlib.Core.Logic.{_⊎_, inl, inr}
 use mathlib.Core.List.{List, [], _∷_}
 use native.Mathlib.Omega.{arith}
 use lib.Dec.{ltb}
 use borrow.Author.Tests.{ltb-true, ltb-false, lt-ltb}
-use Rattle.base.specs.Base.{pick, firstFit}
+use Rattle.base.specs.Base.{pick}
 use Rattle.base.proofs.Tests.{ifso, pick-on, pick-off}
-use Rattle.rules.specs.History.{History, current}
-use Rattle.rules.specs.Records.{lenAt, nextAt, nextSerial, eventAt}
-use Rattle.rules.specs.Reading.{isEnd, textAt, stepRows, refusalNo}
+use Rattle.rules.specs.History.{History}
+use Rattle.rules.specs.Records.{lenAt, nextAt, nextSerial, isSecond, sessionAt, eventAt}
+use Rattle.rules.specs.Reading.{isEnd, textAt, stepRows, metIn, met, refusalNo}
 use Rattle.rules.specs.declared.Event.{Event}
 use Rattle.rules.specs.declared.Event.the-variants as E
 use Rattle.frame.specs.Framing.{Fit, framing}
 use Rattle.frame.specs.declared.Framed.{Framed}
 use Rattle.frame.specs.declared.Framed.the-variants as F
 use Rattle.base.proofs.Rows.{fit-append}
-use Rattle.frame.proofs.Frames.{is-bad, is-good, good-fit, behind}
+use Rattle.frame.proofs.Frames.{event-here, is-bad, is-good, good-fit, behind}
 use Rattle.table.specs.Table.{historyOf, Held}
 use Rattle.steps.specs.Steps.{goes, stepNo, Took}
 use Rattle.steps.specs.declared.Next.{Next}
@@ -28,7 +28,7 @@ use Rattle.trace.specs.declared.Out.{Out}
 use Rattle.trace.specs.declared.Out.the-variants.{Bad}
 use Rattle.trace.specs.declared.Turn.{Turn}
 use Rattle.trace.specs.declared.Turn.the-variants.{More, Stop}
-use Rattle.trace.specs.Turns.{counted, countedAll, noAt, finish, turn, putAt, enteredAt, Turned}
+use Rattle.trace.specs.Turns.{counted, countedAll, noAt, metAt, finish, turn, putAt, enteredAt, sessionIn, Turned}
 
 -- ── what a step's answer says of its event e, where m is the number of the row that refuses it ──
 
@@ -55,44 +55,56 @@ says m e r q =
     (ifso (ltb 0 m) (λ t. subst (Says m e) (sym (pick-on _ _ _ t)) (refl, ltb-true _ _ t))
     (λ t. let z : m ≤ 0 = ltb-false _ _ t in subst (Says m e) (sym (pick-off _ _ _ t)) (passes m e (omega arith))))
 
+-- the session that is handed on is the record's, wherever the edition asks for it
+pub meets-own : (second : Bool) (s : List ℕ) (at : ℕ) (h : History) (e : Event) → metIn second h (sessionIn second s at) e ≡ metIn second h (sessionAt s at) e
+unfolding metIn sessionIn pick
+meets-own true s at h e = refl
+meets-own false s at h e = refl
+
 -- ── from the framing and the step to the turn ──
 
-module _ (s : List ℕ) (at serial : ℕ) (h : History) where
-  no-bad : {n : ℕ} → framing s at serial ≡ F.Bad n → (noAt s at serial h ≡ n) × (0 < n)
+module _ (s : List ℕ) (at serial : ℕ) (h : History) {second : Bool} (own : second ≡ isSecond s) where
+  no-bad : {n : ℕ} → framing second s at serial ≡ F.Bad n → (noAt s at serial h ≡ n) × (0 < n)
   unfolding noAt refusalNo
   no-bad q =
-      let b = is-bad s at serial q in
-      (fit-append _ _ (rw (b .0) (b .1)) ∙ b .0, b .1)
+      let b = is-bad second s at serial q in
+      (rw (← own) (fit-append _ _ (rw (b .0) (b .1)) ∙ b .0), b .1)
 
-  no-good : {e : Event} → framing s at serial ≡ F.Good e → noAt s at serial h ≡ stepNo h (current h) e
-  unfolding noAt refusalNo stepNo
-  no-good q =
-      let b = is-good s at serial q in
-      behind s at serial _ (b .0) ∙ ap (λ (x : Event). firstFit (stepRows h (current h) x)) (b .1)
+  module _ {e : Event} (q : framing second s at serial ≡ F.Good e) where
+    same : eventAt s at ≡ e
+    same = sym (event-here s at own) ∙ is-good second s at serial q .1
+
+    meets : metAt s at h ≡ metIn second h (sessionAt s at) e
+    meets = rw (← own, same)
+
+    number : noAt s at serial h ≡ stepNo h (metIn second h (sessionAt s at) e) e
+    unfolding noAt refusalNo stepNo met metIn
+    number =
+        let b = behind second s at serial (stepRows h (metIn second h (sessionAt s at) e) e) (is-good second s at serial q .0) in
+        rw (same, ← own) b
 
 -- the framing refuses
-pub turned-bad : (s g : List ℕ) (k at serial : ℕ) (c : Tally) {n : ℕ} → framing s at serial ≡ F.Bad n → Held g → Turned (Stop (Bad n at)) g g s k at serial c
+pub turned-bad : (s g : List ℕ) (k at serial : ℕ) (c : Tally) {second : Bool} {n : ℕ} → second ≡ isSecond s → framing second s at serial ≡ F.Bad n → Held g
+    → Turned (Stop (Bad n at)) g g s k at serial c
 unfolding turn putAt enteredAt pick
-turned-bad s g k at serial c q h =
-    let b = no-bad s at serial (historyOf g) q in
+turned-bad s g k at serial c own q h =
+    let b = no-bad s at serial (historyOf g) own q in
     let t = lt-ltb _ _ (b .1) in
     record { is = rw (b .0, t); words = rw (b .0, t); history = rw (b .0, t); held = h }
 
 -- the framing passes, and the step answers
-module _ (s g g2 : List ℕ) (k at serial : ℕ) (c : Tally) (e : Event) (next : Next) (fr : framing s at serial ≡ F.Good e)
-    (took : Took next g2 g (current (historyOf g)) e) where
-  same : eventAt s at ≡ e
-  same = is-good s at serial fr .1
-
-  number : noAt s at serial (historyOf g) ≡ stepNo (historyOf g) (current (historyOf g)) e
-  number = no-good s at serial (historyOf g) fr
-
+module _ (s g g2 : List ℕ) (k at serial : ℕ) (c : Tally) (e : Event) (next : Next) {second : Bool} (own : second ≡ isSecond s)
+    (fr : framing second s at serial ≡ F.Good e) (took : Took next g2 g (metIn second (historyOf g) (sessionAt s at) e) e) where
   turned : {r : Turn} → r ≡ turn s k at serial c (historyOf g) → Turned r g2 g s k at serial c
   unfolding putAt enteredAt
-  turned q = record { is = q; words = rw (number, same) (took .words); history = rw (number, same) (took .history); held = took .held }
+  turned q =
+      let n = number s at serial (historyOf g) own fr in
+      let m = meets s at serial (historyOf g) own fr in
+      let e = same s at serial (historyOf g) own fr in
+      record { is = q; words = rw (n, m, e) (took .words); history = rw (n, m, e) (took .history); held = took .held }
 
   told : (r : Next) → next ≡ r → Says (noAt s at serial (historyOf g)) e r
-  told r q = rw number (says (stepNo (historyOf g) (current (historyOf g)) e) e r (sym q ∙ took .is))
+  told r q = rw (number s at serial (historyOf g) own fr) (says (stepNo (historyOf g) (metIn second (historyOf g) (sessionAt s at) e) e) e r (sym q ∙ took .is))
 
   pub turned-refuse : {n : ℕ} → next ≡ N.Refuse n → Turned (Stop (Bad n at)) g2 g s k at serial c
   unfolding turn pick Says
@@ -104,30 +116,30 @@ module _ (s g g2 : List ℕ) (k at serial : ℕ) (c : Tally) (e : Event) (next :
   unfolding turn pick Says
   turned-done q p =
       let a = told N.Done q in
-      turned (rw (a .0, same, a .1, p))
+      turned (rw (a .0, same s at serial (historyOf g) own fr, a .1, p))
 
   pub turned-go : {after follow : ℕ} → next ≡ N.Go → after ≡ nextAt s at → follow ≡ nextSerial s at → Turned (More after follow c) g2 g s k at serial c
   unfolding turn pick Says countedAll
   turned-go q p f =
       let a = told N.Go q in
-      turned (rw (a .0, same, a .1, a .2 s at, p, f))
+      turned (rw (a .0, same s at serial (historyOf g) own fr, a .1, a .2 s at, p, f))
 
   pub turned-text : {after follow : ℕ} {d : Tally} → next ≡ N.Text → after ≡ nextAt s at → follow ≡ nextSerial s at
       → d ≡ counted k c (record { start = at + 8; length = lenAt s at - 6 }) → Turned (More after follow d) g2 g s k at serial c
   unfolding turn pick Says countedAll
   turned-text q p f n =
       let a = told N.Text q in
-      turned (rw (a .0, same, a .1, a .2 s at, p, f, n))
+      turned (rw (a .0, same s at serial (historyOf g) own fr, a .1, a .2 s at, p, f, n))
 
 -- ── what a turn says ──
 
 -- a record that no row refuses lies within the trace
-pub fit-at : (s : List ℕ) (at serial : ℕ) (h : History) → ltb 0 (noAt s at serial h) ≡ false → Fit s at
-fit-at s at serial h t = go (framing s at serial) refl
+pub fit-at : (s : List ℕ) (at serial : ℕ) (h : History) → ltb 0 (noAt s at serial h) ≡ false → Fit (isSecond s) s at
+fit-at s at serial h t = go (framing (isSecond s) s at serial) refl
   where
-    go : (f : Framed) → framing s at serial ≡ f → Fit s at
-    go (F.Bad n) q = let b = no-bad s at serial h q in let z : noAt s at serial h ≤ 0 = ltb-false _ _ t in absurd (omega (arith, b .0, b .1))
-    go (F.Good e) q = good-fit s at serial q
+    go : (f : Framed) → framing (isSecond s) s at serial ≡ f → Fit (isSecond s) s at
+    go (F.Bad n) q = let b = no-bad s at serial h refl q in let z : noAt s at serial h ≤ 0 = ltb-false _ _ t in absurd (omega (arith, b .0, b .1))
+    go (F.Good e) q = good-fit (isSecond s) s at serial q
 
 pub record Onward (s : List ℕ) (k at serial : ℕ) (c : Tally) (h : History) (after follow : ℕ) (d : Tally) : Type 0 where
   pub passes : ltb 0 (noAt s at serial h) ≡ false

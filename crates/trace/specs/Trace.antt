@@ -5,8 +5,8 @@ use mathlib.Core.List.{List}
 use lib.ListN.{length}
 use lib.Dec.{ltb}
 use Rattle.base.specs.Base.{pick}
-use Rattle.rules.specs.History.{History, current}
-use Rattle.rules.specs.Reading.{State, Stretch, Reading, refused, read, begin, eventIn, isEnd, refusalNo, after, reading}
+use Rattle.rules.specs.History.{History}
+use Rattle.rules.specs.Reading.{State, Stretch, Reading, refused, read, begin, eventIn, isEnd, met, refusalNo, after, reading}
 use Rattle.table.specs.Table.{historyOf, Held, cleared}
 use Rattle.steps.specs.Steps.{put}
 use Rattle.trace.specs.Turns.{tally}
@@ -27,8 +27,8 @@ unfoldable pub recordFrom : ℕ → List ℕ → State → List ℕ → List ℕ
 recordFrom zero s st g = g
 recordFrom (suc f) s st g =
     pick (ltb 0 (refusalNo s st)) g
-    (pick (isEnd (eventIn s st)) (put g (current (st .history)) (eventIn s st))
-    (recordFrom f s (after s st) (put g (current (st .history)) (eventIn s st))))
+    (pick (isEnd (eventIn s st)) (put g (met s st) (eventIn s st))
+    (recordFrom f s (after s st) (put g (met s st) (eventIn s st))))
 
 -- .. behind the whole trace
 unfoldable pub recorded : List ℕ → List ℕ → List ℕ

@@ -1,13 +1,14 @@
 -- One record: what the loop keeps, and how it goes on.
 use Prim.Native.Nat.{ℕ, _+_}
 use mathlib.Core.Path.{_≡_}
+use mathlib.Core.Bool.{Bool}
 use mathlib.Core.List.{List, [], _∷_}
 use lib.ListN.{length}
 use lib.Dec.{ltb, eqb}
 use Rattle.base.specs.Base.{pick, nth}
-use Rattle.rules.specs.History.{History, current}
-use Rattle.rules.specs.Records.{nextAt, nextSerial, eventAt}
-use Rattle.rules.specs.Reading.{State, Stretch, entered, isEnd, textAt, refusalNo}
+use Rattle.rules.specs.History.{History}
+use Rattle.rules.specs.Records.{nextAt, nextSerial, isSecond, sessionAt, eventAt}
+use Rattle.rules.specs.Reading.{State, Stretch, entered, isEnd, textAt, metIn, refusalNo}
 use Rattle.rules.specs.Notes.{nowhere}
 use Rattle.table.specs.Table.{historyOf, Held}
 use Rattle.steps.specs.Steps.{put}
@@ -46,6 +47,10 @@ stateAt at serial h notes = record { at = at; serial = serial; history = h; note
 unfoldable pub noAt : List ℕ → ℕ → ℕ → History → ℕ
 noAt s at serial h = refusalNo s (stateAt at serial h [])
 
+-- the open transaction that it meets
+abbrev pub metAt : List ℕ → ℕ → History → ℕ
+metAt s at h = metIn (isSecond s) h (sessionAt s at) (eventAt s at)
+
 -- the reading is over behind the end record, and the next byte would be the one at `at`
 unfoldable pub finish : List ℕ → ℕ → Tally → Out
 finish s at c = pick (ltb at (length s)) (Bad 11 at) (Good (c .notes) (c .start) (c .length))
@@ -58,10 +63,14 @@ turn s k at serial c h =
 
 -- what it makes of the table g, and of the history in it
 unfoldable pub putAt : List ℕ → ℕ → ℕ → List ℕ → List ℕ
-putAt s at serial g = pick (ltb 0 (noAt s at serial (historyOf g))) g (put g (current (historyOf g)) (eventAt s at))
+putAt s at serial g = pick (ltb 0 (noAt s at serial (historyOf g))) g (put g (metAt s at (historyOf g)) (eventAt s at))
 
 unfoldable pub enteredAt : List ℕ → ℕ → ℕ → History → History
-enteredAt s at serial h = pick (ltb 0 (noAt s at serial h)) h (entered h (current h) (eventAt s at))
+enteredAt s at serial h = pick (ltb 0 (noAt s at serial h)) h (entered h (metAt s at h) (eventAt s at))
+
+-- the session of the record at `at`, where its edition has one
+unfoldable pub sessionIn : Bool → List ℕ → ℕ → ℕ
+sessionIn second s at = pick second (sessionAt s at) 0
 
 -- the answer r to the record at `at`, which made g2 of the table g
 pub record Turned (r : Turn) (g2 g s : List ℕ) (k at serial : ℕ) (c : Tally) : Type 0 where

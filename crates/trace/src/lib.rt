@@ -1,11 +1,15 @@
 // The whole reading of a trace: its history goes into the table h, and one note, number k, is remembered by its place.
-ghost use Prim.Native.Nat.{_≤_, _<_};
+ghost use Prim.Native.Nat.{_+_, _≤_, _<_};
 ghost use mathlib.Core.Path.{_≡_};
+ghost use mathlib.Core.Bool.{true};
 ghost use lib.ListN.{length};
-ghost use Rattle.table.specs.Table.{tableWords, Held};
-ghost use Rattle.trace.specs.Turns.{counted, finish as finishing, Turned};
+ghost use Rattle.rules.specs.Records.{isSecond, sessionAt};
+ghost use Rattle.table.specs.Table.{tableWords, historyOf, Held};
+ghost use Rattle.sessions.specs.Open.{Beside, TookOf};
+ghost use Rattle.trace.specs.Turns.{counted, finish as finishing, sessionIn, Turned};
 ghost use Rattle.trace.specs.Trace.{TraceRead};
 use frame::Framed;
+use rules::Event;
 use steps::Next;
 
 // The notes so far: how many, and the first byte and the length of note number k's text, 0 and 0 while it has not come.
@@ -57,16 +61,45 @@ fn finish(s: &[u8], at: usize, c: Tally) -> Out
     Out::Good(c.notes, c.start, c.length)
 }
 
-// One record, at `at`, where `serial` has to come.
-fn turn_at(s: &[u8], k: usize, at: usize, serial: u32, c: Tally, h: &mut [u64]) -> Turn
-    requires { ⌜ Held (now h) × (at ≤ length (now s)) × (c .notes ≤ at) ⌝ }
-    ensures { λ r. ⌜ Turned r (now (h .exit)) (now (h .entry)) (now (s .entry)) k at serial c ⌝ }
+// The session of the record at `at`, where its edition has one.
+fn session_at(s: &[u8], at: usize, second: bool) -> u16
+    requires { ⌜ (second ≡ true → at + 10 ≤ length (now s)) ⌝ }
+    ensures { λ r. ⌜ r ≡ sessionIn second (now (s .entry)) at ⌝ }
 {
-    let framed = frame::frame_at(s, at, serial);
+    if second {
+        return frame::u16_at(s, at + 8);
+    }
+    0
+}
+
+// The step of the record at `at`, whose event this is.
+fn take(event: Event, s: &[u8], at: usize, second: bool, h: &mut [u64], o: &mut [u8]) -> Next
+    requires { ⌜ Held (now h) × Beside second (now o) (historyOf (now h)) × (second ≡ true → at + 10 ≤ length (now s)) ⌝ }
+    ensures { λ r. ⌜ TookOf r (now (h .exit)) (now (o .exit)) (now (h .entry)) (now (o .entry)) second (sessionAt (now (s .entry)) at) event ⌝ }
+{
+    let session = session_at(s, at, second);
+    sessions::take(event, session, second, h, o)
+}
+
+// One record, at `at`, where `serial` has to come.
+fn turn_at(
+    s: &[u8],
+    k: usize,
+    at: usize,
+    serial: u32,
+    c: Tally,
+    second: bool,
+    h: &mut [u64],
+    o: &mut [u8],
+) -> Turn
+    requires { ⌜ Held (now h) × (at ≤ length (now s)) × (c .notes ≤ at) × (second ≡ isSecond (now s)) × Beside second (now o) (historyOf (now h)) ⌝ }
+    ensures { λ r. ⌜ Turned r (now (h .exit)) (now (h .entry)) (now (s .entry)) k at serial c × Beside second (now (o .exit)) (historyOf (now (h .exit))) ⌝ }
+{
+    let framed = frame::frame_at(s, at, serial, second);
     match framed {
         Framed::Bad(no) => Turn::Stop(Out::Bad(no, at)),
         Framed::Good(event) => {
-            let next = steps::take(event, h);
+            let next = take(event, s, at, second, h, o);
             let len = frame::u16_at(s, at) as usize;
             let after = at + 2 + len;
             // "after 4,294,967,295 comes 0"
@@ -90,6 +123,8 @@ pub fn read_trace(s: &[u8], k: usize, h: &mut [u64]) -> Out
     if 32768 < s.len() {
         return Out::Bad(2, 32768);
     }
+    let second = frame::is_second(s);
+    let mut o = [0u8; 256];
     let mut at = 0;
     let mut serial = 0;
     let mut c = Tally {
@@ -98,7 +133,7 @@ pub fn read_trace(s: &[u8], k: usize, h: &mut [u64]) -> Out
         length: 0,
     };
     loop {
-        let turn = turn_at(s, k, at, serial, c, h);
+        let turn = turn_at(s, k, at, serial, c, second, h, &mut o);
         match turn {
             Turn::Stop(out) => return out,
             Turn::More(after, follow, counted) => {

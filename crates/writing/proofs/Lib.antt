@@ -5,5 +5,6 @@ pub mod Grown
 pub mod Followed
 pub mod Lengths
 pub mod Told
+pub mod Listing
 pub mod Listed
 pub mod Within

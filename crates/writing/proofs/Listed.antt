@@ -1,20 +1,24 @@
--- A history that a trace is read into has grown by the steps that tell it.
+-- A history that a trace of edition 1 is read into has grown by the steps that tell it.
 use Prim.Native.Nat.{ℕ, _+_, _*_, _<_}
 use mathlib.Core.Path.{_≡_, refl, ap, _∙_}
+use mathlib.Core.Bool.{false}
 use mathlib.Core.List.{List, [], _∷_}
+use mathlib.Core.Logic.{⊎-elim}
 use native.Mathlib.Omega.{arith}
 use lib.ListN.{length, length-append}
 use Rattle.base.specs.Base.{joined}
+use Rattle.base.proofs.Tests.{clash, split}
 use Rattle.base.proofs.Searches.{joined-append, joined-one, joined-none}
 use Rattle.rules.specs.History.{History, txCount, opCount, current, writeOf}
-use Rattle.rules.specs.Records.{eventAt}
+use Rattle.rules.specs.Records.{isSecond, eventAt}
 use Rattle.rules.specs.Reading.{State, Stretch, entered, reading, read}
 use Rattle.rules.specs.declared.Event.{Event}
 use Rattle.rules.specs.declared.Event.the-variants.{Open, Read, Write, Close}
-use Rattle.demand1.specs.Rows.{session, key, value, status, noteText, Passes, inPlace, valueLawful, withinLimit, newWrite, open-inside, read-outside, write-outside, close-outside, end-inside, written-0, status-above-2, open-128th, read-1025th, write-1025th, Next, after-open, after-read, after-write, after-close, after-note, Reaches, start, on, ReadInto, to-the-end}
+use Rattle.demand1.specs.Rows.{kind, session, key, value, status, noteText, Passes, editionFirst, inPlace, in-first, valueLawful, withinLimit, newWrite, open-inside, read-outside, write-outside, close-outside, end-inside, written-0, status-above-2, open-128th, read-1025th, write-1025th, the-latest, of-its-session, Next, after-open, after-read, after-write, after-close, after-note, after-edition, Reaches, start, on, ReadInto, to-the-end}
 use Rattle.demand1.proofs.Histories.{inside-current, outside-current}
 use Rattle.demand1.proofs.Events.{Framed, passes-framed, open-event, read-event, write-event, close-event, at-least, below}
 use Rattle.demand1.proofs.Steps.{inside}
+use Rattle.demand1.proofs.Sessions.{second-iff}
 use Rattle.demand1.proofs.Checks.{write-found}
 use Rattle.demand1.proofs.Readings.{reads-iff}
 use Rattle.writing.specs.Steps.{stepBytes}
@@ -37,12 +41,21 @@ none n d = omega arith
 
 -- ── the records that pass ──
 
-module _ (s : List ℕ) (st : State) (p : Passes s st) where
+module _ (s : List ℕ) (first : isSecond s ≡ false) (st : State) (p : Passes s st) where
   abbrev h : History
   h = st .history
 
   f : Framed s (st .at)
   f = passes-framed p
+
+  -- none says the edition: one that begins the trace would be edition 2's, and no other passes
+  no-edition : kind s (st .at) ≡ 16 → ⊥
+  no-edition k =
+      ⊎-elim (λ l. p editionFirst (k, l))
+      (λ g.
+      let z : st .at ≡ 0 = omega arith in
+      clash (second-iff s .1 (record { there = omega (arith, f .sized .low, f .sized .there); first-kind = rw z at k })) first)
+      (split 0 (st .at))
 
   -- each is a step that is taken, or a note
   pub data Stepped (x : State) : Type 0 where
@@ -52,13 +65,14 @@ module _ (s : List ℕ) (st : State) (p : Passes s st) where
   pub stepped : {x : State} → Next s st x → Stepped x
   unfolding entered
   stepped (after-open k) =
-      by-step (Open (session s (st .at))) (open-taken (outside-current h (λ i. p inPlace (open-inside k i))) (below (txCount h) 127 (λ l. p withinLimit (open-128th k l)))) (open-event f k) refl refl
-  stepped (after-read k) =
-      let i = inside s st p (read-outside k) in
+      by-step (Open (session s (st .at))) (open-taken (outside-current h (λ i. p inPlace (in-first first (open-inside k i)))) (below (txCount h) 127 (λ l. p withinLimit (open-128th k l)))) (open-event f k) refl refl
+  stepped (after-read k (the-latest _)) =
+      let i = inside s st p first (read-outside k) in
       let c = inside-current h i in
       by-step (Read (key s (st .at)) (value s (st .at))) (read-taken (omega (arith, c, i .0)) (below (opCount h) 1024 (λ l. p withinLimit (read-1025th k l)))) (read-event f k) (rw c) refl
-  stepped (after-write k) =
-      let i = inside s st p (write-outside k) in
+  stepped (after-read k (of-its-session e _)) = absurd (clash e first)
+  stepped (after-write k (the-latest _)) =
+      let i = inside s st p first (write-outside k) in
       let c = inside-current h i in
       let x = key s (st .at) in
       let v = value s (st .at) in
@@ -66,24 +80,27 @@ module _ (s : List ℕ) (st : State) (p : Passes s st) where
       (write-taken (omega (arith, c, i .0)) (below 0 v (λ l. p valueLawful (written-0 k (omega arith)))) (below (opCount h) 1024 (λ l. p withinLimit (write-1025th k l)))
       (none (writeOf h x v) (λ l. p newWrite (record { writes = k; by = writeOf h x v; earlier = write-found h x v l }))))
       (write-event f k) (rw c) refl
-  stepped (after-close k) =
-      let i = inside s st p (close-outside k) in
+  stepped (after-write k (of-its-session e _)) = absurd (clash e first)
+  stepped (after-close k (the-latest _)) =
+      let i = inside s st p first (close-outside k) in
       let c = inside-current h i in
       by-step (Close (status s (st .at))) (close-taken (omega (arith, c, i .0)) (at-least (status s (st .at)) 2 (λ l. p valueLawful (status-above-2 k l)))) (close-event f k) (rw c) refl
+  stepped (after-close k (of-its-session e _)) = absurd (clash e first)
   stepped (after-note k) = by-note refl (λ e. omega (arith, ap length e, length-append (st .notes) (noteText s (st .at) ∷ [])))
+  stepped (after-edition k) = absurd (no-edition k)
 
 -- the history of a state that reading comes to
-pub reached : {s : List ℕ} {st : State} → Reaches s st → GrownSo (st .history)
-reached start = so grown-none
-reached {s} (on {st} {next} r p n) = by (reached r) (stepped s st p n)
+pub reached : {s : List ℕ} → isSecond s ≡ false → {st : State} → Reaches s st → GrownSo (st .history)
+reached first start = so grown-none
+reached {s} first (on {st} {next} r p n) = by (reached first r) (stepped s first st p n)
   where
-    by : GrownSo (st .history) → Stepped s st p next → GrownSo (next .history)
+    by : GrownSo (st .history) → Stepped s first st p next → GrownSo (next .history)
     by g (by-step e t _ i _) = rw i (so (grown-step e g t))
     by g (by-note i _) = rw i g
 
 -- .. and of a trace that is read, which ends outside a transaction
-pub read-grown : {s : List ℕ} {h : History} {notes : List Stretch} → ReadInto s h notes → GrownSo h × (current h ≡ 0)
-read-grown (to-the-end {st} l r p k e) = (reached r, outside-current (st .history) (λ i. p inPlace (end-inside k i)))
+pub read-grown : {s : List ℕ} → isSecond s ≡ false → {h : History} {notes : List Stretch} → ReadInto s h notes → GrownSo h × (current h ≡ 0)
+read-grown first (to-the-end {st} l r p k e) = (reached first r, outside-current (st .history) (λ i. p inPlace (in-first first (end-inside k i))))
 
 -- ── how long the steps are ──
 
@@ -94,8 +111,8 @@ grown-bytes (grown-step {es} e g t) =
     ∙ rw (joined-one stepBytes e) (omega (arith, step-length e (taken-step t), grown-bytes g, length-append es (e ∷ [])))
 
 -- two for a transaction and one for an operation
-pub listing-length : (s : List ℕ) (h : History) (notes : List Stretch) → reading s ≡ read h notes
+pub listing-length : (s : List ℕ) → isSecond s ≡ false → (h : History) (notes : List Stretch) → reading s ≡ read h notes
     → length (joined stepBytes (historySteps h)) ≡ 16 * (2 * txCount h + opCount h)
-listing-length s h notes e =
-    let r = read-grown (reads-iff s h notes .0 e) in
+listing-length s first h notes e =
+    let r = read-grown first (reads-iff s h notes .0 e) in
     omega (arith, grown-bytes (r .0), counts (r .0) .steps, open-none h (r .1))

@@ -11,8 +11,8 @@ use Rattle.rules.specs.History.{History, txCount, current}
 use Rattle.rules.specs.Reading.{misplaced, unlawful, excess, repeats, stepRows}
 use Rattle.rules.specs.declared.Event.{Event}
 use Rattle.rules.specs.declared.Event.the-variants.{Other}
-use Rattle.demand1.specs.Rows.{Check, lengthField, lengthLow, bytesThere, serialFollows, kindKnown, lengthFits, inPlace, valueLawful, withinLimit, newWrite, rank, numberOf, FirstFailing}
-use Rattle.demand1.proofs.Events.{Clear, ShapeOf, open-record, read-record, write-record, close-record, end-record, note-record, Kinded, shape-of, at-least}
+use Rattle.demand1.specs.Rows.{UnknownKind, below-1 as kind-below, above-6, note-in-second, Check, lengthField, lengthLow, bytesThere, serialFollows, kindKnown, lengthFits, editionFirst, editionIs2, inPlace, valueLawful, withinLimit, newWrite, rank, numberOf, FirstFailing}
+use Rattle.demand1.proofs.Events.{Clear, ShapeOf, open-record, read-record, write-record, close-record, end-record, note-record, edition-record, kind-known, Kinded, shape-of, at-least}
 use Rattle.demand1.proofs.Checks.{misplaced-row, unlawful-row, excess-row, repeated-row}
 use Rattle.demand1.proofs.Refusals.{First, RowTold, told-row, told-end, clear-past, none-fails, first-fails}
 use Rattle.writing.specs.Steps.{stepAt}
@@ -48,15 +48,20 @@ module _ (s : List ℕ) (k : ℕ) (h : History) where
   pub step-kinded : (OtherKind s k → ⊥) → Kinded (kindBehind s k) (sessionBehind s k) (keyBehind s k) (valueBehind s k) (statusBehind s k) (txCount h) event
   step-kinded d =
       record {
-        low = step-low d;
-        high = omega (arith, step-high d);
+        known = kind-known (kindBehind s k) unknown;
         as-open = open-kind s (16 * k) (step-whole d);
         as-read = read-kind s (16 * k) (step-whole d);
         as-write = write-kind s (16 * k) (step-whole d);
         as-close = close-kind s (16 * k) (step-whole d);
         as-end = λ e. absurd (omega (arith, step-high d));
         as-note = λ e. absurd (omega (arith, step-high d));
+        as-edition = λ e. absurd (omega (arith, step-high d));
       }
+    where
+      unknown : UnknownKind false (kindBehind s k) → ⊥
+      unknown (kind-below l) = omega (arith, step-low d)
+      unknown (above-6 l _) = omega (arith, step-high d)
+      unknown (note-in-second _ q) = omega (arith, step-high d)
 
   not-other : (OtherKind s k → ⊥) → isNoStep event ≡ false
   unfolding isNoStep
@@ -69,6 +74,7 @@ module _ (s : List ℕ) (k : ℕ) (h : History) where
       by (close-record q e) = rw e
       by (end-record q e) = absurd (omega (arith, step-high d))
       by (note-record q e) = absurd (omega (arith, step-high d))
+      by (edition-record q e) = absurd (omega (arith, step-high d))
 
   -- it is of another kind or not
   other-or : {P : Type 0} → (OtherKind s k → P) → ((OtherKind s k → ⊥) → P) → P
@@ -96,6 +102,8 @@ module _ (s : List ℕ) (k : ℕ) (h : History) where
   stepTest serialFollows = false
   stepTest kindKnown = isNoStep event
   stepTest lengthFits = false
+  stepTest editionFirst = false
+  stepTest editionIs2 = false
   stepTest inPlace = misplaced (current h) event
   stepTest valueLawful = unlawful h event
   stepTest withinLimit = excess h event
@@ -112,6 +120,8 @@ module _ (s : List ℕ) (k : ℕ) (h : History) where
   step-row serialFollows p = never
   step-row kindKnown p = other-row
   step-row lengthFits p = never
+  step-row editionFirst p = never
+  step-row editionIs2 p = never
   step-row inPlace p = misplaced-row (step-kinded (p kindKnown (omega arith))) h
   step-row valueLawful p = unlawful-row (step-kinded (p kindKnown (omega arith))) h
   step-row withinLimit p = excess-row (step-kinded (p kindKnown (omega arith))) h
@@ -124,10 +134,18 @@ module _ (s : List ℕ) (k : ℕ) (h : History) where
   no-frame serialFollows l f = f
   no-frame kindKnown l f = omega arith
   no-frame lengthFits l f = f
+  no-frame editionFirst l f = f
+  no-frame editionIs2 l f = f
   no-frame inPlace l f = omega arith
   no-frame valueLawful l f = omega arith
   no-frame withinLimit l f = omega arith
   no-frame newWrite l f = omega arith
+
+  -- between rows 6 and 7 nothing fails
+  no-edition : Clear (StepFails s k h) 5 → Clear (StepFails s k h) 8
+  no-edition p =
+      clear-past (StepFails s k h) stepTest step-row editionIs2
+      (clear-past (StepFails s k h) stepTest step-row editionFirst (clear-past (StepFails s k h) stepTest step-row lengthFits p (λ f. f)) (λ f. f)) (λ f. f)
 
   step-first : First (StepFails s k h) stepTest step-row (writeNo h event)
   unfolding writeNo writeRows stepRows
@@ -136,7 +154,7 @@ module _ (s : List ℕ) (k : ℕ) (h : History) where
       rows : RowTold (StepFails s k h) stepTest step-row (writeRows h event)
       rows =
           told-row (StepFails s k h) stepTest step-row kindKnown no-frame
-          (λ p5. told-row (StepFails s k h) stepTest step-row inPlace (clear-past (StepFails s k h) stepTest step-row lengthFits p5 (λ f. f))
+          (λ p5. told-row (StepFails s k h) stepTest step-row inPlace (no-edition p5)
           (λ p7. told-row (StepFails s k h) stepTest step-row valueLawful p7
           (λ p8. told-row (StepFails s k h) stepTest step-row withinLimit p8
           (λ p9. told-row (StepFails s k h) stepTest step-row newWrite p9 (told-end (StepFails s k h) stepTest step-row)))))

@@ -12,7 +12,7 @@ use Rattle.rules.specs.Reading.{entered}
 use Rattle.rules.specs.declared.Event.{Event}
 use Rattle.demand1.specs.Rows.{Check, kindKnown, inPlace, numberOf, Inside, FirstFailing, Misplaced, read-outside, write-outside, close-outside}
 use Rattle.demand1.proofs.Histories.{inside-current, outside-current, inside-or-not}
-use Rattle.demand1.proofs.Events.{ShapeOf, open-record, read-record, write-record, close-record, end-record, note-record, shape-of, Kinded}
+use Rattle.demand1.proofs.Events.{ShapeOf, open-record, read-record, write-record, close-record, end-record, note-record, edition-record, shape-of, Kinded}
 use Rattle.writing.specs.Steps.{stepAt, stepCount, stepsFrom, stepsIn}
 use Rattle.writing.specs.Writing.{writeNo, Followed, bad, good, follow}
 use Rattle.writing.proofs.Rows.{Taken, taken}
@@ -53,6 +53,7 @@ module _ (s : List ℕ) (k : ℕ) (h : History) where
         by (close-record q _) = rw (← next-is (close-step q)) (close-step q)
         by (end-record q _) = absurd (omega (arith, step-high s k h (p kindKnown)))
         by (note-record q _) = absurd (omega (arith, step-high s k h (p kindKnown)))
+        by (edition-record q _) = absurd (omega (arith, step-high s k h (p kindKnown)))
 
     is-taken : Taken h (stepAt s (16 * k))
     is-taken = taken h (stepAt s (16 * k)) (step-none s k h .1 p)

@@ -8,7 +8,7 @@ use Rattle.rules.specs.Records.{eventAt}
 use Rattle.rules.specs.declared.Event.{Event}
 use Rattle.rules.specs.declared.Event.the-variants.{Open, Read, Write, Close, End}
 use Rattle.demand1.specs.Rows.{kind, session, key, value, status, endNumber}
-use Rattle.demand1.proofs.Events.{Framed, ShapeOf, open-record, read-record, write-record, close-record, end-record, note-record, shape-of, open-event, read-event, write-event, close-event, end-event}
+use Rattle.demand1.proofs.Events.{Framed, ShapeOf, open-record, read-record, write-record, close-record, end-record, note-record, edition-record, shape-of, open-event, read-event, write-event, close-event, end-event}
 use Rattle.writing.specs.Steps.{stepAt}
 use Rattle.writing.specs.Writing.{itemOf}
 use Rattle.written.specs.Steps.{kindBehind, sessionBehind, statusBehind, keyBehind, valueBehind, OtherKind}
@@ -58,6 +58,7 @@ module _ (b : List ℕ) (at : ℕ) (f : Framed b at) where
           a-close m x a
       by (end-record x i) = absurd (omega (arith, step-high s k h known))
       by (note-record x i) = absurd (omega (arith, step-high s k h known))
+      by (edition-record x i) = absurd (omega (arith, step-high s k h known))
 
   pub end-fields : (n : ℕ) → kind b at ≡ 5 → eventAt b at ≡ End n → IsEndRecord b at n
   end-fields n q e =

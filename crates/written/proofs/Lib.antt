@@ -1,3 +1,4 @@
+pub mod First
 pub mod Records
 pub mod Slim
 pub mod Framed

@@ -1,14 +1,16 @@
 -- A trace turned into steps, and written again.
 use Prim.Native.Nat.{ℕ, _+_, _*_, _<_, _≤_}
 use mathlib.Core.Path.{_≡_, refl, ap, sym, _∙_}
+use mathlib.Core.Bool.{true, false}
 use mathlib.Core.List.{List, [], append-nil}
 use mathlib.Core.Logic.{⊎-elim, _↔_}
 use native.Mathlib.Omega.{arith}
 use lib.ListN.{length}
 use Rattle.base.specs.Base.{pick, joined}
-use Rattle.base.proofs.Tests.{split}
+use Rattle.base.proofs.Tests.{ifso, split}
 use Rattle.rules.specs.Numbers.{over}
 use Rattle.rules.specs.History.{History, txCount, opCount, current, empty}
+use Rattle.rules.specs.Records.{isSecond}
 use Rattle.rules.specs.Reading.{Stretch, Reading, refused, read, reading}
 use Rattle.demand1.specs.Rows.{serial, ReadInto}
 use Rattle.rules.proofs.Numbers.{over-front}
@@ -16,16 +18,17 @@ use Rattle.demand1.proofs.Readings.{refuses-iff, reads-iff, one-outcome}
 use Rattle.writing.specs.Filling.{refusing, answering, said, content, fillOf, into}
 use Rattle.writing.specs.Steps.{stepsIn, stepBytes}
 use Rattle.writing.specs.Writing.{Followed, good, follow, traceOf, written}
-use Rattle.writing.specs.Listing.{historySteps, stepsRead, stepped}
+use Rattle.writing.specs.Listing.{historySteps, stepped}
 use Rattle.writing.specs.Rewriting.{again, rewritten}
 use Rattle.writing.specs.declared.Filled.{Filled}
 use Rattle.writing.proofs.Grown.{Grown, grown-none}
 use Rattle.writing.proofs.Filling.{into-short, into-fits}
 use Rattle.writing.proofs.Followed.{followed, grown-follow, follow-end}
 use Rattle.writing.proofs.Told.{told}
+use Rattle.writing.proofs.Listing.{listed-refused, listed-second, listed-first}
 use Rattle.writing.proofs.Listed.{read-grown, listing-length}
 use Rattle.written.specs.Steps.{Comes, at-start, one-more}
-use Rattle.written.specs.Declined.{stepsLength, ListDeclines, trace-refused, steps-short}
+use Rattle.written.specs.Declined.{stepsLength, ListDeclines, trace-refused, second-edition, steps-short}
 use Rattle.written.specs.Writes.{AllBytes}
 use Rattle.written.specs.Lists.{StepsOf, ListsSteps}
 use Rattle.written.proofs.StepBytes.{steps-back}
@@ -42,18 +45,18 @@ listing h = joined stepBytes (historySteps h)
 
 -- ── what the steps of a trace come to ──
 
-module _ (s : List ℕ) (b : AllBytes s) {h : History} {notes : List Stretch} (r : ReadInto s h notes) where
+module _ (s : List ℕ) (b : AllBytes s) (first : isSecond s ≡ false) {h : History} {notes : List Stretch} (r : ReadInto s h notes) where
   -- they are read back
   listing-back : stepsIn (listing h) ≡ historySteps h
-  listing-back = steps-back (read-grown r .0) (slim-read s b r)
+  listing-back = steps-back (read-grown first r .0) (slim-read s b first r)
 
   -- and followed into the trace's history
   listing-good : follow empty 1 (stepsIn (listing h)) ≡ good h
   listing-good =
-      ap (follow empty 1) (listing-back ∙ sym (append-nil (historySteps h))) ∙ grown-follow (read-grown r .0) [] ∙ follow-end h (1 + length (historySteps h)) (read-grown r .1)
+      ap (follow empty 1) (listing-back ∙ sym (append-nil (historySteps h))) ∙ grown-follow (read-grown first r .0) [] ∙ follow-end h (1 + length (historySteps h)) (read-grown first r .1)
 
   long : length (listing h) ≡ stepsLength h
-  long = listing-length s h notes (reads-iff s h notes .1 r)
+  long = listing-length s first h notes (reads-iff s h notes .1 r)
 
   -- no more steps than sixteen bytes each
   comes-within : {x : List ℕ} {k : ℕ} {g : History} → Comes x k g → 16 * k < length x + 16
@@ -63,12 +66,13 @@ module _ (s : List ℕ) (b : AllBytes s) {h : History} {notes : List Stretch} (r
   pub steps-of : StepsOf s (listing h)
   steps-of =
       record {
+        first-edition = first;
         is-bytes = steps-bytes (historySteps h);
         history = h;
         notes = notes;
         reads = r;
         comes = by (ends (listing h)) listing-good;
-        unused = unused-steps (read-grown r .0) (slim-read s b r);
+        unused = unused-steps (read-grown first r .0) (slim-read s b first r);
         long = long;
       }
     where
@@ -92,7 +96,7 @@ known {s} x a =
     n = 2 * txCount h + opCount h
 
     outside-now : current h ≡ 0
-    outside-now = read-grown (a .reads) .1
+    outside-now = read-grown (a .first-edition) (a .reads) .1
 
     good-now : follow empty 1 (stepsIn x) ≡ good h
     good-now = comes-follow x (a .comes) ∙ ap (follow h (n + 1)) (steps-over x n h (omega (arith, a .long))) ∙ follow-end h (n + 1) outside-now
@@ -109,29 +113,23 @@ steps-one {s} x y a b =
 -- ── the definition's cases ──
 
 module _ (s o : List ℕ) where
-  listed-refused : {n p : ℕ} → reading s ≡ refused n p → stepped s o ≡ fillOf (refusing n p) o
-  unfolding stepped stepsRead into
-  listed-refused e = rw e
-
-  listed-read : {h : History} {notes : List Stretch} → reading s ≡ read h notes → stepped s o ≡ into (content (listing h)) o
-  unfolding stepped stepsRead
-  listed-read e = rw e
-
-  listed-short : {h : History} {notes : List Stretch} → ReadInto s h notes → length o < stepsLength h → stepped s o ≡ fillOf (refusing 16 (stepsLength h)) o
-  listed-short {h} {notes} r l =
+  listed-short : isSecond s ≡ false → {h : History} {notes : List Stretch} → ReadInto s h notes → length o < stepsLength h → stepped s o ≡ fillOf (refusing 16 (stepsLength h)) o
+  listed-short first {h} {notes} r l =
       let e = reads-iff s h notes .1 r in
-      let n = listing-length s h notes e in
-      listed-read e ∙ into-short (listing h) o (omega arith) ∙ ap (λ (x : ℕ). fillOf (refusing 16 x) o) n
+      let n = listing-length s first h notes e in
+      listed-first s o e first ∙ into-short (listing h) o (omega arith) ∙ ap (λ (x : ℕ). fillOf (refusing 16 x) o) n
 
-  listed-fits : {h : History} {notes : List Stretch} → ReadInto s h notes → stepsLength h ≤ length o → stepped s o ≡ fillOf (answering (length (listing h))) (over (listing h) o)
-  listed-fits {h} {notes} r l =
+  listed-fits : isSecond s ≡ false → {h : History} {notes : List Stretch} → ReadInto s h notes → stepsLength h ≤ length o
+      → stepped s o ≡ fillOf (answering (length (listing h))) (over (listing h) o)
+  listed-fits first {h} {notes} r l =
       let e = reads-iff s h notes .1 r in
-      let n = listing-length s h notes e in
-      listed-read e ∙ into-fits (listing h) o (omega arith)
+      let n = listing-length s first h notes e in
+      listed-first s o e first ∙ into-fits (listing h) o (omega arith)
 
   declined-is : (m p : ℕ) → ListDeclines s (length o) m p → stepped s o ≡ fillOf (refusing m p) o
-  declined-is m p (trace-refused {n} {at} x) = listed-refused (refuses-iff s n at .1 x)
-  declined-is m p (steps-short r l) = listed-short r l
+  declined-is m p (trace-refused {n} {at} x) = listed-refused s o (refuses-iff s n at .1 x)
+  declined-is m p (second-edition {h} {notes} t r) = listed-second s o (reads-iff s h notes .1 r) t
+  declined-is m p (steps-short first r l) = listed-short first r l
 
   module _ (b : AllBytes s) where
     abbrev Out : Type 0
@@ -144,7 +142,10 @@ module _ (s o : List ℕ) where
         by (refused n p) e = declining n p (trace-refused (refuses-iff s n p .0 e))
         by (read h notes) e =
             let r = reads-iff s h notes .0 e in
-            ⊎-elim (λ m. declining 16 (stepsLength h) (steps-short r m)) (λ g. putting (listing h) (steps-of s b r) (listed-fits r g)) (split (length o) (stepsLength h))
+            ifso (isSecond s) (λ t. declining 6 0 (second-edition t r))
+            (λ first.
+            ⊎-elim (λ m. declining 16 (stepsLength h) (steps-short first r m)) (λ g. putting (listing h) (steps-of s b first r) (listed-fits first r g))
+            (split (length o) (stepsLength h)))
 
     -- refused exactly then
     pub list-declines-iff : (m p : ℕ) → (stepped s o .answer ≡ refusing m p) ↔ ListDeclines s (length o) m p
@@ -160,15 +161,20 @@ lists-one x y = fills-one steps-one x y
 
 -- ── written again ──
 
--- the steps of a trace without notes are written as its own bytes
-written-again : (s : List ℕ) → AllBytes s → {h : History} → ReadInto s h [] → (o : List ℕ) → written (listing h) (serial s 0) o ≡ into (content s) o
-written-again s b {h} r o =
-    written-good (listing h) (serial s 0) o (listing-good s b r)
-    ∙ ap (λ (x : List ℕ). into (content x) o) (ap (λ es. traceOf (serial s 0) es h) (listing-back s b r) ∙ own-bytes s b r)
+-- the steps of an edition 1 trace without notes are written as its own bytes
+written-again : (s : List ℕ) → AllBytes s → isSecond s ≡ false → {h : History} → ReadInto s h [] → (o : List ℕ) → written (listing h) (serial s 0) o ≡ into (content s) o
+written-again s b first {h} r o =
+    written-good (listing h) (serial s 0) o (listing-good s b first r)
+    ∙ ap (λ (x : List ℕ). into (content x) o) (ap (λ es. traceOf (serial s 0) es h) (listing-back s b first r) ∙ own-bytes s b first r)
 
--- "a trace without notes, read and written again, gives its own bytes": where both buffers have room
-pub own-again : (s : List ℕ) → AllBytes s → {h : History} → ReadInto s h [] → (x o : List ℕ) → stepsLength h ≤ length x → length s ≤ length o
+-- "a trace without notes, read and written again, gives its own bytes": one of edition 1, where both buffers have room
+pub own-again : (s : List ℕ) → AllBytes s → isSecond s ≡ false → {h : History} → ReadInto s h [] → (x o : List ℕ) → stepsLength h ≤ length x → length s ≤ length o
     → rewritten s x o ≡ fillOf (answering (length s)) (over s o)
 unfolding rewritten again pick
-own-again s b {h} r x o l m =
-    rw (listed-fits s x r l, over-front (listing h) x) (written-again s b r o ∙ into-fits s o m)
+own-again s b first {h} r x o l m =
+    rw (listed-fits s x first r l, over-front (listing h) x) (written-again s b first r o ∙ into-fits s o m)
+
+-- one of edition 2 is refused, for the record that it begins with
+pub second-again : (s : List ℕ) → isSecond s ≡ true → {h : History} {notes : List Stretch} → ReadInto s h notes → (x o : List ℕ) → rewritten s x o ≡ fillOf (refusing 6 0) o
+unfolding rewritten again pick
+second-again s t {h} {notes} r x o = rw (listed-second s x (reads-iff s h notes .1 r) t)

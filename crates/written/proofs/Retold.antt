@@ -1,18 +1,19 @@
--- A trace that is read and has no notes is what its steps are written as, with its first serial.
+-- An edition 1 trace that is read and has no notes is what its steps are written as, with its first serial.
 use Prim.Native.Nat.{ℕ, _+_, _%_, _^_, _<_}
 use mathlib.Core.Path.{_≡_, refl, ap, sym, _∙_}
+use mathlib.Core.Bool.{false}
 use mathlib.Core.List.{List, [], _∷_, _++_}
 use native.Mathlib.Omega.{arith}
 use lib.ListN.{length, take, length-append}
 use lib.Seq.{take-length}
 use Rattle.rules.specs.History.{History, txCount, current}
-use Rattle.rules.specs.Records.{eventAt}
+use Rattle.rules.specs.Records.{isSecond, eventAt}
 use Rattle.rules.specs.Reading.{State, Stretch, entered}
 use Rattle.rules.specs.Traces.{recordOf, trace}
 use Rattle.rules.specs.declared.Event.{Event}
 use Rattle.rules.specs.declared.Event.the-variants.{End}
 use Rattle.rules.proofs.Traces.{serialFrom, serial-next}
-use Rattle.demand1.specs.Rows.{serial, endNumber, behind, Passes, serialFollows, valueLawful, end-wrong, Next, after-open, after-read, after-write, after-close, after-note, Reaches, start, on, ReadInto, to-the-end}
+use Rattle.demand1.specs.Rows.{serial, endNumber, behind, Passes, serialFollows, valueLawful, end-wrong, Next, after-open, after-read, after-write, after-close, after-note, after-edition, Reaches, start, on, ReadInto, to-the-end}
 use Rattle.demand1.proofs.Events.{Framed, passes-framed, exactly, same-or}
 use Rattle.writing.specs.Writing.{itemOf, recordsOf, traceOf}
 use Rattle.writing.specs.Listing.{historySteps}
@@ -31,7 +32,7 @@ record Retold (s : List ℕ) (st : State) : Type 0 where
   pub follows : 0 < st .at → st .serial ≡ serialFrom (serial s 0) (length (historySteps (st .history)))
   pub none : st .at ≡ 0 → historySteps (st .history) ≡ []
 
-module _ (s : List ℕ) (b : AllBytes s) where
+module _ (s : List ℕ) (b : AllBytes s) (first : isSecond s ≡ false) where
   abbrev n : ℕ
   n = serial s 0
 
@@ -45,17 +46,18 @@ module _ (s : List ℕ) (b : AllBytes s) where
   -- the state behind the record
   behind-it : {st x : State} → Next s st x → (x .at ≡ behind s (st .at)) × (x .serial ≡ (serial s (st .at) + 1) % 2 ^ 32)
   behind-it (after-open k) = (refl, refl)
-  behind-it (after-read k) = (refl, refl)
-  behind-it (after-write k) = (refl, refl)
-  behind-it (after-close k) = (refl, refl)
+  behind-it (after-read k _) = (refl, refl)
+  behind-it (after-write k _) = (refl, refl)
+  behind-it (after-close k _) = (refl, refl)
   behind-it (after-note k) = (refl, refl)
+  behind-it (after-edition k) = (refl, refl)
 
   -- a step more
   retold-step : {st x : State} → Passes s st → Reaches s st → (e : Event) → Taken (st .history) e → eventAt s (st .at) ≡ e → x .history ≡ entered (st .history) (current (st .history)) e
       → Next s st x → Retold s st → Retold s x
   retold-step {st} {x} p rs e t q i nx r =
       record {
-        front = rw (at-is, steps) (step-spelt b f t q ∙ rw (r .front, here) (sym (records-more n es e)));
+        front = rw (at-is, steps) (step-spelt b first f t q ∙ rw (r .front, here) (sym (records-more n es e)));
         follows = λ _. rw steps (serial-is ∙ rw here (sym (ap (serialFrom n) (length-append es (e ∷ [])) ∙ serial-next n (length es) (le-below 4 s 4 b))));
         none = λ z. absurd (omega (arith, at-is, f .sized .low));
       }
@@ -76,16 +78,16 @@ module _ (s : List ℕ) (b : AllBytes s) where
       here = serial-here p r
 
       steps : historySteps (x .history) ≡ es ++ (e ∷ [])
-      steps = ap historySteps i ∙ told (grown-step e (reached rs) t)
+      steps = ap historySteps i ∙ told (grown-step e (reached first rs) t)
 
   retold : {st : State} → Reaches s st → st .notes ≡ [] → Retold s st
   unfolding recordsOf trace
   retold start z =
       let e = told grown-none in
       record { front = rw e refl; follows = λ l. absurd (omega arith); none = λ _. e }
-  retold (on {st} {next} rs p nx) z = by (stepped s st p nx) (λ m. retold rs m)
+  retold (on {st} {next} rs p nx) z = by (stepped s first st p nx) (λ m. retold rs m)
     where
-      by : Stepped s st p next → (st .notes ≡ [] → Retold s st) → Retold s next
+      by : Stepped s first st p next → (st .notes ≡ [] → Retold s st) → Retold s next
       by (by-step e t q i m) r = retold-step p rs e t q i nx (r (sym m ∙ z))
       by (by-note _ d) r = absurd (d z)
 
@@ -103,7 +105,7 @@ module _ (s : List ℕ) (b : AllBytes s) where
       number = exactly (endNumber s (st .at)) (txCount (st .history)) (λ d. p valueLawful (end-wrong k d))
 
       whole : take (length s) s ≡ recordsOf n es ++ recordOf (serialFrom n (length es)) (itemOf (End (txCount (st .history))))
-      whole = rw (← e) (end-spelt b (passes-framed p) k ∙ rw (r .front, serial-here p r, number))
+      whole = rw (← e) (end-spelt b first (passes-framed p) k ∙ rw (r .front, serial-here p r, number))
 
   pub own-bytes : {h : History} → ReadInto s h [] → traceOf n (historySteps h) h ≡ s
   own-bytes r = own r refl
@@ -111,10 +113,10 @@ module _ (s : List ℕ) (b : AllBytes s) where
   -- the fields of the steps of a trace, also of one with notes, fit
   slim-reached : {st : State} → Reaches s st → EachSlim (historySteps (st .history))
   slim-reached start = rw (told grown-none) slim-none
-  slim-reached (on {st} {next} rs p nx) = by (slim-reached rs) (stepped s st p nx)
+  slim-reached (on {st} {next} rs p nx) = by (slim-reached rs) (stepped s first st p nx)
     where
-      by : EachSlim (historySteps (st .history)) → Stepped s st p next → EachSlim (historySteps (next .history))
-      by a (by-step e t q i _) = rw (i, told (grown-step e (reached rs) t)) (slim-more (historySteps (st .history)) e a (rw q at (slim-event b (passes-framed p))))
+      by : EachSlim (historySteps (st .history)) → Stepped s first st p next → EachSlim (historySteps (next .history))
+      by a (by-step e t q i _) = rw (i, told (grown-step e (reached first rs) t)) (slim-more (historySteps (st .history)) e a (rw q at (slim-event b first (passes-framed p))))
       by a (by-note i _) = rw i a
 
   pub slim-read : {h : History} {notes : List Stretch} → ReadInto s h notes → EachSlim (historySteps h)

@@ -1,25 +1,26 @@
--- The bytes of a record that is read are those that its event is written as.
+-- The bytes of an edition 1 record that is read are those that its event is written as.
 use Prim.Native.Nat.{ℕ, _+_}
 use mathlib.Core.Path.{_≡_, sym, _∙_}
-use mathlib.Core.Bool.{true≢false}
+use mathlib.Core.Bool.{false, true≢false}
 use mathlib.Core.List.{List, _++_, append-assoc}
 use native.Mathlib.Omega.{arith}
 use lib.ListN.{length, take}
-use Rattle.rules.specs.Numbers.{bytes}
+use Rattle.rules.specs.Numbers.{le, bytes}
 use Rattle.rules.specs.History.{History}
-use Rattle.rules.specs.Records.{eventAt}
+use Rattle.rules.specs.Records.{isSecond, fieldsAt, eventAt}
 use Rattle.rules.specs.Traces.{Item, raw, recordOf}
 use Rattle.rules.specs.declared.Event.{Event}
-use Rattle.rules.specs.declared.Event.the-variants.{Open, Read, Write, Close, End, Note}
+use Rattle.rules.specs.declared.Event.the-variants.{Open, Read, Write, Close, End, Note, Other}
 use Rattle.rules.proofs.Numbers.{spelt, spelt-on}
 use Rattle.demand1.specs.Rows.{len, kind, serial, session, key, value, status, endNumber, behind, open-not-8, read-not-18, write-not-18, close-not-7, end-not-8}
-use Rattle.demand1.proofs.Events.{Framed, exactly, Shape, open-record, read-record, write-record, close-record, end-record, note-record, shape}
+use Rattle.demand1.proofs.Events.{Framed, exactly, Shape, open-record, read-record, write-record, close-record, end-record, note-record, edition-record, shape}
 use Rattle.writing.specs.Writing.{isNoStep, itemOf}
 use Rattle.writing.proofs.Rows.{Taken, taken-step}
 use Rattle.written.specs.Writes.{AllBytes}
+use Rattle.written.proofs.First.{key-at, value-at, status-at}
 use Rattle.written.proofs.Slim.{Slim, le-below}
 
-module _ {s : List ℕ} {at : ℕ} (b : AllBytes s) (f : Framed s at) where
+module _ {s : List ℕ} {at : ℕ} (b : AllBytes s) (first : isSecond s ≡ false) (f : Framed s at) where
   header : List ℕ
   header = bytes 2 (len s at) ++ bytes 2 (kind s at) ++ bytes 4 (serial s at)
 
@@ -47,24 +48,26 @@ module _ {s : List ℕ} {at : ℕ} (b : AllBytes s) (f : Framed s at) where
 
   op-spelt : len s at ≡ 18 → take (at + 20) s ≡ take at s ++ (header ++ (bytes 4 (key s at) ++ bytes 8 (value s at)))
   op-spelt n =
-      spelt-on s b at 8 12 (header ++ bytes 4 (key s at)) (omega (arith, n, f .sized .there)) (spelt-on s b at 4 8 header (omega (arith, n, f .sized .there)) header-spelt)
-      ∙ rw (append-assoc header (bytes 4 (key s at)) (bytes 8 (value s at)))
+      let x = le 4 s (at + 8) in
+      rw (key-at s first at, value-at s first at)
+      (spelt-on s b at 8 12 (header ++ bytes 4 x) (omega (arith, n, f .sized .there)) (spelt-on s b at 4 8 header (omega (arith, n, f .sized .there)) header-spelt)
+      ∙ rw (append-assoc header (bytes 4 x) (bytes 8 (le 8 s (at + 12)))))
 
   read-spelt : kind s at ≡ 2 → take (behind s at) s ≡ take at s ++ recordOf (serial s at) (itemOf (Read (key s at) (value s at)))
   unfolding itemOf bytes
   read-spelt k =
-      let n = exactly (len s at) 18 (λ d. f .fits (read-not-18 k d)) in whole (itemOf (Read (key s at) (value s at))) k n (op-spelt n)
+      let n = exactly (len s at) 18 (λ d. f .fits (read-not-18 first k d)) in whole (itemOf (Read (key s at) (value s at))) k n (op-spelt n)
 
   write-spelt : kind s at ≡ 3 → take (behind s at) s ≡ take at s ++ recordOf (serial s at) (itemOf (Write (key s at) (value s at)))
   unfolding itemOf bytes
   write-spelt k =
-      let n = exactly (len s at) 18 (λ d. f .fits (write-not-18 k d)) in whole (itemOf (Write (key s at) (value s at))) k n (op-spelt n)
+      let n = exactly (len s at) 18 (λ d. f .fits (write-not-18 first k d)) in whole (itemOf (Write (key s at) (value s at))) k n (op-spelt n)
 
   close-spelt : kind s at ≡ 4 → take (behind s at) s ≡ take at s ++ recordOf (serial s at) (itemOf (Close (status s at)))
   unfolding itemOf bytes
   close-spelt k =
-      let n = exactly (len s at) 7 (λ d. f .fits (close-not-7 k d)) in
-      whole (itemOf (Close (status s at))) k n (spelt-on s b at 1 8 header (omega (arith, n, f .sized .there)) header-spelt)
+      let n = exactly (len s at) 7 (λ d. f .fits (close-not-7 first k d)) in
+      whole (itemOf (Close (status s at))) k n (rw (status-at s first at) (spelt-on s b at 1 8 header (omega (arith, n, f .sized .there)) header-spelt))
 
   pub end-spelt : kind s at ≡ 5 → take (behind s at) s ≡ take at s ++ recordOf (serial s at) (itemOf (End (endNumber s at)))
   unfolding itemOf bytes
@@ -84,6 +87,7 @@ module _ {s : List ℕ} {at : ℕ} (b : AllBytes s) (f : Framed s at) where
       by (close-record k x) = let z : e ≡ Close (status s at) = sym q ∙ x in rw z (close-spelt k)
       by (end-record k x) = let z : e ≡ End (endNumber s at) = sym q ∙ x in absurd (true≢false (rw z at (taken-step t)))
       by (note-record k x) = let z : e ≡ Note = sym q ∙ x in absurd (true≢false (rw z at (taken-step t)))
+      by (edition-record k x) = let z : e ≡ Other = sym q ∙ x in absurd (true≢false (rw z at (taken-step t)))
 
   -- its fields fit
   pub slim-event : Slim (eventAt s at)
@@ -92,8 +96,9 @@ module _ {s : List ℕ} {at : ℕ} (b : AllBytes s) (f : Framed s at) where
     where
       by : Shape s at → Slim (eventAt s at)
       by (open-record k x) = rw x (le-below 2 s (at + 8) b)
-      by (read-record k x) = rw x (le-below 4 s (at + 8) b, le-below 8 s (at + 12) b)
-      by (write-record k x) = rw x (le-below 4 s (at + 8) b, le-below 8 s (at + 12) b)
+      by (read-record k x) = rw x (le-below 4 s (fieldsAt s at) b, le-below 8 s (fieldsAt s at + 4) b)
+      by (write-record k x) = rw x (le-below 4 s (fieldsAt s at) b, le-below 8 s (fieldsAt s at + 4) b)
       by (close-record k x) = rw x tt
       by (end-record k x) = rw x tt
       by (note-record k x) = rw x tt
+      by (edition-record k x) = rw x tt

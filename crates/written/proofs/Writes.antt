@@ -20,7 +20,7 @@ use Rattle.writing.proofs.Grown.{Grown, grown-none, counts}
 use Rattle.writing.proofs.Followed.{followed}
 use Rattle.written.specs.Declined.{traceLength, WriteDeclines, bad-step, ends-inside, trace-short}
 use Rattle.written.specs.Writes.{AllBytes, recordAt, IsStepRecord, IsEndRecord, TraceOf, WritesTrace}
-use Rattle.written.proofs.Records.{narrow-end}
+use Rattle.written.proofs.Records.{narrow-end, first-edition}
 use Rattle.written.proofs.Slim.{slim-steps}
 use Rattle.written.proofs.Readback.{read-back}
 use Rattle.written.proofs.Serials.{EachNarrow, record-serials, record-events, record-kinds, records-framed, records-end, grown-narrow, narrow-last}
@@ -75,6 +75,7 @@ module _ (s : List ℕ) (b : AllBytes s) (n : ℕ) (low : n < 2 ^ 32) (h : Histo
   trace-of =
       record {
         is-bytes = records-bytes n (stepsIn s ++ (End (txCount h) ∷ []));
+        first-edition = first-edition n (stepsIn s ++ (End (txCount h) ∷ []));
         history = h;
         reads = read-back n low (stepsIn s) h f (slim-steps s b);
         says = says grown (followed empty 1 (stepsIn s) grown-none f .1);
@@ -116,7 +117,7 @@ unfolding recordAt
 trace-one {s} {n} x y a b =
     let h : a .history ≡ b .history = says-one (a .says) (b .says) in
     let first : serial x 0 ≡ serial y 0 = a .serials 0 (omega arith) ∙ sym (b .serials 0 (omega arith)) in
-    sym (own-bytes x (a .is-bytes) (a .reads)) ∙ rw (first, h) (own-bytes y (b .is-bytes) (b .reads))
+    sym (own-bytes x (a .is-bytes) (a .first-edition) (a .reads)) ∙ rw (first, h) (own-bytes y (b .is-bytes) (b .first-edition) (b .reads))
 
 -- any two outcomes that the promise admits coincide
 pub writes-one : {s : List ℕ} {n : ℕ} {o : List ℕ} {r q : Filled} {c d : List ℕ} → WritesTrace s n o r c → WritesTrace s n o q d → (said r ≡ said q) × (c ≡ d)

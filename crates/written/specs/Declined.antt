@@ -1,7 +1,10 @@
 -- Document 02, request One: when the two calls refuse, whole, in the document's own terms.
 use Prim.Native.Nat.{ℕ, _+_, _*_, _<_}
+use mathlib.Core.Path.{_≡_}
+use mathlib.Core.Bool.{true, false}
 use mathlib.Core.List.{List}
 use Rattle.rules.specs.History.{History, txCount, opCount}
+use Rattle.rules.specs.Records.{isSecond}
 use Rattle.rules.specs.Reading.{Stretch}
 use Rattle.demand1.specs.Rows.{Check, numberOf, FirstFailing, Inside, Refuses, ReadInto}
 use Rattle.written.specs.Steps.{HasStep, NoStep, StepFails, Comes}
@@ -26,4 +29,6 @@ stepsLength h = 16 * (2 * txCount h + opCount h)
 -- turning the trace s into steps, with a buffer of o bytes, is refused with this number and place: "2 to 11, then 16 for its length"
 pub data ListDeclines (s : List ℕ) (o : ℕ) : ℕ → ℕ → Type 0 where
   trace-refused : {n at : ℕ} → Refuses s n at → ListDeclines s o n at
-  steps-short : {h : History} {notes : List Stretch} → ReadInto s h notes → o < stepsLength h → ListDeclines s o 16 (stepsLength h)
+  -- "request One's writer and its promises stay with that edition", the first: of edition 2 the record that it begins with is no step
+  second-edition : {h : History} {notes : List Stretch} → isSecond s ≡ true → ReadInto s h notes → ListDeclines s o 6 0
+  steps-short : {h : History} {notes : List Stretch} → isSecond s ≡ false → ReadInto s h notes → o < stepsLength h → ListDeclines s o 16 (stepsLength h)

@@ -1,9 +1,11 @@
 -- Document 02, request One: the steps of a trace, in the document's own terms, and what is promised of turning it into them.
 use Prim.Native.Nat.{ℕ, _+_, _*_}
 use mathlib.Core.Path.{_≡_}
+use mathlib.Core.Bool.{false}
 use mathlib.Core.List.{List}
 use lib.ListN.{length}
 use Rattle.rules.specs.History.{History, txCount, opCount}
+use Rattle.rules.specs.Records.{isSecond}
 use Rattle.rules.specs.Reading.{Stretch}
 use Rattle.demand1.specs.Rows.{ReadInto}
 use Rattle.writing.specs.declared.Filled.{Filled}
@@ -19,8 +21,9 @@ pub data UnusedZero (x : List ℕ) (k : ℕ) : Type 0 where
   in-write : kindBehind x k ≡ 3 → sessionBehind x k ≡ 0 → UnusedZero x k
   in-close : kindBehind x k ≡ 4 → keyBehind x k ≡ 0 → valueBehind x k ≡ 0 → UnusedZero x k
 
--- x are steps, each lawful where it stands, whose history is that of the trace s
+-- x are steps, each lawful where it stands, whose history is that of the trace s, which is edition 1
 pub record StepsOf (s : List ℕ) (x : List ℕ) : Type 0 where
+  pub first-edition : isSecond s ≡ false
   pub is-bytes : AllBytes x
   pub history : History
   pub notes : List Stretch

@@ -1,9 +1,11 @@
 -- Document 02, request One: the trace that is written, in the document's own terms, and what is promised of writing.
 use Prim.Native.Nat.{ℕ, zero, suc, _+_, _%_, _^_, _<_, _≤_}
 use mathlib.Core.Path.{_≡_}
+use mathlib.Core.Bool.{false}
 use mathlib.Core.List.{List, []}
 use lib.ListN.{length, getD}
 use Rattle.rules.specs.History.{History, txCount}
+use Rattle.rules.specs.Records.{isSecond}
 use Rattle.demand1.specs.Rows.{kind, serial, session, key, value, status, endNumber, behind, ReadInto}
 use Rattle.writing.specs.Steps.{stepCount, stepsIn}
 use Rattle.writing.specs.declared.Filled.{Filled}
@@ -36,6 +38,8 @@ pub record IsEndRecord (b : List ℕ) (at n : ℕ) : Type 0 where
 -- b is the trace of the steps s, with serials from n on
 pub record TraceOf (s : List ℕ) (n : ℕ) (b : List ℕ) : Type 0 where
   pub is-bytes : AllBytes b
+  -- "Any other trace is edition 1; request One's writer and its promises stay with that edition"
+  pub first-edition : isSecond b ≡ false
   -- "What it writes reads back as the same transactions, operations ..": it is read, and has no notes
   pub history : History
   pub reads : ReadInto b history []

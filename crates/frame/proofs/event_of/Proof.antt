@@ -1,7 +1,8 @@
 use mathlib.Core.Path.{refl}
 use Rattle.base.specs.Base.{pick}
 use Rattle.rules.specs.Records.{eventOf}
-use Rattle.frame.proofs.Frames.{long-enough, of-kind}
+use Rattle.frame.proofs.Frames.{long-enough, leasts, of-kind}
+use borrow.Author.Needs.{needs}
 use borrow.Author.Tests.{ne-eqb}
 use Rattle.frame.proofs.event_of.Statement.{statement}
 use Rattle.frame.proofs.event_of.Tie as tie
@@ -17,16 +18,14 @@ pub event-of-spec : {M : Type 1} → statement M
 unfolding eventOf pick
 event-of-spec =
     tie.close
-    (tie.spec
-    (λ c κs. long-enough (c .before .before .args .p .now) (c .match .keys1) (c .before .before .pre))
-    (λ c κs. long-enough (c .before .before .args .p .now) (c .match .keys2) (c .before .before .pre))
-    (λ c κs. long-enough (c .before .before .args .p .now) (c .match .keys3) (c .before .before .pre))
-    (λ c κs. long-enough (c .before .before .args .p .now) (c .match .keys4) (c .before .before .pre))
-    (λ c κs. long-enough (c .before .before .args .p .now) (c .match .keys5) (c .before .before .pre))
-    (λ c. of-kind _ (c .before .match .keys1) (c .read-open .ensures))
-    (λ c. of-kind _ (c .before .match .keys2) (c .read-read .ensures))
-    (λ c. of-kind _ (c .before .match .keys3) (c .read-write .ensures))
-    (λ c. of-kind _ (c .before .match .keys4) (c .read-close .ensures))
-    (λ c. of-kind _ (c .before .match .keys5) (c .read-end .ensures))
-    (λ c. of-kind _ (c .match .keys6) refl)
-    other)
+    (tie.spec (λ c κs. search needs)
+    (λ c κs. let f = c .before .before .before in long-enough (f .args .second) (f .args .p .now) (c .match .keys1) (f .pre) (leasts (f .args .second) .opens))
+    (λ c κs. let f = c .before .before .before in rw (c .before .fields-from .ensures) (long-enough (f .args .second) (f .args .p .now) (c .match .keys2) (f .pre) (leasts (f .args .second) .reads)))
+    (λ c κs. let f = c .before .before .before in rw (c .before .fields-from .ensures) (long-enough (f .args .second) (f .args .p .now) (c .match .keys3) (f .pre) (leasts (f .args .second) .writes)))
+    (λ c κs. let f = c .before .before .before in rw (c .before .fields-from .ensures) (long-enough (f .args .second) (f .args .p .now) (c .match .keys4) (f .pre) (leasts (f .args .second) .closes)))
+    (λ c κs. let f = c .before .before .before in long-enough (f .args .second) (f .args .p .now) (c .match .keys5) (f .pre) (leasts (f .args .second) .ends))
+    (λ c. of-kind (c .before .before .before .before .args .second) _ (c .before .match .keys1) (c .read-open .ensures))
+    (λ c. of-kind (c .before .before .before .before .args .second) _ (c .before .match .keys2) (rw (← c .before .before .fields-from .ensures) (c .read-read .ensures)))
+    (λ c. of-kind (c .before .before .before .before .args .second) _ (c .before .match .keys3) (rw (← c .before .before .fields-from .ensures) (c .read-write .ensures)))
+    (λ c. of-kind (c .before .before .before .before .args .second) _ (c .before .match .keys4) (rw (← c .before .before .fields-from .ensures) (c .read-close .ensures)))
+    (λ c. of-kind (c .before .before .before .before .args .second) _ (c .before .match .keys5) (c .read-end .ensures)) (λ c. of-kind (c .before .before .before .args .second) _ (c .match .keys6) refl) other)

@@ -1,35 +1,9 @@
-use Rattle.steps.proofs.Taken.{idle-note, idle-other}
 use borrow.Author.Needs.{needs}
 use Rattle.steps.proofs.take.Statement.{statement}
 use Rattle.steps.proofs.take.Tie as tie
 
 returns : tie.Need-returns
-returns c =
-    rw (c .before .before .before .before .before .event .given .1, ← c .before .before .before .before .before .before .before .current .ensures .is) (c .before .before .take-open .ensures)
-
-returns-2 : tie.Need-returns-2
-returns-2 c =
-    rw (c .before .before .before .before .before .event2 .given .1, ← c .before .before .before .before .before .before .before .current .ensures .is) (c .before .before .take-read .ensures)
-
-returns-3 : tie.Need-returns-3
-returns-3 c =
-    rw (c .before .before .before .before .before .event3 .given .1, ← c .before .before .before .before .before .before .before .current .ensures .is) (c .before .before .take-write .ensures)
-
-returns-4 : tie.Need-returns-4
-returns-4 c =
-    rw (c .before .before .before .before .before .event4 .given .1, ← c .before .before .before .before .before .before .before .current .ensures .is) (c .before .before .take-close .ensures)
-
-returns-5 : tie.Need-returns-5
-returns-5 c =
-    rw (c .before .before .before .event5 .given .1, ← c .before .before .before .before .before .current .ensures .is) (c .take-end .ensures)
-
-returns-6 : tie.Need-returns-6
-returns-6 c =
-    rw (c .enum-told .given .1) (idle-note _ _ (c .before .before .before .before .before .pre))
-
-returns-7 : tie.Need-returns-7
-returns-7 c =
-    rw (c .enum-told2 .given .1) (idle-other _ _ (c .before .before .before .before .before .pre))
+returns c = rw (← c .before .before .before .before .current .ensures .is) (c .before .before .take-in .ensures)
 
 pub take-spec : {M : Type 1} → statement M
-take-spec = tie.close (tie.spec (λ c κs. search needs) (λ c. search needs) (λ c κs. search needs) (λ c. search needs) (λ c κs. search needs) (λ c. search needs) (λ c κs. search needs) (λ c. search needs) (λ c κs. search needs) (λ c. search needs) (λ c κs. search needs) (λ c. search needs) (λ c. search needs) (λ c. search needs) returns (λ c. search needs) returns-2 (λ c. search needs) returns-3 (λ c. search needs) returns-4 (λ c. search needs) returns-5 (λ c. search needs) returns-6 (λ c. search needs) returns-7)
+take-spec = tie.close (tie.spec (λ c κs. search needs) (λ c κs. search needs) (λ c. search needs) returns)

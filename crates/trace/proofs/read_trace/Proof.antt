@@ -1,15 +1,18 @@
 use Prim.Native.Nat.{_-_}
+use mathlib.Core.Path.{sym}
 use lib.ListN.{length}
-use Rattle.trace.proofs.Going.{Going, going-first, going-less, going-more, going-stop, too-long}
+use Rattle.table.specs.Table.{historyOf}
+use Rattle.sessions.specs.Open.{Beside}
+use Rattle.trace.proofs.Going.{Going, beside-first, going-first, going-less, going-more, going-stop, too-long}
 use borrow.Author.Needs.{needs}
 use Rattle.trace.proofs.read_trace.Statement.{statement}
 use Rattle.trace.proofs.read_trace.Tie as tie
 
 abbrev Inv-loop : tie.InvT-loop
-Inv-loop s k h₀ at₀ serial₀ c₀ h at serial c = Going s k h₀ at serial c h
+Inv-loop s k h₀ second o₀ at₀ serial₀ c₀ h o at serial c = Going s k h₀ at serial c h × Beside second o (historyOf h)
 
 abbrev μ-loop : tie.MeasureT-loop
-μ-loop s k h₀ at₀ serial₀ c₀ h at serial c = length s - at
+μ-loop s k h₀ second o₀ at₀ serial₀ c₀ h o at serial c = length s - at
 
 returns : tie.Need-returns Inv-loop μ-loop
 returns c =
@@ -17,23 +20,33 @@ returns c =
 
 loop-holds : tie.Need-loop-holds Inv-loop μ-loop
 loop-holds c =
-    going-first _ _ _ (c .before .before .before .clear .ensures .holds) (c .if1 .left)
+    let h = c .before .before .before .before .clear .ensures .holds in
+    (going-first _ _ _ h (c .before .if1 .left), beside-first _ h)
+
+slice-aggregate-turn-at : tie.Need-slice-aggregate-turn-at Inv-loop μ-loop
+slice-aggregate-turn-at c = sym (c .before .before .loop .inv .1 .room)
 
 turn-at-requires : tie.Need-turn-at-requires Inv-loop μ-loop
 turn-at-requires c κs =
-    (c .before .loop .inv .held, c .before .loop .inv .within, c .before .loop .inv .few)
+    let l = c .before .before in
+    let g = l .loop .inv .0 in
+    (g .held, g .within, g .few, l .before .is-second .ensures, l .loop .inv .1)
 
 returns-2 : tie.Need-returns-2 Inv-loop μ-loop
 returns-2 c =
-    going-stop _ _ _ _ _ _ _ _ (c .before .before .before .before .before .before .before .loop .inv) _ (c .before .before .before .before .before .turn-at .ensures) (c .before .turn .given .1) _ (c .before .before .before .before .before .before .before .before .before .before .before .clear .ensures .is) (c .before .before .before .before .before .before .before .before .if1 .left)
+    let t = c .before .before .before .before .before .before in
+    let l = t .before .before .before in
+    going-stop _ _ _ _ _ _ _ _ (l .loop .inv .0) _ (t .turn-at .ensures .0) (c .before .turn .given .1) _ (l .before .before .before .before .before .clear .ensures .is) (l .before .before .if1 .left)
 
 loop-less : tie.Need-loop-less Inv-loop μ-loop
 loop-less c =
-    going-less _ _ _ _ _ _ _ _ (c .before .before .before .before .before .before .before .loop .inv) _ (c .before .before .before .before .before .turn-at .ensures) (c .before .turn2 .given .1)
+    let t = c .before .before .before .before .before .before in
+    going-less _ _ _ _ _ _ _ _ (t .before .before .before .loop .inv .0) _ (t .turn-at .ensures .0) (c .before .turn2 .given .1)
 
 loop-again : tie.Need-loop-again Inv-loop μ-loop
 loop-again c =
-    going-more _ _ _ _ _ _ _ _ (c .before .before .before .before .before .before .before .loop .inv) _ (c .before .before .before .before .before .turn-at .ensures) (c .before .turn2 .given .1)
+    let t = c .before .before .before .before .before .before in
+    (going-more _ _ _ _ _ _ _ _ (t .before .before .before .loop .inv .0) _ (t .turn-at .ensures .0) (c .before .turn2 .given .1), t .turn-at .ensures .1)
 
 pub read-trace-spec : {M : Type 1} → statement M
-read-trace-spec = tie.close (tie.spec Inv-loop μ-loop (λ c κs. search needs) (λ c. search needs) returns loop-holds turn-at-requires (λ c. search needs) (λ c. search needs) returns-2 (λ c. search needs) loop-less loop-again)
+read-trace-spec = tie.close (tie.spec Inv-loop μ-loop (λ c κs. search needs) (λ c. search needs) returns (λ c κs. search needs) loop-holds slice-aggregate-turn-at turn-at-requires (λ c. search needs) (λ c. search needs) returns-2 (λ c. search needs) loop-less loop-again)

@@ -1,82 +1,87 @@
 use Prim.Native.Nat.{_%_, _+_, _-_, _^_, ℕ}
 use mathlib.Core.Path.{_∙_, ap, sym}
 use native.Mathlib.Omega.{arith}
-use Rattle.frame.proofs.Frames.{good-fit}
+use Rattle.frame.proofs.Frames.{good-fit, good-session}
 use Rattle.trace.proofs.Turning.{turned-bad, turned-done, turned-go, turned-refuse, turned-text}
 use Rattle.trace.specs.Turns.{counted, finish}
 use borrow.Author.Needs.{needs}
 use Rattle.trace.proofs.turn_at.Statement.{statement}
 use Rattle.trace.proofs.turn_at.Tie as tie
 
+take-requires : tie.Need-take-requires
+take-requires c κs =
+    let m = c .before .before .before in
+    let p = m .before .before .before .before .before .before .pre in
+    (p .0, p .4, good-session _ _ _ _ (sym (m .before .before .frame-at .ensures) ∙ m .framed2 .given .1))
+
 u16-at-requires : tie.Need-u16-at-requires
 u16-at-requires c κs =
-    let m = c .before .before .before .before .before in
-    let f = good-fit _ _ _ (sym (m .before .before .frame-at .ensures) ∙ m .framed2 .given .1) in
-    omega (arith, f .six, f .room)
-
-add-after-2 : tie.Need-add-after-2
-add-after-2 c =
-    let m = c .before .before .before .before .before .before in
-    let f = good-fit _ _ _ (sym (m .before .before .frame-at .ensures) ∙ m .framed2 .given .1) in
-    omega (arith, f .six, f .room)
-
-add-u32-at : tie.Need-add-u32-at
-add-u32-at c =
-    let m = c .before .before .before .before .before .before in
-    let f = good-fit _ _ _ (sym (m .before .before .frame-at .ensures) ∙ m .framed2 .given .1) in
+    let m = c .before .before .before .before .before .before .before .before in
+    let f = good-fit _ _ _ _ (sym (m .before .before .frame-at .ensures) ∙ m .framed2 .given .1) in
     omega (arith, f .six, f .room)
 
 u32-at-requires : tie.Need-u32-at-requires
 u32-at-requires c κs =
-    let m = c .before .before .before .before .before .before in
-    let f = good-fit _ _ _ (sym (m .before .before .frame-at .ensures) ∙ m .framed2 .given .1) in
+    let m = c .before .before .before .before .before .before .before .before .before in
+    let f = good-fit _ _ _ _ (sym (m .before .before .frame-at .ensures) ∙ m .framed2 .given .1) in
     omega (arith, f .six, f .room)
 
 sub-count : tie.Need-sub-count
 sub-count c =
-    let m = c .before .before .before .before .before .before .before .before .before .before in
-    let f = good-fit _ _ _ (sym (m .before .before .frame-at .ensures) ∙ m .framed2 .given .1) in
+    let m = c .before .before .before .before .before .before .before .before .before .before .before .before .before in
+    let f = good-fit _ _ _ _ (sym (m .before .before .frame-at .ensures) ∙ m .framed2 .given .1) in
     omega (arith, f .six, f .room)
 
 returns : tie.Need-returns
 returns c =
     let m = c .before in
-    turned-bad _ _ _ _ _ _ (sym (m .before .before .frame-at .ensures) ∙ m .framed .given .1) (m .before .before .before .before .before .pre .0)
+    let p = m .before .before .before .before .before .before .pre in
+    (turned-bad _ _ _ _ _ _ (p .3) (sym (m .before .before .frame-at .ensures) ∙ m .framed .given .1) (p .0), p .4)
 
 returns-2 : tie.Need-returns-2
 returns-2 c =
-    let t = c .before .before .before .before .before .before .before .before in
-    let m = t .before .before .before in
-    turned-refuse _ _ _ _ _ _ _ _ _ (sym (m .before .before .frame-at .ensures) ∙ m .framed2 .given .1) (t .take .ensures) (c .before .next .given .1)
+    let t = c .before .before .before .before .before .before .before .before .before .before in
+    let m = t .before .before .before .before in
+    let p = m .before .before .before .before .before .before .pre in
+    (turned-refuse _ _ _ _ _ _ _ _ _ (p .3) (sym (m .before .before .frame-at .ensures) ∙ m .framed2 .given .1) (t .take .ensures .took) (c .before .next .given .1), t .take .ensures .beside)
 
 returns-3 : tie.Need-returns-3
 returns-3 c =
     let l = c .before .before .before .before .before in
-    let t = l .before .before .before in
-    let m = t .before .before .before in
-    let a = m .before .before .before .before .before .args in
-    turned-done _ _ _ _ _ _ _ _ _ (sym (m .before .before .frame-at .ensures) ∙ m .framed2 .given .1) (t .take .ensures) (c .before .enum-told .given .1)
-    (c .finish .ensures ∙ ap (λ (n : ℕ). finish (a .s .now) (a .at + 2 + n) (a .c)) (l .u16-at .ensures))
+    let t = l .before .before .before .before .before in
+    let m = t .before .before .before .before in
+    let f = m .before .before .before .before .before .before in
+    let a = f .args in (
+      turned-done _ _ _ _ _ _ _ _ _ (f .pre .3) (sym (m .before .before .frame-at .ensures) ∙ m .framed2 .given .1) (t .take .ensures .took) (c .before .enum-told .given .1)
+          (c .finish .ensures ∙ ap (λ (n : ℕ). finish (a .s .now) (a .at + 2 + n) (a .c)) (l .u16-at .ensures)),
+      t .take .ensures .beside,
+    )
 
 returns-4 : tie.Need-returns-4
 returns-4 c =
     let l = c .before .before .before .before in
-    let t = l .before .before .before in
-    let m = t .before .before .before in
-    let a = m .before .before .before .before .before .args in
-    turned-go _ _ _ _ _ _ _ _ _ (sym (m .before .before .frame-at .ensures) ∙ m .framed2 .given .1) (t .take .ensures) (c .enum-told2 .given .1)
-    (ap (λ (n : ℕ). a .at + 2 + n) (l .u16-at .ensures)) (c .before .before .wrapping-add-u32 .ensures ∙ ap (λ (n : ℕ). (n + 1) % 2 ^ 32) (c .before .before .before .u32-at .ensures))
+    let t = l .before .before .before .before .before in
+    let m = t .before .before .before .before in
+    let f = m .before .before .before .before .before .before in
+    let a = f .args in (
+      turned-go _ _ _ _ _ _ _ _ _ (f .pre .3) (sym (m .before .before .frame-at .ensures) ∙ m .framed2 .given .1) (t .take .ensures .took) (c .enum-told2 .given .1)
+          (ap (λ (n : ℕ). a .at + 2 + n) (l .u16-at .ensures)) (c .before .before .wrapping-add-u32 .ensures ∙ ap (λ (n : ℕ). (n + 1) % 2 ^ 32) (c .before .before .before .u32-at .ensures)),
+      t .take .ensures .beside,
+    )
 
 returns-5 : tie.Need-returns-5
 returns-5 c =
     let u = c .before .before .before .before in
     let l = u .before in
-    let t = l .before .before .before in
-    let m = t .before .before .before in
-    let a = m .before .before .before .before .before .args in
-    turned-text _ _ _ _ _ _ _ _ _ (sym (m .before .before .frame-at .ensures) ∙ m .framed2 .given .1) (t .take .ensures) (c .before .enum-told3 .given .1)
-    (ap (λ (n : ℕ). a .at + 2 + n) (l .u16-at .ensures)) (c .before .before .before .wrapping-add-u32 .ensures ∙ ap (λ (n : ℕ). (n + 1) % 2 ^ 32) (u .u32-at .ensures))
-    (c .count .ensures ∙ ap (λ (n : ℕ). counted (a .k) (a .c) (record { start = a .at + 8; length = n - 6 })) (l .u16-at .ensures))
+    let t = l .before .before .before .before .before in
+    let m = t .before .before .before .before in
+    let f = m .before .before .before .before .before .before in
+    let a = f .args in (
+      turned-text _ _ _ _ _ _ _ _ _ (f .pre .3) (sym (m .before .before .frame-at .ensures) ∙ m .framed2 .given .1) (t .take .ensures .took) (c .before .enum-told3 .given .1)
+          (ap (λ (n : ℕ). a .at + 2 + n) (l .u16-at .ensures)) (c .before .before .before .wrapping-add-u32 .ensures ∙ ap (λ (n : ℕ). (n + 1) % 2 ^ 32) (u .u32-at .ensures))
+          (c .count .ensures ∙ ap (λ (n : ℕ). counted (a .k) (a .c) (record { start = a .at + 8; length = n - 6 })) (l .u16-at .ensures)),
+      t .take .ensures .beside,
+    )
 
 pub turn-at-spec : {M : Type 1} → statement M
-turn-at-spec = tie.close (tie.spec (λ c κs. search needs) (λ c. search needs) (λ c. search needs) (λ c κs. search needs) u16-at-requires (λ c. search needs) (λ c. search needs) add-after-2 add-u32-at u32-at-requires (λ c κs. search needs) (λ c. search needs) (λ c. search needs) (λ c κs. search needs) (λ c. search needs) (λ c. search needs) (λ c. search needs) sub-count (λ c κs. search needs) returns (λ c. search needs) returns-2 (λ c. search needs) returns-3 (λ c. search needs) returns-4 (λ c. search needs) returns-5)
+turn-at-spec = tie.close (tie.spec (λ c κs. search needs) (λ c. search needs) (λ c. search needs) take-requires u16-at-requires (λ c. search needs) (λ c. search needs) (λ c. search needs) (λ c. search needs) u32-at-requires (λ c κs. search needs) (λ c. search needs) (λ c. search needs) (λ c κs. search needs) (λ c. search needs) (λ c. search needs) (λ c. search needs) sub-count (λ c κs. search needs) returns (λ c. search needs) (λ c. search needs) returns-2 (λ c. search needs) (λ c. search needs) returns-3 (λ c. search needs) (λ c. search needs) returns-4 (λ c. search needs) (λ c. search needs) returns-5)

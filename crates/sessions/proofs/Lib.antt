@@ -1,0 +1,5 @@
+pub mod Grown
+pub mod Kept
+pub mod Walks
+pub mod Taken
+pub mod One

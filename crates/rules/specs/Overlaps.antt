@@ -42,13 +42,15 @@ abbrev pub overlapTable : List Overlap
 overlapTable =
     -- the record that says the edition: 3 for its bytes, then 4 for its length, then 8 for "another payload", of which both bytes count
     overlap (raw 8 16 0 (2 ∷ [])) (refused 3 0)
+    ∷ overlap (raw 9 16 0 (2 ∷ [])) (refused 3 0)
     ∷ overlap (raw 7 16 0 (3 ∷ [])) (refused 4 0)
     ∷ overlap (raw 9 16 0 (3 ∷ 0 ∷ 0 ∷ [])) (refused 4 0)
     ∷ overlap (trace 0 (edition 1 ∷ [])) (refused 8 0)
     ∷ overlap (trace 0 (edition 3 ∷ [])) (refused 8 0)
     ∷ overlap (trace 0 (edition 258 ∷ [])) (refused 8 0)
     ∷ refuses [] 3 10
-    -- a kind 16 "that isn't first", in either edition: 5, then 4 for its length, then 7, then 8
+    -- a kind 16 "that isn't first", in either edition: 3 for its bytes, then 5, then 4 for its length, then 7, then 8
+    ∷ refusesRaw (edition 2 ∷ []) (raw 9 16 7 (2 ∷ [])) 3 10
     ∷ refusesRaw (edition 2 ∷ []) (raw 9 16 7 (room 3)) 5 10
     ∷ refusesRaw (edition 2 ∷ []) (raw 9 16 1 (room 3)) 4 10
     ∷ refuses (edition 2 ∷ []) 7 10
@@ -56,10 +58,12 @@ overlapTable =
     ∷ refusesRaw (opens 1 ∷ []) (raw 9 16 1 (room 3)) 4 10
     ∷ overlap (trace 0 (opens 1 ∷ edition 2 ∷ [])) (refused 7 10)
     ∷ overlap (trace 0 (note [] ∷ edition 3 ∷ [])) (refused 7 8)
-    -- "6 for a note in edition 2", before any length; the lengths of each edition are not the other's
+    -- "6 for a note in edition 2", behind 5 and before any length; the lengths of each edition are not the other's, and come before 7
+    ∷ refusesRaw (edition 2 ∷ []) (raw 6 6 7 []) 5 10
     ∷ refuses (note [] ∷ []) 6 10
     ∷ refuses (note (room 65) ∷ []) 6 10
     ∷ refuses (opens 1 ∷ r 1 0 ∷ []) 4 20
+    ∷ refuses (r 1 0 ∷ []) 4 10
     ∷ refuses (opens 1 ∷ closes 1 ∷ []) 4 20
     ∷ overlap (trace 0 (opens 1 ∷ wOf 1 1 5 ∷ [])) (refused 4 10)
     ∷ overlap (trace 0 (opens 1 ∷ closesOf 1 1 ∷ [])) (refused 4 10)

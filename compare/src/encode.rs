@@ -95,7 +95,9 @@ impl Writer {
         self.record_in(session, CLOSE, &[status]);
     }
 
-    fn record_in(&mut self, session: u16, kind: u16, fields: &[u8]) {
+    /// Any record of a transaction as the trace's edition has it, without its
+    /// session in `fields`.
+    pub fn record_in(&mut self, session: u16, kind: u16, fields: &[u8]) {
         match self.edition {
             Edition::One => self.record(kind, fields),
             Edition::Two => {

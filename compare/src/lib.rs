@@ -1,22 +1,24 @@
-//! An independent judge and writer of transaction traces.
+//! An independent judge, writer and mover of transaction traces.
 //!
 //! It is written from the specification alone, `01-scope.md` and the requests
-//! for a writer, for unanswered commits, for the writes of unclean reads and for
-//! overlapping transactions, to be compared with the proved judge and writer: the
-//! two sides share no code, so a mistake would have to be made twice, in the same
-//! way, to stay unseen.
+//! for a writer, for unanswered commits, for the writes of unclean reads, for
+//! overlapping transactions and for moves between the editions, to be compared
+//! with the proved judge, writer and mover: the two sides share no code, so a
+//! mistake would have to be made twice, in the same way, to stay unseen.
 //!
 //! * [`trace`] reads the bytes of a trace, or says why they are refused;
 //! * [`graph`] decides by forced pairs, for any trace, and is meant to be fast;
 //! * [`brute`] decides small traces by trying every order against the
 //!   published axioms, and what counts as committed by trying every choice of
 //!   outcomes; it is meant to be obviously right;
-//! * [`report`] holds the answers and prints them as the program `judge` does;
+//! * [`report`] holds the answers, prints them as the program `judge` does and
+//!   reads what is printed so;
 //! * [`writing`] writes traces from steps and turns traces into steps;
+//! * [`moving`] moves traces between the editions;
 //! * [`encode`], [`text`], [`weave`], [`generate`], [`cases`] and
 //!   [`overlap_cases`] make traces, [`sequences`] and [`sequence_cases`]
 //!   sequences of steps;
-//! * [`process`], [`workers`] and [`scribes`] compare.
+//! * [`process`], [`workers`], [`scribes`] and [`moves`] compare.
 
 pub mod brute;
 pub mod cases;
@@ -24,6 +26,8 @@ pub mod encode;
 pub mod generate;
 pub mod graph;
 pub mod hash;
+pub mod moves;
+pub mod moving;
 pub mod overlap_cases;
 pub mod process;
 pub mod random;

@@ -1,5 +1,6 @@
 //! Running the programs under comparison.
 
+use crate::trace::MAX_BYTES;
 use std::io::{self, Write};
 use std::process::{Child, Command, Stdio};
 use std::thread;
@@ -14,6 +15,19 @@ pub fn spawn(command: &str) -> Result<Child, String> {
         .stdout(Stdio::piped())
         .spawn()
         .map_err(|error| format!("{command}: {error}"))
+}
+
+/// What the programs keep of their input: a byte above the limit is enough to
+/// know that a trace is too long.
+pub fn kept(trace: &[u8]) -> &[u8] {
+    &trace[..trace.len().min(MAX_BYTES + 1)]
+}
+
+/// Bytes as the programs that take or give many at a time have them: behind
+/// their length, 2 bytes little-endian.
+pub fn behind_length(bytes: &[u8]) -> Vec<u8> {
+    let length = u16::try_from(bytes.len()).expect("what is asked or answered is short");
+    [&length.to_le_bytes(), bytes].concat()
 }
 
 /// What a program that has ended left behind.

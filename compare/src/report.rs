@@ -3,6 +3,7 @@
 use crate::trace::Refusal;
 use crate::Answer;
 use std::fmt::Write;
+use std::str::FromStr;
 
 /// The three levels, weakest first.
 #[derive(Clone, Copy, Debug, PartialEq, Eq)]
@@ -125,4 +126,72 @@ fn print_block(out: &mut String, level: &str, verdict: &Verdict) {
 
 fn line(out: &mut String, text: std::fmt::Arguments) {
     writeln!(out, "{text}").expect("a string takes all text");
+}
+
+/// The answer that is printed so; none where no answer is.
+pub fn read(text: &str) -> Option<Answer> {
+    let answer = read_loosely(text)?;
+    // Whatever was overlooked shows when it is printed again.
+    (print(&answer) == text).then_some(answer)
+}
+
+fn read_loosely(text: &str) -> Option<Answer> {
+    if let Some(refusal) = text.strip_prefix("refused ") {
+        let [number, place] = numbers(refusal)?[..] else {
+            return None;
+        };
+        let number = u8::try_from(number).ok()?;
+        return Some(Err(Refusal { number, place }));
+    }
+    let mut lines = text.lines();
+    let verdicts = Level::ALL.map(|level| read_block(&mut lines, level.name()));
+    match verdicts {
+        [Some(rc), Some(ra), Some(tcc)] => Some(Ok([rc, ra, tcc])),
+        _ => None,
+    }
+}
+
+fn read_block<'a>(lines: &mut impl Iterator<Item = &'a str>, level: &str) -> Option<Verdict> {
+    let verdict = lines.next()?.strip_prefix(level)?;
+    if let Some(order) = verdict.strip_prefix(" accepted") {
+        return Some(Verdict::Accepted(numbers(order)?));
+    }
+    let [found, listed] = numbers(verdict.strip_prefix(" rejected")?)?[..] else {
+        return None;
+    };
+    let mut each = |_| lines.next();
+    let findings: Option<_> = (0..found).map(|n| read_finding(each(n)?)).collect();
+    let pairs: Option<_> = (0..listed).map(|n| read_pair(each(n)?)).collect();
+    Some(Verdict::Rejected {
+        findings: findings?,
+        pairs: pairs?,
+    })
+}
+
+fn read_finding(line: &str) -> Option<Finding> {
+    match numbers(line.strip_prefix("read")?)?[..] {
+        [transaction, operation, kind, write] => Some(Finding {
+            transaction: u8::try_from(transaction).ok()?,
+            kind: u8::try_from(kind).ok()?,
+            operation,
+            write,
+        }),
+        _ => None,
+    }
+}
+
+fn read_pair(line: &str) -> Option<Pair> {
+    match numbers(line.strip_prefix("pair")?)?[..] {
+        [first, second, reasons] => Some(Pair {
+            first,
+            second,
+            reasons,
+        }),
+        _ => None,
+    }
+}
+
+fn numbers<N: FromStr>(text: &str) -> Option<Vec<N>> {
+    let words = text.split_whitespace();
+    words.map(|word| word.parse().ok()).collect()
 }

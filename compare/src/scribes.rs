@@ -1,41 +1,40 @@
-//! Compares the programs `scribe`, `writer` and `rewrite` with the independent
-//! writer, and that writer with the reader.
+//! Compares the programs `scribe`, `writer`, `rewrite`, `to_edition_1` and
+//! `to_edition_2` with the independent writer and mover, and these with the
+//! reader.
 
 use crate::cases;
 use crate::generate;
-use crate::process;
+use crate::moving::{self, move_to};
+use crate::process::{self, behind_length, kept};
 use crate::random::Random;
 use crate::sequence_cases;
 use crate::sequences::{self, Origin};
 use crate::trace::{
-    self, Edition, Operation, Refusal, Status, Trace, Transaction, CLOSE, MAX_BYTES,
-    MAX_OPERATIONS, MAX_TRANSACTIONS, NOTE, OPEN, WRITE,
+    self, Edition, Operation, Refusal, Status, Trace, Transaction, CLOSE, MAX_OPERATIONS,
+    MAX_TRANSACTIONS, OPEN, WRITE,
 };
-use crate::workers::{self, add_each, Difference, Extent, Tally};
+use crate::workers::{self, add_each, must, Difference, Extent, Tally};
 use crate::writing::{
     first_serial, print, read_unchecked, rewrite, steps_of, steps_to_bytes, write_input, Step,
     STEP_SIZE,
 };
 
 /// Room for everything that can be written.
-const AMPLE: u16 = u16::MAX;
+pub const AMPLE: u16 = u16::MAX;
 
 /// The program that is compared.
 pub enum Program {
     /// `scribe`: many items a run.
     Scribe(String),
-    /// `writer`: a run for each sequence, with ample room.
-    Writer(String),
-    /// `rewrite`: a run for each trace, with ample room.
-    Rewrite(String),
+    /// One that can be asked in one way only: a run for each sequence or trace,
+    /// with ample room.
+    Once(Way, String),
 }
 
 impl Program {
-    fn command(&self) -> &str {
+    pub fn command(&self) -> &str {
         match self {
-            Program::Scribe(command) | Program::Writer(command) | Program::Rewrite(command) => {
-                command
-            }
+            Program::Scribe(command) | Program::Once(_, command) => command,
         }
     }
 
@@ -43,15 +42,14 @@ impl Program {
     fn together(&self) -> usize {
         match self {
             Program::Scribe(_) => 200,
-            Program::Writer(_) | Program::Rewrite(_) => 1,
+            Program::Once(..) => 1,
         }
     }
 
     fn takes(&self, way: Way) -> bool {
         match self {
             Program::Scribe(_) => true,
-            Program::Writer(_) => way == Way::Steps,
-            Program::Rewrite(_) => way == Way::Rewrite,
+            Program::Once(its_way, _) => way == *its_way,
         }
     }
 
@@ -59,7 +57,7 @@ impl Program {
     fn refusals(&self, way: Way) -> Vec<usize> {
         let mut numbers: Vec<usize> = match way {
             Way::Steps => vec![3, 6, 7, 8, 9, 10],
-            Way::List | Way::Rewrite => (2..=11).collect(),
+            Way::List | Way::Rewrite | Way::ToEdition1 | Way::ToEdition2 => (2..=11).collect(),
         };
         if let Program::Scribe(_) = self {
             numbers.push(16);
@@ -71,7 +69,7 @@ impl Program {
     fn answers(&self, items: &[Item]) -> Vec<Result<Vec<u8>, String>> {
         match self {
             Program::Scribe(command) => scribe_answers(command, items),
-            Program::Writer(command) | Program::Rewrite(command) => items
+            Program::Once(_, command) => items
                 .iter()
                 .map(|item| process::run_once(command, &item.bytes))
                 .collect(),
@@ -113,10 +111,19 @@ pub enum Way {
     List,
     /// A trace is to be turned into steps and written again.
     Rewrite,
+    /// A trace is to be moved to an edition.
+    ToEdition1,
+    ToEdition2,
 }
 
 impl Way {
-    pub const ALL: [Way; 3] = [Way::Steps, Way::List, Way::Rewrite];
+    pub const ALL: [Way; 5] = [
+        Way::Steps,
+        Way::List,
+        Way::Rewrite,
+        Way::ToEdition1,
+        Way::ToEdition2,
+    ];
 
     /// How the program `scribe` is asked.
     pub fn letter(self) -> u8 {
@@ -124,6 +131,8 @@ impl Way {
             Way::Steps => b's',
             Way::List => b'l',
             Way::Rewrite => b'r',
+            Way::ToEdition1 => b'1',
+            Way::ToEdition2 => b'2',
         }
     }
 
@@ -131,32 +140,52 @@ impl Way {
         Way::ALL.into_iter().find(|way| way.letter() == letter)
     }
 
-    /// The answer of the independent writer.
+    /// The way in which a trace is moved to the edition.
+    pub fn to(edition: Edition) -> Way {
+        match edition {
+            Edition::One => Way::ToEdition1,
+            Edition::Two => Way::ToEdition2,
+        }
+    }
+
+    /// The way of a program that is asked in one way only, by the option that
+    /// stands for the program.
+    pub fn of_option(option: &str) -> Option<Way> {
+        match option {
+            "--writer" => Some(Way::Steps),
+            "--rewrite" => Some(Way::Rewrite),
+            "--to-1" => Some(Way::ToEdition1),
+            "--to-2" => Some(Way::ToEdition2),
+            _ => None,
+        }
+    }
+
+    /// The answer of the independent writer or mover.
     pub fn answer(self, bytes: &[u8], room: usize) -> Result<Vec<u8>, Refusal> {
         match self {
             Way::Steps => write_input(bytes, room),
             Way::List => steps_of(bytes, room),
             Way::Rewrite => rewrite(bytes, room),
+            Way::ToEdition1 => move_to(Edition::One, bytes, room),
+            Way::ToEdition2 => move_to(Edition::Two, bytes, room),
         }
     }
 }
 
 /// One thing asked of the program.
-struct Item {
-    name: String,
-    way: Way,
-    room: u16,
-    bytes: Vec<u8>,
+pub struct Item {
+    pub name: String,
+    pub way: Way,
+    pub room: u16,
+    pub bytes: Vec<u8>,
 }
 
 impl Item {
     /// The item as the program `scribe` reads it.
     fn to_bytes(&self) -> Vec<u8> {
-        let length = u16::try_from(self.bytes.len()).expect("a subject is short");
         let mut item = vec![self.way.letter()];
         item.extend(self.room.to_le_bytes());
-        item.extend(length.to_le_bytes());
-        item.extend(&self.bytes);
+        item.extend(behind_length(&self.bytes));
         item
     }
 }
@@ -295,17 +324,17 @@ fn of_sequence(name: &str, input: Vec<u8>, mut rooms: impl FnMut() -> Rooms) -> 
     subjects
 }
 
-/// A trace, turned into steps and rewritten.
+/// A trace, turned into steps, rewritten, and moved to both editions.
 fn of_trace(name: &str, trace: &[u8], mut rooms: impl FnMut() -> Rooms) -> Vec<Subject> {
     let subject = |way| Subject {
         name: name.into(),
         way,
-        // The programs keep no more than this of their input either.
-        bytes: trace[..trace.len().min(MAX_BYTES + 1)].to_vec(),
+        bytes: kept(trace).to_vec(),
         rooms: rooms(),
         known: None,
     };
-    [Way::List, Way::Rewrite].map(subject).into()
+    let ways = Way::ALL.into_iter().filter(|&way| way != Way::Steps);
+    ways.map(subject).collect()
 }
 
 /// Asks the program for all items of these numbers, and compares.
@@ -316,7 +345,6 @@ fn check_run(
     tally: &mut Outcomes,
 ) -> Result<(), Box<Difference>> {
     let mut items = Vec::new();
-    let mut ours = Vec::new();
     for number in numbers {
         for subject in source.subjects(number, tally) {
             if !program.takes(subject.way) {
@@ -329,7 +357,6 @@ fn check_run(
                 _ => vec![AMPLE],
             };
             for room in rooms {
-                ours.push(subject.way.answer(&subject.bytes, room.into()));
                 items.push(Item {
                     name: subject.name.clone(),
                     way: subject.way,
@@ -339,10 +366,21 @@ fn check_run(
             }
         }
     }
-    let mut answers = program.answers(&items).into_iter();
-    for (item, ours) in items.iter().zip(&ours) {
-        tally.count(item, ours);
-        let expected = print(ours);
+    ask(program, &items, |item, ours| tally.count(item, ours))
+}
+
+/// Asks the program for all of the items, and compares each answer with that of
+/// the independent writer or mover, which is handed on to be counted.
+pub fn ask(
+    program: &Program,
+    items: &[Item],
+    mut count: impl FnMut(&Item, &Result<Vec<u8>, Refusal>),
+) -> Result<(), Box<Difference>> {
+    let mut answers = program.answers(items).into_iter();
+    for item in items {
+        let ours = item.way.answer(&item.bytes, item.room.into());
+        count(item, &ours);
+        let expected = print(&ours);
         let theirs = match answers.next() {
             Some(Ok(answer)) if answer == expected => continue,
             Some(theirs) => theirs,
@@ -369,7 +407,7 @@ fn differs(
 ) -> Box<Difference> {
     let (bytes, file) = match program {
         Program::Scribe(_) => (item.to_bytes(), "item"),
-        Program::Writer(_) | Program::Rewrite(_) => (item.bytes.clone(), "input"),
+        Program::Once(..) => (item.bytes.clone(), "input"),
     };
     let (said, alike) = match theirs {
         Ok(answer) => {
@@ -393,7 +431,7 @@ fn differs(
 
 /// An answer in print: a refusal as it is, other bytes in hexadecimal; of a long
 /// answer a part, which begins in the line with the first byte not alike.
-fn show(answer: &[u8], alike: usize) -> String {
+pub fn show(answer: &[u8], alike: usize) -> String {
     const LINE: usize = 16;
     const LINES: usize = 64;
     if answer.starts_with(b"refused ") {
@@ -424,6 +462,8 @@ impl Subject {
             _ => match self.way {
                 Way::Steps => check_steps(&self.bytes, full, tally),
                 Way::List | Way::Rewrite => check_trace(self.way, &self.bytes, full, tally),
+                Way::ToEdition1 => check_move(Edition::One, &self.bytes, full, tally),
+                Way::ToEdition2 => check_move(Edition::Two, &self.bytes, full, tally),
             },
         };
         checked.map_err(|message| {
@@ -437,14 +477,6 @@ impl Subject {
                 ],
             })
         })
-    }
-}
-
-/// What is wrong with a thing that should hold.
-fn must(holds: bool, message: &str) -> Result<(), String> {
-    match holds {
-        true => Ok(()),
-        false => Err(message.into()),
     }
 }
 
@@ -535,12 +567,7 @@ fn check_trace(
     tally: &mut Outcomes,
 ) -> Result<(), String> {
     let (read, bytes) = match (Trace::parse(trace), full) {
-        (Err(by_reader), full) => {
-            return match *full == Err(by_reader) {
-                true => Ok(()),
-                false => Err(format!("the reader says {by_reader:?}")),
-            };
-        }
+        (Err(by_reader), full) => return check_refused(by_reader, full),
         (Ok(read), Err(refusal)) => {
             // No step says an edition, and the record that does stands first.
             let of_edition = Refusal {
@@ -565,9 +592,8 @@ fn check_trace(
     must(same, "rewritten with other transactions or operations")?;
     let same = first_serial(bytes) == first_serial(trace);
     must(same, "rewritten with another first serial")?;
-    let has_note = |trace| trace::records(trace).any(|record| record.kind == NOTE);
-    must(!has_note(bytes), "rewritten with a note")?;
-    if has_note(trace) {
+    must(!trace::has_notes(bytes), "rewritten with a note")?;
+    if trace::has_notes(trace) {
         tally.notes_left_out += 1;
     } else {
         must(
@@ -576,6 +602,37 @@ fn check_trace(
         )?;
         tally.rewritten_alike += 1;
     }
+    Ok(())
+}
+
+/// What the reader refuses is refused just so.
+fn check_refused(by_reader: Refusal, full: &Result<Vec<u8>, Refusal>) -> Result<(), String> {
+    match *full == Err(by_reader) {
+        true => Ok(()),
+        false => Err(format!("the reader says {by_reader:?}")),
+    }
+}
+
+/// A trace that is read comes out in the wanted edition as it has to; one that
+/// is refused is refused here too.
+fn check_move(
+    wanted: Edition,
+    bytes: &[u8],
+    full: &Result<Vec<u8>, Refusal>,
+    tally: &mut Outcomes,
+) -> Result<(), String> {
+    let (trace, moved) = match (Trace::parse(bytes), full) {
+        (Err(by_reader), full) => return check_refused(by_reader, full),
+        (Ok(_), Err(refusal)) => return Err(format!("read, but {refusal:?}")),
+        (Ok(trace), Ok(moved)) => (trace, moved),
+    };
+    moving::check(wanted, bytes, &trace, moved)?;
+    let count = match (trace.edition == wanted, wanted) {
+        (true, _) => &mut tally.copied,
+        (false, Edition::One) => &mut tally.moved_to_1,
+        (false, Edition::Two) => &mut tally.moved_to_2,
+    };
+    *count += 1;
     Ok(())
 }
 
@@ -599,6 +656,9 @@ struct Outcomes {
     rewritten_alike: usize,
     notes_left_out: usize,
     of_edition_2: usize,
+    moved_to_1: usize,
+    moved_to_2: usize,
+    copied: usize,
     /// Sequences written that wrap, or that reach limits.
     wrapped: usize,
     full_transactions: usize,
@@ -623,6 +683,9 @@ impl Tally for Outcomes {
         self.rewritten_alike += other.rewritten_alike;
         self.notes_left_out += other.notes_left_out;
         self.of_edition_2 += other.of_edition_2;
+        self.moved_to_1 += other.moved_to_1;
+        self.moved_to_2 += other.moved_to_2;
+        self.copied += other.copied;
         self.wrapped += other.wrapped;
         self.full_transactions += other.full_transactions;
         self.full_operations += other.full_operations;
@@ -718,6 +781,9 @@ impl Outcomes {
             ("rewritten as they are", self.rewritten_alike),
             ("rewritten without notes", self.notes_left_out),
             ("read, but of edition 2", self.of_edition_2),
+            ("moved to edition 1", self.moved_to_1),
+            ("moved to edition 2", self.moved_to_2),
+            ("of the wanted edition", self.copied),
         ] {
             lines.push(format!("  {name:<28}{count:>8}"));
         }

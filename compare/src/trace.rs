@@ -2,7 +2,8 @@
 //!
 //! Row 1 (the level) has no place here since [`crate::report::Level`] cannot
 //! be wrong, rows 12 to 15 concern buffers and notes asked for, which this
-//! package does not have, and number 16 is given in [`crate::writing`].
+//! package does not have, and number 16 is given in [`crate::writing`] and
+//! [`crate::moving`].
 
 use crate::hash::FastMap;
 
@@ -378,4 +379,9 @@ pub fn records(bytes: &[u8]) -> impl Iterator<Item = Record<'_>> {
         offset += record.size();
         Some(record)
     })
+}
+
+/// Whether there is a note among them.
+pub fn has_notes(bytes: &[u8]) -> bool {
+    records(bytes).any(|record| record.kind == NOTE)
 }

@@ -61,6 +61,14 @@ pub fn share<Held, T: Tally>(
     })
 }
 
+/// What is wrong with a thing that should hold.
+pub fn must(holds: bool, message: &str) -> Result<(), String> {
+    match holds {
+        true => Ok(()),
+        false => Err(message.into()),
+    }
+}
+
 /// Two answers that should have been one.
 #[derive(Debug)]
 pub struct Difference {

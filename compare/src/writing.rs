@@ -158,7 +158,7 @@ pub fn write(steps: &[u8], serial: u32, room: usize) -> Result<Vec<u8>, Refusal>
 }
 
 /// What is written goes into the buffer as a whole, or not at all.
-fn fit(bytes: Vec<u8>, room: usize) -> Result<Vec<u8>, Refusal> {
+pub fn fit(bytes: Vec<u8>, room: usize) -> Result<Vec<u8>, Refusal> {
     match bytes.len() {
         needed if needed > room => Err(Refusal {
             number: 16,

@@ -325,8 +325,11 @@ const SCRIBE: &str = env!("CARGO_BIN_EXE_rustscribe");
 fn the_comparison_finds_no_difference_from_itself() {
     for (program, traces) in [
         (Program::Scribe(SCRIBE.into()), 500),
-        (Program::Writer(format!("{SCRIBE} --writer")), 20),
-        (Program::Rewrite(format!("{SCRIBE} --rewrite")), 20),
+        (Program::Once(Way::Steps, format!("{SCRIBE} --writer")), 20),
+        (
+            Program::Once(Way::Rewrite, format!("{SCRIBE} --rewrite")),
+            20,
+        ),
     ] {
         let (summary, difference) = scribes::compare(&program, &extent(traces, 2));
         assert!(difference.is_none(), "{summary}{difference:?}");
@@ -340,8 +343,8 @@ fn the_comparison_finds_programs_that_answer_otherwise() {
         Program::Scribe("/bin/cat".into()),
         Program::Scribe("/bin/true".into()),
         Program::Scribe("/no/such/program".into()),
-        Program::Writer(format!("{SCRIBE} --rewrite")),
-        Program::Rewrite(format!("{SCRIBE} --writer")),
+        Program::Once(Way::Steps, format!("{SCRIBE} --rewrite")),
+        Program::Once(Way::Rewrite, format!("{SCRIBE} --writer")),
     ] {
         let (_, difference) = scribes::compare(&program, &extent(10, 1));
         assert!(difference.is_some());

@@ -1,14 +1,17 @@
 //! Compares a program `judge` with the independent judge on many traces, the
-//! independent judge's two deciders with each other, and the programs that
-//! write traces with the independent writer.
+//! independent judge's two deciders with each other, the programs that write and
+//! move traces with the independent writer and mover, and the verdicts of traces
+//! with those of the moved ones.
 
 use ferozhak_compare::cases::{self, Case};
 use ferozhak_compare::encode::Writer;
 use ferozhak_compare::generate::{self, Origin};
-use ferozhak_compare::process::{run_once, spawn};
+use ferozhak_compare::moves;
+use ferozhak_compare::process::{behind_length, kept, run_once, spawn};
 use ferozhak_compare::random::Random;
 use ferozhak_compare::report::{self, Finding, Level, Verdict};
-use ferozhak_compare::trace::{Edition, Refusal, Status, Trace, MAX_BYTES};
+use ferozhak_compare::scribes::Way;
+use ferozhak_compare::trace::{Edition, Refusal, Status, Trace};
 use ferozhak_compare::weave::{self, Judged};
 use ferozhak_compare::workers::{self, add_each, Difference, Extent, Tally};
 use ferozhak_compare::{brute, graph, judge_text, judge_trace, scribes, Answer};
@@ -21,15 +24,20 @@ const USAGE: &str = "Usage:
   compare --self [options]             compares the Rust judge's two deciders only, also on what counts as committed
                                        and on the writes of unclean reads, and its answers of the same transactions
                                        in both editions and woven together in another way
-  compare --scribe COMMAND [options]   compares the program `scribe` with the Rust writer: many items a run
+  compare --scribe COMMAND [options]   compares the program `scribe` with the Rust writer and mover: many items a run
   compare --writer COMMAND [options]   the same with the program `writer`: a run for each sequence of steps
   compare --rewrite COMMAND [options]  the same with the program `rewrite`: a run for each trace
+  compare --to-1 COMMAND [options]     the same with the program `to_edition_1`
+  compare --to-2 COMMAND [options]     the same with the program `to_edition_2`
+  compare --moves COMMAND --stream COMMAND [options]
+                                       moves traces to both editions and back, by the program `scribe` and in Rust,
+                                       and compares what the program `stream` says before and after: many traces a run
 A COMMAND is a program and its arguments, parted by spaces.
 Half of the random traces are of edition 2, with transactions that overlap.
 Options:
-  --traces N    at least this many traces (default 100000); with --scribe, --writer and --rewrite
-                this many random sequences and as many random traces, besides the known cases
-                (default 300 for --writer and --rewrite)
+  --traces N    at least this many traces (default 100000); with --scribe, --writer, --rewrite, --to-1 and
+                --to-2 this many random sequences and as many random traces, besides the known cases
+                (default 300 for all of these but --scribe)
   --seed S      the seed of the random traces (default 1)
   --threads K   how many threads, each running one program at a time (default 1)
 ";
@@ -38,6 +46,7 @@ Options:
 enum Compared {
     Judges(Program),
     Writers(scribes::Program),
+    Moves(moves::Programs),
 }
 
 /// What the Rust judge is compared with.
@@ -70,6 +79,7 @@ fn main() -> ExitCode {
             (summary.describe(program, extent), difference)
         }
         Compared::Writers(program) => scribes::compare(program, extent),
+        Compared::Moves(programs) => moves::compare(programs, extent),
     };
     if let Some(difference) = &difference {
         out.push_str(&difference.describe());
@@ -83,7 +93,7 @@ fn main() -> ExitCode {
 }
 
 fn parse_options(mut words: impl Iterator<Item = String>) -> Result<Options, String> {
-    let mut compared = None;
+    let (mut compared, mut moves) = (None, None);
     let (mut traces, mut seed, mut threads) = (None, 1, 1);
     let mut only_self = false;
     while let Some(word) = words.next() {
@@ -99,26 +109,33 @@ fn parse_options(mut words: impl Iterator<Item = String>) -> Result<Options, Str
             "--judge" => compared = judges(Program::Each(value)),
             "--stream" => compared = judges(Program::Stream(value)),
             "--scribe" => compared = writers(scribes::Program::Scribe(value)),
-            "--writer" => compared = writers(scribes::Program::Writer(value)),
-            "--rewrite" => compared = writers(scribes::Program::Rewrite(value)),
+            "--moves" => moves = Some(scribes::Program::Scribe(value)),
             "--traces" => traces = Some(value.parse().map_err(wrong)?),
             "--seed" => seed = value.parse().map_err(wrong)?,
             "--threads" => threads = value.parse::<usize>().map_err(wrong)?.max(1),
-            _ => return Err(format!("unknown option {word}")),
+            _ => match Way::of_option(&word) {
+                Some(way) => compared = writers(scribes::Program::Once(way, value)),
+                None => return Err(format!("unknown option {word}")),
+            },
         }
     }
-    let compared = match compared {
-        None if only_self => Compared::Judges(Program::None),
-        Some(compared) if !only_self => compared,
+    let compared = match (compared, moves) {
+        (None, None) if only_self => Compared::Judges(Program::None),
+        (Some(compared), None) if !only_self => compared,
+        (Some(Compared::Judges(Program::Stream(stream))), Some(scribe)) if !only_self => {
+            Compared::Moves(moves::Programs { scribe, stream })
+        }
         _ => {
             return Err("give one of --judge COMMAND, --stream COMMAND, --self, \
-                        --scribe COMMAND, --writer COMMAND and --rewrite COMMAND"
+                        --scribe COMMAND, --writer COMMAND, --rewrite COMMAND, \
+                        --to-1 COMMAND and --to-2 COMMAND, or both of \
+                        --moves COMMAND and --stream COMMAND"
                 .into())
         }
     };
     // A run for each item takes its time.
     let usual = match compared {
-        Compared::Writers(scribes::Program::Writer(_) | scribes::Program::Rewrite(_)) => 300,
+        Compared::Writers(scribes::Program::Once(..)) => 300,
         _ => 100_000,
     };
     let extent = Extent {
@@ -496,13 +513,8 @@ impl Stream {
 
     fn judge(&mut self, trace: &[u8]) -> Result<Vec<u8>, String> {
         let failed = |error: io::Error| error.to_string();
-        // The program judge keeps no more than this of its input either.
-        let kept = &trace[..trace.len().min(MAX_BYTES + 1)];
-        let length = u16::try_from(kept.len()).expect("a kept trace is short");
-        self.input
-            .write_all(&length.to_le_bytes())
-            .map_err(failed)?;
-        self.input.write_all(kept).map_err(failed)?;
+        let input = behind_length(kept(trace));
+        self.input.write_all(&input).map_err(failed)?;
         self.input.flush().map_err(failed)?;
         let mut answer = Vec::new();
         loop {

@@ -1,12 +1,15 @@
-//! The programs `scribe`, `writer` and `rewrite`, by the independent writer.
+//! The programs `scribe`, `writer`, `rewrite`, `to_edition_1` and `to_edition_2`,
+//! by the independent writer and mover.
 //!
-//! Without arguments standard input has items: what is asked ('s', 'l' or 'r'),
-//! the room and the length (2 bytes little-endian each), and that many bytes.
-//! Each answer stands behind its length (2 bytes little-endian). With `--writer`
-//! standard input is a starting serial and steps, with `--rewrite` a trace, and
-//! standard output is the one answer. If the last item is cut, what there is of
-//! its bytes is taken; without all of its head it is none.
+//! Without arguments standard input has items: what is asked ('s', 'l', 'r', '1'
+//! or '2'), the room and the length (2 bytes little-endian each), and that many
+//! bytes. Each answer stands behind its length (2 bytes little-endian). With
+//! `--writer` standard input is a starting serial and steps, with `--rewrite`,
+//! `--to-1` and `--to-2` a trace, and standard output is the one answer. If the
+//! last item is cut, what there is of its bytes is taken; without all of its head
+//! it is none.
 
+use ferozhak_compare::process::behind_length;
 use ferozhak_compare::scribes::Way;
 use ferozhak_compare::writing;
 use std::io::{self, BufReader, Read, Write};
@@ -14,13 +17,15 @@ use std::process::ExitCode;
 
 fn main() -> ExitCode {
     let words: Vec<String> = std::env::args().skip(1).collect();
-    let words: Vec<&str> = words.iter().map(String::as_str).collect();
-    let done = match words[..] {
-        [] => scribe(),
-        ["--writer"] => once(Way::Steps),
-        ["--rewrite"] => once(Way::Rewrite),
-        _ => {
-            eprintln!("usage: rustscribe [--writer | --rewrite]");
+    let way = match words.as_slice() {
+        [option] => Way::of_option(option),
+        _ => None,
+    };
+    let done = match way {
+        Some(way) => once(way),
+        None if words.is_empty() => scribe(),
+        None => {
+            eprintln!("usage: rustscribe [--writer | --rewrite | --to-1 | --to-2]");
             return ExitCode::from(2);
         }
     };
@@ -57,10 +62,8 @@ fn scribe() -> io::Result<()> {
         bytes.clear();
         input.by_ref().take(length.into()).read_to_end(&mut bytes)?;
         let answer = way.answer(&bytes, u16::from_le_bytes(room).into());
-        let answer = writing::print(&answer);
-        let length = u16::try_from(answer.len()).expect("no answer is longer than its room");
         // One write an answer, seen at once by whoever waits for it.
-        output.write_all(&[&length.to_le_bytes(), answer.as_slice()].concat())?;
+        output.write_all(&behind_length(&writing::print(&answer)))?;
         output.flush()?;
     }
 }

@@ -4,8 +4,9 @@
 //! length, each answer before a line `--`; for `scribe` some items, each answer
 //! behind its length.
 
-use ferozhak_compare::scribes::Way;
-use ferozhak_compare::trace::{EDITION, MAX_BYTES, MAX_TRANSACTIONS};
+use ferozhak_compare::process::{behind_length, kept};
+use ferozhak_compare::scribes::{Way, AMPLE};
+use ferozhak_compare::trace::{EDITION, MAX_TRANSACTIONS};
 use ferozhak_compare::writing::{self, Step};
 use ferozhak_compare::{cases, text};
 use std::path::Path;
@@ -47,8 +48,7 @@ fn stream() -> (Vec<u8>, Vec<u8>) {
     let mut input = Vec::new();
     let mut output = String::new();
     for case in cases::all() {
-        let kept = &case.bytes[..case.bytes.len().min(MAX_BYTES + 1)];
-        input.extend(behind_length(kept));
+        input.extend(behind_length(kept(&case.bytes)));
         output.push_str(&case.output);
         output.push_str("--\n");
     }
@@ -69,15 +69,9 @@ fn scribe() -> (Vec<u8>, Vec<u8>) {
     (input, output)
 }
 
-fn behind_length(bytes: &[u8]) -> Vec<u8> {
-    let length = u16::try_from(bytes.len()).expect("what is stored is short");
-    [&length.to_le_bytes(), bytes].concat()
-}
-
 /// What is asked, the room, and of what.
 type Item = (Way, u16, Vec<u8>);
 
-const AMPLE: u16 = u16::MAX;
 const CASE_16: &str = "T1 w1=11 w2=21; T2 w1=12 w2=22; T3 r1=12 r2=21";
 
 fn items() -> Vec<Item> {
@@ -85,6 +79,7 @@ fn items() -> Vec<Item> {
     items.extend(traces());
     items.extend(unanswered());
     items.extend(edition_2());
+    items.extend(moves());
     items
 }
 
@@ -194,5 +189,46 @@ fn edition_2() -> Vec<Item> {
         ..Step::default()
     };
     items.push((Way::Steps, AMPLE, writing::input_of(0, &[step])));
+    items
+}
+
+/// Traces of both editions moved to both, with just enough room and with a byte
+/// less; and refused ones, whatever the room.
+fn moves() -> Vec<Item> {
+    let read = [
+        "",
+        CASE_16,
+        "serial 4294967294; note \"first\"; T1 s7 w1=5 note \"second\" aborted; T2 s7; T3 r1=5 unanswered",
+        "serial 4294967295; edition 2",
+        "edition 2; T1 w1=5 ..; T2 r1=5 ..; T3; T2 .. w2=6 unanswered; T1 .. w1=7 aborted",
+        "serial 4294967290; edition 2; T1 s1 ..; T2 s2 r1=4 ..; T1 .. r1=3; T2 .. w1=3; T3 s2 r1=0",
+    ];
+    let case_16 = encode(CASE_16);
+    let refused = [
+        vec![],
+        cut(&case_16, 1),
+        [case_16.as_slice(), &[0]].concat(),
+        encode("T1 w1=0"),
+        encode("T1 status 3"),
+        encode("T1 w1=5; T2 w1=5"),
+        encode("edition 3"),
+        encode("edition 2; T1; note \"\""),
+        encode("edition 2; T1 ..; T2"),
+        encode("edition 2; end 1"),
+    ];
+    let both = [Way::ToEdition1, Way::ToEdition2];
+    let mut items = Vec::new();
+    for trace in read.map(encode) {
+        for way in both {
+            let moved = way
+                .answer(&trace, AMPLE.into())
+                .expect("a trace that is read");
+            let needed = moved.len() as u16;
+            items.extend([needed, needed - 1].map(|room| (way, room, trace.clone())));
+        }
+    }
+    for trace in refused {
+        items.extend(both.map(|way| (way, 0, trace.clone())));
+    }
     items
 }

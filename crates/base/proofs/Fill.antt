@@ -85,23 +85,14 @@ room-from xs h = record { fits = h; within = omega arith }
 pub room-in : {o : List ℕ} {at e : ℕ} {xs : List ℕ} → Room o at e xs → at + length xs ≤ length o
 room-in h = omega (arith, h .fits, h .within)
 
--- room for two parts is room for each, for the second when the first was put, and for the first when the second was put at the end
+-- room for two parts is room for the first, and for the second when the first was put
 module _ {o : List ℕ} {at e : ℕ} where
-  module _ (xs ys : List ℕ) (h : Room o at e (xs ++ ys)) where
-    pub room-first : Room o at e xs
-    room-first = record { fits = omega (arith, h .fits, length-append xs ys); within = h .within }
+  pub room-first : (xs ys : List ℕ) → Room o at e (xs ++ ys) → Room o at e xs
+  room-first xs ys h = record { fits = omega (arith, h .fits, length-append xs ys); within = h .within }
 
-    pub room-second : Room o at e ys
-    room-second = record { fits = omega (arith, h .fits, length-append xs ys); within = h .within }
-
-  module _ {b : List ℕ} {r : ℕ} {xs ys : List ℕ} where
-    pub room-then : Appended o at b r xs → Room o at e (xs ++ ys) → Room b r e ys
-    room-then x h =
-        record { fits = omega (arith, h .fits, length-append xs ys, x .end); within = omega (arith, h .within, appended-length x) }
-
-    pub room-before : Appended o r b e ys → Room o at e (xs ++ ys) → Room b at r xs
-    room-before y h =
-        record { fits = omega (arith, h .fits, length-append xs ys, y .end); within = omega (arith, h .within, y .end, appended-length y) }
+  pub room-then : {b : List ℕ} {r : ℕ} {xs ys : List ℕ} → Appended o at b r xs → Room o at e (xs ++ ys) → Room b r e ys
+  room-then {xs = xs} {ys} x h =
+      record { fits = omega (arith, h .fits, length-append xs ys, x .end); within = omega (arith, h .within, appended-length x) }
 
 -- four parts, in the order in which they are put
 pub four-parts : (p q r s : List ℕ) → ((p ++ q) ++ r) ++ s ≡ p ++ (q ++ (r ++ s))
@@ -137,30 +128,6 @@ module _ {o : List ℕ} {at : ℕ} {whole b : List ℕ} {r : ℕ} {left : List �
 
   pub forth-end : left ≡ [] → Appended o at b r whole
   forth-end q = let d : x .done ≡ whole = sym (append-nil (x .done)) ∙ ap (λ (l : List ℕ). x .done ++ l) (sym q) ∙ x .rest in rw (← d) (x .is)
-
--- up to e, backwards: one has come down to `at`, and has `left` to put before it
-pub record Back (o : List ℕ) (e : ℕ) (whole b : List ℕ) (at : ℕ) (left : List ℕ) : Type 0 where
-  pub done : List ℕ
-  pub is : Appended o at b e done
-  pub rest : left ++ done ≡ whole
-
-pub back-start : {o : List ℕ} {e : ℕ} (whole : List ℕ) → e ≤ length o → Back o e whole o e whole
-back-start {o} {e} whole h = record { done = []; is = appended-none o e h; rest = append-nil whole }
-
-module _ {o : List ℕ} {e : ℕ} {whole b : List ℕ} {at : ℕ} {left : List ℕ} (x : Back o e whole b at left) where
-  pub back-room : {a : ℕ} → Room o a e whole → Room b a at left
-  back-room h = room-before (x .is) (rw (x .rest) h)
-
-  pub back-step : (xs : List ℕ) {ys c : List ℕ} {r : ℕ} → left ≡ xs ++ ys → Appended b r c at ys → Back o e whole c r xs
-  back-step xs {ys} q y =
-      record {
-        done = ys ++ x .done;
-        is = appended-before (x .is) y;
-        rest = sym (append-assoc xs ys (x .done)) ∙ ap (λ (l : List ℕ). l ++ x .done) (sym q) ∙ x .rest;
-      }
-
-  pub back-end : left ≡ [] → Appended o at b e whole
-  back-end q = let d : x .done ≡ whole = ap (λ (l : List ℕ). l ++ x .done) (sym q) ∙ x .rest in rw (← d) (x .is)
 
 -- ── what f gives for each number ──
 

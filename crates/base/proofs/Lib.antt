@@ -5,3 +5,4 @@ pub mod Fill
 pub mod Chains
 pub mod Rows
 pub mod Empty
+pub mod Moves

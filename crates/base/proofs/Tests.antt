@@ -82,6 +82,12 @@ unfolding _and_
 and-no-right true b e = e
 and-no-right false b e = refl
 
+-- the second matters only where the first passes
+pub and-when : (a : Bool) {b c : Bool} → (a ≡ true → b ≡ c) → a and b ≡ a and c
+unfolding _and_
+and-when true f = f refl
+and-when false f = refl
+
 pub and-swap : (a b : Bool) → a and b ≡ b and a
 unfolding _and_
 and-swap true true = refl
@@ -140,6 +146,12 @@ pub pick-of : {X Y : Type 0} (f : X → Y) (b : Bool) (x y : X) → f (pick b x 
 unfolding pick
 pick-of f true x y = refl
 pick-of f false x y = refl
+
+-- two choices by one test are alike where the first ones are and the second ones are
+pub pick-alike : {X : Type 0} (R : X → X → Type 0) (b : Bool) {x y u v : X} → R x u → R y v → R (pick b x y) (pick b u v)
+unfolding pick
+pick-alike R true p q = p
+pick-alike R false p q = q
 
 -- a number is below another or not
 pub split : (a b : ℕ) → (a < b) ⊎ (b ≤ a)

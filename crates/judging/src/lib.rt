@@ -1,8 +1,7 @@
 // The judge: a trace, a level and three lent buffers in; the answer out, and the buffers as the definition's outcome says.
 ghost use mathlib.Core.Path.{_≡_};
 ghost use Prim.Native.Nat.{ℕ, _+_, _≤_, _<_};
-ghost use lib.ListN.{length, take};
-ghost use Rattle.base.proofs.Fill.{Appended};
+ghost use lib.ListN.{take};
 ghost use Rattle.theory.specs.Leads.{via};
 ghost use Rattle.rules.specs.History.{size, committed};
 ghost use Rattle.rules.specs.Levels.{basic, isRival, forced};
@@ -50,18 +49,6 @@ fn members(h: &[u64]) -> Words
 
 // ── acceptance ──
 
-// The first n bytes of `from` at the front of `to`.
-fn copy(from: &[u8], n: usize, to: &mut [u8])
-    requires { ⌜ (n ≤ length (now from)) × (n ≤ length (now to)) ⌝ }
-    ensures { λ r. ⌜ Appended (now (to .entry)) 0 (now (to .exit)) n (take n (now (from .entry))) ⌝ }
-{
-    let mut i = 0;
-    while i < n {
-        to[i] = from[i];
-        i += 1;
-    }
-}
-
 // The order is worked out beside the caller's buffer, so that one that is too short is not touched: "on acceptance only, 14".
 fn accept(h: &[u64], f: &[u64; 256], out: &mut [u8]) -> Answer
     requires { ⌜ Settled (now h) × Under (size (historyOf (now h))) (now f) ⌝ }
@@ -72,7 +59,7 @@ fn accept(h: &[u64], f: &[u64; 256], out: &mut [u8]) -> Answer
     if out.len() < n {
         return Answer::Refused(14, n);
     }
-    copy(&shown, n, out);
+    copying::copy(&shown, n, out);
     Answer::Accepted(n)
 }
 

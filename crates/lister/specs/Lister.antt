@@ -1,32 +1,20 @@
--- What each part of the call puts, and what it asks for.
-use Prim.Native.Nat.{ℕ, _+_, _*_, _≤_}
+-- What the call puts, and what it asks for.
+use Prim.Native.Nat.{ℕ, _+_, _*_}
 use mathlib.Core.Path.{_≡_}
-use mathlib.Core.Bool.{false}
 use mathlib.Core.List.{List}
 use lib.ListN.{length}
-use Rattle.base.specs.Base.{listed, joined}
-use Rattle.rules.specs.History.{History, txCount, opCount, isOpen}
+use Rattle.base.specs.Base.{joined}
+use Rattle.rules.specs.History.{History, txCount, opCount}
 use Rattle.writing.specs.Steps.{stepBytes}
-use Rattle.writing.specs.Listing.{opStepOf, txSteps, historySteps}
+use Rattle.writing.specs.Listing.{historySteps}
+use Rattle.blocks.specs.Blocks.{NoneOpen}
 
--- the bytes of transaction t's operations below n; of transaction t; of the transactions below n; of all
-unfoldable pub opsBytes : History → ℕ → ℕ → List ℕ
-opsBytes h t n = joined stepBytes (listed 1 n (opStepOf h t))
-
-unfoldable pub txBytes : History → ℕ → List ℕ
-txBytes h t = joined stepBytes (txSteps h t)
-
-unfoldable pub txsBytes : History → ℕ → List ℕ
-txsBytes h n = joined stepBytes (listed 1 n (txSteps h))
-
+-- the bytes of a history's steps
 abbrev pub allBytes : History → List ℕ
 allBytes h = joined stepBytes (historySteps h)
 
--- sixteen bytes an open, a close and an operation
-abbrev pub needed : History → ℕ
-needed h = 16 * (2 * txCount h + opCount h)
-
--- a history that a trace was read into: none of its transactions is open, and so many bytes are needed for its steps
+-- a history that a trace was read into: none of its transactions is open, and it has two steps a transaction and one an operation, sixteen bytes each
 pub record Listable (h : History) : Type 0 where
-  pub none-open : (t : ℕ) → 1 ≤ t → t ≤ txCount h → isOpen h t ≡ false
-  pub long : length (allBytes h) ≡ needed h
+  pub none-open : NoneOpen h
+  pub many : length (historySteps h) ≡ 2 * txCount h + opCount h
+  pub long : length (allBytes h) ≡ 16 * (2 * txCount h + opCount h)

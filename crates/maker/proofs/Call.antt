@@ -10,7 +10,7 @@ use Rattle.writing.specs.Filling.{said, fillOf}
 use Rattle.writing.specs.Steps.{stepsIn}
 use Rattle.writing.specs.Writing.{bad, good, follow, traceOf, wrote, written}
 use Rattle.writing.proofs.Filling.{into-refused, too-short, filled}
-use Rattle.writing.proofs.Lengths.{trace-length}
+use Rattle.writing.proofs.Sizes.{trace-length}
 use Rattle.maker.specs.declared.Course.{Course}
 use Rattle.maker.specs.declared.Course.the-variants.{Good, Bad}
 use Rattle.maker.specs.Maker.{followedAs, FollowedInto, Makes}

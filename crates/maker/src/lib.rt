@@ -145,13 +145,13 @@ fn put_trace(s: &[u8], serial: u32, h: &[u64], out: &mut [u8]) -> usize
     let mut at = 0;
     let mut k = 0;
     while k < n {
-        at = putting::put_record(out, at, next, step_at(s, 16 * k));
+        at = putting::put_record(out, at, next, false, 0, step_at(s, 16 * k));
         // "after 4,294,967,295 comes 0"
         next = std::num::wrapping_add_u32(next, 1);
         k += 1;
     }
     let txs = table::txs(h) as u16;
-    putting::put_record(out, at, next, Event::End(txs))
+    putting::put_record(out, at, next, false, 0, Event::End(txs))
 }
 
 // "16, output buffer too short, place the bytes needed, after all others"

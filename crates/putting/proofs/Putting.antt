@@ -1,14 +1,22 @@
 -- Laws of bytes that are put one behind the other.
 use Prim.Native.Nat.{ℕ, suc, _+_, _-_, _/_, _%_, _≤_, _<_}
-use mathlib.Core.Path.{_≡_}
-use mathlib.Core.List.{List, [], _∷_, _++_}
+use mathlib.Core.Path.{_≡_, refl, sym, _∙_}
+use mathlib.Core.Bool.{Bool, true, false}
+use mathlib.Core.List.{List, [], _∷_, _++_, append-assoc, append-nil}
 use native.Mathlib.Omega.{arith}
 use lib.ListN.{length, set}
 use Rattle.base.proofs.Fill.{Appended, appended-none, appended-length, Room, room-from, room-in, four-parts, Forth, forth-start, forth-step, forth-end, one}
 use Rattle.rules.specs.Numbers.{bytes}
+use Rattle.rules.specs.Records.{fieldsFrom}
 use Rattle.rules.specs.Traces.{Item, raw, recordOf}
 use Rattle.rules.proofs.Numbers.{bytes-length}
+use Rattle.rules.specs.declared.Event.{Event}
+use Rattle.rules.specs.declared.Event.the-variants.{Open, Read, Write, Close, End, Note, Other}
 use Rattle.writing.specs.Steps.{fieldBytes}
+use Rattle.writing.specs.Writing.{itemOf}
+use Rattle.writing.specs.Forms.{mark, itemWith, itemIn}
+use Rattle.writing.proofs.Forms.{kind-any, payload-any}
+use Rattle.putting.specs.Putting.{leadOf}
 
 bytes-none : {w : ℕ} → w ≡ 0 → (n : ℕ) → bytes w n ≡ []
 unfolding bytes
@@ -19,10 +27,37 @@ unfolding bytes
 bytes-more e n = rw e
 
 -- a record's parts, where len and kind are known from elsewhere
-pub record-says : (n : ℕ) (i : Item) {len kind : ℕ} → len ≡ length (i .payload) → kind ≡ i .kind
+item-says : (n : ℕ) (i : Item) {len kind : ℕ} → len ≡ length (i .payload) → kind ≡ i .kind
     → recordOf n i ≡ bytes 2 (6 + len) ++ (bytes 2 kind ++ (bytes 4 n ++ i .payload))
 unfolding recordOf raw
-record-says n i e k = rw (e, k) (four-parts (bytes 2 (6 + length (i .payload))) (bytes 2 (i .kind)) (bytes 4 n) (i .payload))
+item-says n i e k = rw (e, k) (four-parts (bytes 2 (6 + length (i .payload))) (bytes 2 (i .kind)) (bytes 4 n) (i .payload))
+
+-- .. of a record of any session
+pub record-says : (n : ℕ) (second : Bool) (s : ℕ) (e : Event) {len kind : ℕ} → len ≡ length (itemIn second (mark 0 e) .payload) → kind ≡ itemIn second (mark 0 e) .kind
+    → recordOf n (itemIn second (mark s e)) ≡ bytes 2 (6 + len) ++ (bytes 2 kind ++ (bytes 4 n ++ itemIn second (mark s e) .payload))
+record-says n second s e l k = item-says n (itemIn second (mark s e)) (l ∙ sym (payload-any second s e)) (k ∙ sym (kind-any second s e))
+
+-- how long the payload of the event e, which is d, is by the edition: f gives it for the bytes that a session has there
+pub payload-says : (second : Bool) {e d : Event} → e ≡ d → (f : ℕ → ℕ) {more : ℕ} → more ≡ fieldsFrom second → f 0 ≡ length (itemOf d .payload) → f 2 ≡ length (itemWith 0 d .payload)
+    → f 0 ≤ 14 → f 2 ≤ 14 → (f more ≡ length (itemIn second (mark 0 e) .payload)) × (f more ≤ 14)
+payload-says false q f m a b l k = rw (q, m) (a, l)
+payload-says true q f m a b l k = rw (q, m) (b, k)
+
+-- a kind that both editions have
+pub kind-says : (second : Bool) {e d : Event} {k : ℕ} → e ≡ d → k ≡ itemOf d .kind → k ≡ itemWith 0 d .kind → k ≡ itemIn second (mark 0 e) .kind
+kind-says false q a b = rw q a
+kind-says true q a b = rw q b
+
+-- a payload in edition 2 is that of edition 1 behind what stands before it there
+pub with-lead : (n : ℕ) (e : Event) → itemWith n e .payload ≡ leadOf n e ++ itemOf e .payload
+unfolding itemWith itemOf leadOf
+with-lead n (Open s) = refl
+with-lead n (Read x v) = append-assoc (bytes 2 n) (bytes 4 x) (bytes 8 v)
+with-lead n (Write x v) = append-assoc (bytes 2 n) (bytes 4 x) (bytes 8 v)
+with-lead n (Close c) = refl
+with-lead n (End m) = refl
+with-lead n Note = refl
+with-lead n Other = sym (append-nil (bytes 2 2))
 
 -- a step's parts
 pub fields-say : (kind second key value : ℕ) → fieldBytes kind second key value ≡ bytes 2 kind ++ (bytes 2 second ++ (bytes 4 key ++ bytes 8 value))

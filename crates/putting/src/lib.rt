@@ -8,8 +8,13 @@ ghost use Rattle.base.proofs.Fill.{Appended};
 ghost use Rattle.rules.specs.Numbers.{bytes};
 ghost use Rattle.rules.specs.Traces.{recordOf};
 ghost use Rattle.writing.specs.Steps.{fieldBytes, stepBytes};
+ghost use Rattle.rules.specs.Records.{fieldsFrom};
+ghost use Rattle.rules.specs.declared.Event.the-variants.{Other};
 ghost use Rattle.writing.specs.Writing.{itemOf};
+ghost use Rattle.writing.specs.Forms.{mark, itemWith, itemIn, formBytes};
+ghost use Rattle.putting.specs.Putting.{leadOf};
 use rules::Event;
+use writing::Form;
 
 // "all little-endian": n in this many bytes.
 pub fn put_number(out: &mut [u8], at: usize, width: usize, n: u64) -> usize
@@ -38,9 +43,18 @@ fn put_pair(out: &mut [u8], at: usize, key: u32, value: u64) -> usize
 
 // ── a record ──
 
-// Its kind's number, and how long its payload is.
-fn kind_of(event: Event) -> u64
-    ensures { λ r. ⌜ r ≡ itemOf event .kind ⌝ }
+// Its kind's number. What enters nothing is, in edition 2, the record that says the edition.
+fn other_kind(second: bool) -> u64
+    ensures { λ r. ⌜ r ≡ itemIn second (mark 0 Other) .kind ⌝ }
+{
+    if second {
+        return 16;
+    }
+    0
+}
+
+fn kind_of(second: bool, event: Event) -> u64
+    ensures { λ r. ⌜ r ≡ itemIn second (mark 0 event) .kind ⌝ }
 {
     match event {
         Event::Open(_) => 1,
@@ -49,25 +63,38 @@ fn kind_of(event: Event) -> u64
         Event::Close(_) => 4,
         Event::End(_) => 5,
         Event::Note => 6,
-        Event::Other => 0,
+        Event::Other => other_kind(second),
     }
 }
 
-fn payload_length(event: Event) -> u64
-    ensures { λ r. ⌜ (r ≡ length (itemOf event .payload)) × (r ≤ 12) ⌝ }
+// How long its payload is. In edition 2 "read and write .. and close .. have the session before their other fields", in two bytes; so many has the number of
+// the edition too.
+fn session_length(second: bool) -> u64
+    ensures { λ r. ⌜ (r ≡ fieldsFrom second) × (r ≤ 2) ⌝ }
 {
+    if second {
+        return 2;
+    }
+    0
+}
+
+fn payload_length(second: bool, event: Event) -> u64
+    ensures { λ r. ⌜ (r ≡ length (itemIn second (mark 0 event) .payload)) × (r ≤ 14) ⌝ }
+{
+    let more = session_length(second);
     match event {
         Event::Open(_) => 2,
-        Event::Read(_, _) => 12,
-        Event::Write(_, _) => 12,
-        Event::Close(_) => 1,
+        Event::Read(_, _) => 12 + more,
+        Event::Write(_, _) => 12 + more,
+        Event::Close(_) => 1 + more,
         Event::End(_) => 2,
         Event::Note => 0,
-        Event::Other => 0,
+        Event::Other => more,
     }
 }
 
-fn put_payload(out: &mut [u8], at: usize, event: Event) -> usize
+// The payload in edition 1.
+fn put_first(out: &mut [u8], at: usize, event: Event) -> usize
     requires { ⌜ at + length (itemOf event .payload) ≤ length (now out) ⌝ }
     ensures { λ r. ⌜ Appended (now (out .entry)) at (now (out .exit)) r (itemOf event .payload) ⌝ }
 {
@@ -82,15 +109,58 @@ fn put_payload(out: &mut [u8], at: usize, event: Event) -> usize
     }
 }
 
-// "A record is a 2-byte length, a 2-byte kind, a 4-byte serial and a payload"; "The length counts everything after itself."
-pub fn put_record(out: &mut [u8], at: usize, serial: u32, event: Event) -> usize
-    requires { ⌜ at + length (recordOf serial (itemOf event)) ≤ length (now out) ⌝ }
-    ensures { λ r. ⌜ Appended (now (out .entry)) at (now (out .exit)) r (recordOf serial (itemOf event)) ⌝ }
+// What stands before it in edition 2: the session of a read, a write and a close; where nothing else stands, the number of the edition.
+fn put_lead(out: &mut [u8], at: usize, session: u16, event: Event) -> usize
+    requires { ⌜ at + length (leadOf session event) ≤ length (now out) ⌝ }
+    ensures { λ r. ⌜ Appended (now (out .entry)) at (now (out .exit)) r (leadOf session event) ⌝ }
 {
-    let to = put_number(out, at, 2, 6 + payload_length(event));
-    let to = put_number(out, to, 2, kind_of(event));
+    match event {
+        Event::Open(_) => at,
+        Event::Read(_, _) => put_number(out, at, 2, session as u64),
+        Event::Write(_, _) => put_number(out, at, 2, session as u64),
+        Event::Close(_) => put_number(out, at, 2, session as u64),
+        Event::End(_) => at,
+        Event::Note => at,
+        Event::Other => put_number(out, at, 2, 2),
+    }
+}
+
+// The payload in edition 2.
+fn put_second(out: &mut [u8], at: usize, session: u16, event: Event) -> usize
+    requires { ⌜ at + length (itemWith session event .payload) ≤ length (now out) ⌝ }
+    ensures { λ r. ⌜ Appended (now (out .entry)) at (now (out .exit)) r (itemWith session event .payload) ⌝ }
+{
+    let to = put_lead(out, at, session, event);
+    put_first(out, to, event)
+}
+
+fn put_payload(out: &mut [u8], at: usize, second: bool, session: u16, event: Event) -> usize
+    requires { ⌜ at + length (itemIn second (mark session event) .payload) ≤ length (now out) ⌝ }
+    ensures { λ r. ⌜ Appended (now (out .entry)) at (now (out .exit)) r (itemIn second (mark session event) .payload) ⌝ }
+{
+    if second {
+        return put_second(out, at, session, event);
+    }
+    put_first(out, at, event)
+}
+
+// "A record is a 2-byte length, a 2-byte kind, a 4-byte serial and a payload"; "The length counts everything after itself." In edition 2 or 1, of a
+// transaction of this session.
+pub fn put_record(
+    out: &mut [u8],
+    at: usize,
+    serial: u32,
+    second: bool,
+    session: u16,
+    event: Event,
+) -> usize
+    requires { ⌜ at + length (recordOf serial (itemIn second (mark session event))) ≤ length (now out) ⌝ }
+    ensures { λ r. ⌜ Appended (now (out .entry)) at (now (out .exit)) r (recordOf serial (itemIn second (mark session event))) ⌝ }
+{
+    let to = put_number(out, at, 2, 6 + payload_length(second, event));
+    let to = put_number(out, to, 2, kind_of(second, event));
     let to = put_number(out, to, 4, serial as u64);
-    put_payload(out, to, event)
+    put_payload(out, to, second, session, event)
 }
 
 // ── a step ──
@@ -118,5 +188,51 @@ pub fn put_step(out: &mut [u8], at: usize, event: Event) -> usize
         Event::End(_) => at,
         Event::Note => at,
         Event::Other => at,
+    }
+}
+
+// ── in any form ──
+
+// How many bytes an event has.
+fn step_length(event: Event) -> usize
+    ensures { λ r. ⌜ r ≡ length (stepBytes event) ⌝ }
+{
+    match event {
+        Event::Open(_) => 16,
+        Event::Read(_, _) => 16,
+        Event::Write(_, _) => 16,
+        Event::Close(_) => 16,
+        Event::End(_) => 0,
+        Event::Note => 0,
+        Event::Other => 0,
+    }
+}
+
+pub fn event_length(form: Form, event: Event) -> usize
+    ensures { λ r. ⌜ r ≡ length (formBytes form 0 (mark 0 event)) ⌝ }
+{
+    match form {
+        Form::Step => step_length(event),
+        Form::First => 8 + payload_length(false, event) as usize,
+        Form::Second => 8 + payload_length(true, event) as usize,
+    }
+}
+
+// An event of a transaction of this session; as a record it has this serial.
+pub fn put_event(
+    out: &mut [u8],
+    at: usize,
+    form: Form,
+    serial: u32,
+    session: u16,
+    event: Event,
+) -> usize
+    requires { ⌜ at + length (formBytes form serial (mark session event)) ≤ length (now out) ⌝ }
+    ensures { λ r. ⌜ Appended (now (out .entry)) at (now (out .exit)) r (formBytes form serial (mark session event)) ⌝ }
+{
+    match form {
+        Form::Step => put_step(out, at, event),
+        Form::First => put_record(out, at, serial, false, session, event),
+        Form::Second => put_record(out, at, serial, true, session, event),
     }
 }

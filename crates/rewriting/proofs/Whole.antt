@@ -17,7 +17,7 @@ use Rattle.rules.specs.Reading.{Reading, Stretch, refused, read, reading}
 use Rattle.demand1.proofs.Lawful.{lawful-history}
 use Rattle.rules.proofs.Numbers.{over-front}
 use Rattle.demand1.proofs.Readings.{reads-iff}
-use Rattle.writing.specs.Filling.{refusing, answering, said, fillOf}
+use Rattle.writing.specs.Filling.{refusing, answering, said, fillOf, Gives}
 use Rattle.writing.specs.Steps.{stepBytes}
 use Rattle.writing.specs.Writing.{written, writtenGiven}
 use Rattle.writing.specs.Listing.{historySteps, stepped}
@@ -28,7 +28,7 @@ use Rattle.writing.proofs.Filling.{into-fits}
 use Rattle.writing.proofs.Listing.{listed-refused, listed-second, listed-first}
 use Rattle.writing.proofs.Listed.{listing-length}
 use Rattle.writing.proofs.Within.{written-within, rewritten-within}
-use Rattle.rewriting.specs.Rewriting.{Rewrote, Gives}
+use Rattle.rewriting.specs.Rewriting.{Rewrote}
 
 -- 16 bytes a step, of at most 2 * 127 + 1,024
 listed-whole : (s x : List ℕ) (h : History) (notes : List Stretch) → reading s ≡ read h notes → isSecond s ≡ false → 20448 ≤ length x

@@ -1,10 +1,9 @@
--- What the calls promise of their lent buffers.
-use Prim.Native.Nat.{ℕ, _≤_}
+-- What the call promises of its lent buffers.
+use Prim.Native.Nat.{ℕ}
 use mathlib.Core.Path.{_≡_}
 use mathlib.Core.List.{List}
-use lib.ListN.{length}
 use Rattle.writing.specs.declared.Filled.{Filled}
-use Rattle.writing.specs.Filling.{said, Fill, fillOf}
+use Rattle.writing.specs.Filling.{said, fillOf}
 use Rattle.writing.specs.Listing.{stepped}
 use Rattle.writing.specs.Rewriting.{rewritten}
 
@@ -12,8 +11,3 @@ use Rattle.writing.specs.Rewriting.{rewritten}
 pub record Rewrote (r : Filled) (s x x₂ out out₂ : List ℕ) : Type 0 where
   pub is : fillOf (said r) out₂ ≡ rewritten s x out
   pub steps : x₂ ≡ stepped s x .buffer
-
--- the answer r, which made out₂ of the buffer, is x; the length that it says lies within the buffer
-pub record Gives (r : Filled) (out₂ : List ℕ) (x : Fill) : Type 0 where
-  pub is : fillOf (said r) out₂ ≡ x
-  pub within : said r .length ≤ length out₂

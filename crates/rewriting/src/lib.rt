@@ -3,10 +3,10 @@ ghost use mathlib.Core.Path.{_≡_};
 ghost use Prim.Native.Nat.{_≤_};
 ghost use lib.ListN.{length, take};
 ghost use Rattle.rules.specs.Records.{serialAt};
-ghost use Rattle.writing.specs.Filling.{fillOf, said};
+ghost use Rattle.writing.specs.Filling.{fillOf, said, Gives};
 ghost use Rattle.writing.specs.Writing.{written, writtenGiven};
 ghost use Rattle.writing.specs.Rewriting.{rewrittenWhole};
-ghost use Rattle.rewriting.specs.Rewriting.{Rewrote, Gives};
+ghost use Rattle.rewriting.specs.Rewriting.{Rewrote};
 use writing::Filled;
 
 // The first n bytes of these steps, with the trace's first serial.

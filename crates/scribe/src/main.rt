@@ -1,4 +1,4 @@
-// Answers many requests in one run. Standard input has items: what is asked, 1 byte (`s`, `l` or `r`); the room for the answer and the length of what is
+// Answers many requests in one run. Standard input has items: what is asked, 1 byte (`s`, `l`, `r`, `1` or `2`); the room for the answer and the length of what is
 // given, 2 bytes little-endian each; and what is given. Each answer, or the line of a refusal, stands behind its length, 2 bytes little-endian.
 ghost use Prim.Native.Nat.{_≤_};
 ghost use lib.ListN.{length};
@@ -56,6 +56,14 @@ fn answer(asked: u8, given: &[u8], out: &mut [u8]) -> bool {
         }
         b'r' => {
             let filled = rewriting::rewrite_whole(given, out);
+            telling::print_answer(Head::Length, filled, out)
+        }
+        b'1' => {
+            let filled = mover::to_edition_1(given, out);
+            telling::print_answer(Head::Length, filled, out)
+        }
+        b'2' => {
+            let filled = mover::to_edition_2(given, out);
             telling::print_answer(Head::Length, filled, out)
         }
         _ => false,

@@ -4,3 +4,4 @@ pub mod Places
 pub mod Order
 pub mod Same
 pub mod Entries
+pub mod Ascending

@@ -8,3 +8,6 @@ pub mod Told
 pub mod Listing
 pub mod Listed
 pub mod Within
+pub mod Forms
+pub mod Sizes
+pub mod Marks

@@ -21,12 +21,12 @@ use Rattle.writing.proofs.Rows.{open-taken, read-taken, write-taken, cl
 use Rattle.writing.proofs.Grown.{Grown, grown-none, grown-step, OpsIn, counts, latest}
 
 -- the steps of t's operations
-abbrev opSteps : History → ℕ → List Event
+abbrev pub opSteps : History → ℕ → List Event
 opSteps h t = listed 1 (opCount h + 1) (opStepOf h t)
 
 -- ── one transaction ──
 
-tx-steps : (h : History) (t : ℕ) → txSteps h t ≡ Open (tx h t .session) ∷ (opSteps h t ++ closeStep h t)
+pub tx-steps : (h : History) (t : ℕ) → txSteps h t ≡ Open (tx h t .session) ∷ (opSteps h t ++ closeStep h t)
 unfolding txSteps
 tx-steps h t = refl
 
@@ -60,7 +60,7 @@ close-none : (h : History) (t : ℕ) → tx h t .status ≡ 3 → closeStep h t 
 unfolding closeStep isOpen
 close-none h t e = pick-on (eqb (tx h t .status) 3) [] (Close (tx h t .status) ∷ []) (eq-eqb (tx h t .status) 3 e)
 
-close-one : (h : History) (t c : ℕ) → tx h t .status ≡ c → c ≤ 2 → closeStep h t ≡ Close c ∷ []
+pub close-one : (h : History) (t c : ℕ) → tx h t .status ≡ c → c ≤ 2 → closeStep h t ≡ Close c ∷ []
 unfolding closeStep isOpen
 close-one h t c e l =
     pick-off (eqb (tx h t .status) 3) [] (Close (tx h t .status) ∷ []) (ne-eqb (tx h t .status) 3 (λ f. omega arith)) ∙ rw e

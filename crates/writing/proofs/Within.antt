@@ -8,10 +8,10 @@ use lib.Dec.{ltb}
 use lib.ListN.{length, take, drop, length-append}
 use Rattle.base.specs.Base.{pick}
 use Rattle.base.proofs.Tests.{ifso}
-use Rattle.rules.specs.Numbers.{le, over}
+use Rattle.rules.specs.Numbers.{over}
 use Rattle.rules.specs.Records.{serialAt}
-use Rattle.writing.specs.Filling.{Said, refusing, Work, refusal, content, Fill, fillOf, into}
-use Rattle.writing.specs.Writing.{written, writtenGiven}
+use Rattle.writing.specs.Filling.{Said, Work, refusal, content, Fill, fillOf, into}
+use Rattle.writing.specs.Writing.{written}
 use Rattle.writing.specs.Listing.{stepped}
 use Rattle.writing.specs.Rewriting.{again, rewritten}
 
@@ -34,13 +34,16 @@ refused-none (content l) o e =
     ifso (ltb (length o) (length l)) (λ (t : ltb (length o) (length l) ≡ true). rw t) (λ f. absurd (true≢false (sym e ∙ rw f)))
 
 module _ (a : Said) (b : List ℕ) where
+  pub filled-within : (w : Work) (o : List ℕ) → fillOf a b ≡ into w o → a .length ≤ length b
+  filled-within w o e = subst Within (sym e) (into-within w o)
+
   pub written-within : (s : List ℕ) (k : ℕ) (o : List ℕ) → fillOf a b ≡ written s k o → a .length ≤ length b
   unfolding written
-  written-within s k o e = subst Within (sym e) (into-within _ o)
+  written-within s k o e = filled-within _ o e
 
   pub stepped-within : (s o : List ℕ) → fillOf a b ≡ stepped s o → a .length ≤ length b
   unfolding stepped
-  stepped-within s o e = subst Within (sym e) (into-within _ o)
+  stepped-within s o e = filled-within _ o e
 
   pub rewritten-within : (s x o : List ℕ) → fillOf a b ≡ rewritten s x o → a .length ≤ length b
   unfolding rewritten again pick stepped
@@ -48,10 +51,3 @@ module _ (a : Said) (b : List ℕ) where
       ifso (stepped s x .answer .isRefused)
       (λ t. let d : fillOf a b ≡ fillOf (stepped s x .answer) o = rw t at e in omega (arith, ap (λ (y : Fill). y .answer .length) d, refused-none _ x t))
       (λ f. written-within (take (stepped s x .answer .length) (stepped s x .buffer)) (serialAt s 0) o (rw f at e))
-
-  pub given-within : (g o : List ℕ) → fillOf a b ≡ writtenGiven g o → a .length ≤ length b
-  unfolding writtenGiven pick
-  given-within g o e =
-      ifso (ltb (length g) 4)
-      (λ t. let d : fillOf a b ≡ fillOf (refusing 3 0) o = rw t at e in omega (arith, ap (λ (y : Fill). y .answer .length) d))
-      (λ f. written-within (drop 4 g) (le 4 g 0) o (rw f at e))

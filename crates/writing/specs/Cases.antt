@@ -42,10 +42,10 @@ case16 =
     Open 1 ∷ Write 1 11 ∷ Write 2 21 ∷ Close 1 ∷ Open 2 ∷ Write 1 12 ∷ Write 2 22 ∷ Close 1 ∷ Open 3 ∷ Read 1 12 ∷ Read 2 21 ∷ Close 1 ∷ []
 
 -- refused, with a buffer of n bytes; filled with l
-abbrev refusedIn : ℕ → ℕ → ℕ → Fill
+abbrev pub refusedIn : ℕ → ℕ → ℕ → Fill
 refusedIn n m at = fillOf (refusing m at) (room n)
 
-abbrev filledIn : ℕ → List ℕ → Fill
+abbrev pub filledIn : ℕ → List ℕ → Fill
 filledIn n l = fillOf (answering (length l)) (l ++ room (n - length l))
 
 -- ── writing ──

@@ -1,5 +1,6 @@
 -- Document 02, request One: a call "fills a lent buffer and answers the length", or it refuses.
-use Prim.Native.Nat.{ℕ}
+use Prim.Native.Nat.{ℕ, _≤_}
+use mathlib.Core.Path.{_≡_}
 use mathlib.Core.Bool.{Bool, true, false}
 use mathlib.Core.List.{List}
 use lib.ListN.{length}
@@ -39,6 +40,11 @@ pub record Fill : Type 0 where
 
 abbrev pub fillOf : Said → List ℕ → Fill
 fillOf a b = record { answer = a; buffer = b }
+
+-- the answer r, which made b of the buffer, is x; the length that it says lies within the buffer
+pub record Gives (r : Filled) (b : List ℕ) (x : Fill) : Type 0 where
+  pub is : fillOf (said r) b ≡ x
+  pub within : said r .length ≤ length b
 
 -- "Refusals: 16, output buffer too short, place the bytes needed, after all others." A refusal changes no byte, and bytes behind what is written do not change
 unfoldable pub into : Work → List ℕ → Fill

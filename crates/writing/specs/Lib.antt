@@ -3,4 +3,5 @@ pub mod Steps
 pub mod Writing
 pub mod Listing
 pub mod Rewriting
+pub mod Forms
 pub mod Cases

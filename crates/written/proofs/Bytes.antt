@@ -1,7 +1,8 @@
 -- What is written is bytes.
 use Prim.Native.Nat.{ℕ, zero, suc, _+_, _-_, _/_, _%_, _^_, _≤_}
 use mathlib.Core.Path.{_≡_, ap, _∙_}
-use mathlib.Core.List.{List, [], _∷_, _++_}
+use mathlib.Core.Bool.{Bool, true, false}
+use mathlib.Core.List.{List, [], _∷_, _++_, map}
 use mathlib.Core.Logic.{⊎-elim}
 use native.Mathlib.Omega.{arith}
 use lib.ListN.{length, getD, List·getD-append}
@@ -9,12 +10,14 @@ use lib.Seq.{getD-append-add}
 use Rattle.base.specs.Base.{joined}
 use Rattle.base.proofs.Tests.{split}
 use Rattle.rules.specs.Numbers.{bytes}
-use Rattle.rules.specs.Traces.{raw, recordOf, trace}
+use Rattle.rules.specs.Traces.{Item, raw, recordOf, trace}
 use Rattle.rules.specs.declared.Event.{Event}
 use Rattle.rules.specs.declared.Event.the-variants.{Open, Read, Write, Close, End, Note, Other}
 use Rattle.writing.specs.Steps.{fieldBytes, stepBytes}
 use Rattle.writing.specs.Writing.{itemOf, recordsOf}
+use Rattle.writing.specs.Forms.{Marked, mark, itemWith, itemIn}
 use Rattle.written.specs.Writes.{AllBytes}
+use Rattle.written.proofs.Records.{sessionBytes, open-item, read-item, write-item, close-item, end-item}
 
 none : AllBytes []
 none i = omega arith
@@ -34,32 +37,50 @@ number zero n i = omega arith
 number (suc w) n zero = omega arith
 number (suc w) n (suc i) = number w (n / 256) i
 
-payload : (e : Event) → AllBytes (itemOf e .payload)
-unfolding itemOf
-payload (Open s) = number 2 s
-payload (Read x v) = append (bytes 4 x) (bytes 8 v) (number 4 x) (number 8 v)
-payload (Write x v) = append (bytes 4 x) (bytes 8 v) (number 4 x) (number 8 v)
-payload (Close c) = number 1 c
-payload (End n) = number 2 n
-payload Note = none
-payload Other = none
+session : (second : Bool) (n : ℕ) → AllBytes (sessionBytes second n)
+unfolding sessionBytes
+session false n = none
+session true n = number 2 n
 
-one-record : (n : ℕ) (e : Event) → AllBytes (recordOf n (itemOf e))
+operation : (second : Bool) (n x v : ℕ) → AllBytes (sessionBytes second n ++ (bytes 4 x ++ bytes 8 v))
+operation second n x v = append (sessionBytes second n) (bytes 4 x ++ bytes 8 v) (session second n) (append (bytes 4 x) (bytes 8 v) (number 4 x) (number 8 v))
+
+payload : (second : Bool) (n : ℕ) (e : Event) → AllBytes (itemIn second (mark n e) .payload)
+unfolding itemOf itemWith
+payload second n (Open s) = rw (open-item n second s) (number 2 s)
+payload second n (Read x v) = rw (read-item n second x v) (operation second n x v)
+payload second n (Write x v) = rw (write-item n second x v) (operation second n x v)
+payload second n (Close c) = rw (close-item n second c) (append (sessionBytes second n) (bytes 1 c) (session second n) (number 1 c))
+payload second n (End m) = rw (end-item n second m) (number 2 m)
+payload false n Note = none
+payload true n Note = none
+payload false n Other = none
+payload true n Other = number 2 2
+
+one-record : (n : ℕ) (i : Item) → AllBytes (i .payload) → AllBytes (recordOf n i)
 unfolding recordOf raw
-one-record n e =
-    append (bytes 2 (6 + length (itemOf e .payload)) ++ bytes 2 (itemOf e .kind) ++ bytes 4 n) (itemOf e .payload)
-    (append (bytes 2 (6 + length (itemOf e .payload)) ++ bytes 2 (itemOf e .kind)) (bytes 4 n) (append (bytes 2 (6 + length (itemOf e .payload))) (bytes 2 (itemOf e .kind)) (number 2 _) (number 2 _)) (number 4 n))
-    (payload e)
+one-record n i p =
+    append (bytes 2 (6 + length (i .payload)) ++ bytes 2 (i .kind) ++ bytes 4 n) (i .payload)
+    (append (bytes 2 (6 + length (i .payload)) ++ bytes 2 (i .kind)) (bytes 4 n) (append (bytes 2 (6 + length (i .payload))) (bytes 2 (i .kind)) (number 2 _) (number 2 _)) (number 4 n))
+    p
+
+-- the records of a list
+items : {A : Type 0} (f : A → Item) → ((x : A) → AllBytes (f x .payload)) → (n : ℕ) (xs : List A) → AllBytes (trace n (map f xs))
+unfolding trace
+items f p n [] = none
+items f p n (x ∷ xs) = append (recordOf n (f x)) (trace ((n + 1) % 2 ^ 32) (map f xs)) (one-record n (f x) (p x)) (items f p ((n + 1) % 2 ^ 32) xs)
+
+pub records-bytes : (n : ℕ) (es : List Event) → AllBytes (recordsOf n es)
+unfolding recordsOf
+records-bytes n es = items itemOf (payload false 0) n es
+
+pub marked-bytes : (second : Bool) (n : ℕ) (ms : List Marked) → AllBytes (trace n (map (itemIn second) ms))
+marked-bytes second n ms = items (itemIn second) (λ m. payload second (m .session) (m .event)) n ms
 
 fields : (k c x v : ℕ) → AllBytes (fieldBytes k c x v)
 unfolding fieldBytes
 fields k c x v =
     append (bytes 2 k ++ bytes 2 c ++ bytes 4 x) (bytes 8 v) (append (bytes 2 k ++ bytes 2 c) (bytes 4 x) (append (bytes 2 k) (bytes 2 c) (number 2 k) (number 2 c)) (number 4 x)) (number 8 v)
-
-pub records-bytes : (n : ℕ) (es : List Event) → AllBytes (recordsOf n es)
-unfolding recordsOf trace
-records-bytes n [] = none
-records-bytes n (e ∷ es) = append (recordOf n (itemOf e)) (recordsOf ((n + 1) % 2 ^ 32) es) (one-record n e) (records-bytes ((n + 1) % 2 ^ 32) es)
 
 -- a step, and all of them
 one-step : (e : Event) → AllBytes (stepBytes e)

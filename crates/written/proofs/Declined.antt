@@ -14,7 +14,7 @@ use Rattle.writing.specs.Steps.{stepAt, stepsFrom, stepsIn}
 use Rattle.writing.specs.Writing.{writeNo, bad, good, follow, traceOf, wrote, written}
 use Rattle.writing.proofs.Filling.{into-short, into-fits}
 use Rattle.writing.proofs.Followed.{follow-bad, follow-inside, follow-end}
-use Rattle.writing.proofs.Lengths.{trace-length}
+use Rattle.writing.proofs.Sizes.{trace-length}
 use Rattle.written.specs.Declined.{traceLength, WriteDeclines, bad-step, ends-inside, trace-short}
 use Rattle.written.proofs.Checks.{step-refused}
 use Rattle.written.proofs.Comes.{steps-here, steps-over, comes-follow}

@@ -1,58 +1,53 @@
--- A record of edition 1 that is framed as it should passes the framing's rows.
-use Prim.Native.Nat.{ℕ, _+_, _<_}
-use mathlib.Core.Path.{_≡_, ap}
-use mathlib.Core.Bool.{false, not}
+-- A record that is framed as it should passes the framing's rows, in either edition.
+use Prim.Native.Nat.{ℕ, _<_}
+use mathlib.Core.Path.{_≡_}
+use mathlib.Core.Bool.{Bool, true, false}
 use mathlib.Core.List.{List}
-use mathlib.Core.Logic.{⊎-elim}
 use native.Mathlib.Omega.{arith}
-use lib.Dec.{ltb, eqb}
-use lib.ListN.{length}
-use borrow.Author.Tests.{le-ltb, eq-eqb, ne-eqb}
-use Rattle.base.specs.Base.{_and_, _or_, pick, firstFit}
-use Rattle.base.proofs.Tests.{is-false, and-no-left, and-no-right, split}
-use Rattle.rules.specs.Records.{isSecond, nextAt, breaks, isUnknown, isMisfit, isLate, isOtherEdition, frameRows}
-use Rattle.demand1.specs.Rows.{len, kind, serial, edition}
-use Rattle.demand1.proofs.Events.{KindKnown, is-open, is-read, is-write, is-close, is-end, is-note, is-edition, Framed}
-use Rattle.demand1.proofs.Checks.{length-test}
+use Rattle.base.specs.Base.{firstFit}
+use Rattle.base.proofs.Tests.{is-false}
+use Rattle.rules.specs.Records.{isSecond, frameRows}
+use Rattle.rules.specs.Reading.{State}
+use Rattle.demand1.specs.Rows.{kind, serial, edition, UnknownKind, below-1, above-6, note-in-second, Check, lengthField, lengthLow, bytesThere, serialFollows, kindKnown, lengthFits, editionFirst, editionIs2, inPlace, valueLawful, withinLimit, newWrite, rank, Fails}
+use Rattle.demand1.specs.Tests.{test}
+use Rattle.demand1.proofs.Events.{Clear, KindKnown, is-open, is-read, is-write, is-close, is-end, is-note, is-edition, Framed}
+use Rattle.demand1.proofs.Checks.{check-row}
+use Rattle.written.proofs.Records.{known-most}
 
-module _ {s : List ℕ} {at : ℕ} (f : Framed s at) (first : isSecond s ≡ false) (low : kind s at < 16) where
-  follows : (e : ℕ) → (0 < at → serial s at ≡ e) → breaks s at e ≡ false
-  unfolding breaks
-  follows e h =
-      ⊎-elim (λ l. and-no-right (ltb 0 at) (not (eqb (serial s at) e)) (ap not (eq-eqb (serial s at) e (h l))))
-      (λ g. and-no-left (ltb 0 at) (not (eqb (serial s at) e)) (le-ltb 0 at g)) (split 0 at)
+-- a known kind is 6 at most, or 16
+known-not : {second : Bool} {k : ℕ} → KindKnown k → (second ≡ true → k ≡ 6 → ⊥) → UnknownKind second k → ⊥
+known-not w x (below-1 l) = omega (arith, known-most w .0)
+known-not (is-open e) x (above-6 l d) = omega arith
+known-not (is-read e) x (above-6 l d) = omega arith
+known-not (is-write e) x (above-6 l d) = omega arith
+known-not (is-close e) x (above-6 l d) = omega arith
+known-not (is-end e) x (above-6 l d) = omega arith
+known-not (is-note e) x (above-6 l d) = omega arith
+known-not (is-edition e) x (above-6 l d) = d e
+known-not w x (note-in-second t e) = x t e
 
-  known : isUnknown (isSecond s) (kind s at) ≡ false
-  unfolding isUnknown _and_ _or_ pick
-  known = by (f .sized .known)
-    where
-      by : KindKnown (kind s at) → isUnknown (isSecond s) (kind s at) ≡ false
-      by (is-open k) = rw (first, k)
-      by (is-read k) = rw (first, k)
-      by (is-write k) = rw (first, k)
-      by (is-close k) = rw (first, k)
-      by (is-end k) = rw (first, k)
-      by (is-note k) = rw (first, k)
-      by (is-edition k) = absurd (omega arith)
+-- a record that says the edition is the first, and says 2
+module _ (s : List ℕ) (st : State) (f : Framed s (st .at)) (follows : 0 < st .at → serial s (st .at) ≡ st .serial)
+    (says : kind s (st .at) ≡ 16 → (st .at ≡ 0) × (edition s (st .at) ≡ 2)) where
+  clear : Clear (Fails s st) 8
+  clear lengthField l x = omega (arith, x, f .sized .low, f .sized .there)
+  clear lengthLow l x = omega (arith, x, f .sized .low)
+  clear bytesThere l x = omega (arith, x, f .sized .there)
+  clear serialFollows l x = x .1 (follows (x .0))
+  clear kindKnown l x = known-not (f .sized .known) (f .sized .no-note) x
+  clear lengthFits l x = f .fits x
+  clear editionFirst l x = omega (arith, x .1, says (x .0) .0)
+  clear editionIs2 l x = x .1 (says (x .0) .1)
+  clear inPlace l x = omega arith
+  clear valueLawful l x = omega arith
+  clear withinLimit l x = omega arith
+  clear newWrite l x = omega arith
 
-  fits : isMisfit (isSecond s) (kind s at) (len s at) ≡ false
-  fits =
-      let z = f .sized in
-      is-false (isMisfit (isSecond s) (kind s at) (len s at)) (λ t. f .fits (length-test (isSecond s) (kind s at) (len s at) (z .known) (z .no-note) (z .low) .0 t))
+  -- so no test of them passes
+  off : (c : Check) → rank c < 8 → test s st c ≡ false
+  off c l = is-false (test s st c) (λ t. clear c l (check-row s st c (λ d m. clear d (omega arith)) .0 t))
 
-  -- it does not say the edition
-  no-edition : eqb (kind s at) 16 ≡ false
-  no-edition = ne-eqb (kind s at) 16 (λ k. omega arith)
-
-  not-late : isLate (kind s at) at ≡ false
-  unfolding isLate
-  not-late = and-no-left (eqb (kind s at) 16) (ltb 0 at) no-edition
-
-  not-other : isOtherEdition (kind s at) (edition s at) ≡ false
-  unfolding isOtherEdition
-  not-other = and-no-left (eqb (kind s at) 16) (not (eqb (edition s at) 2)) no-edition
-
-  pub framed-none : (e : ℕ) → (0 < at → serial s at ≡ e) → firstFit (frameRows (isSecond s) s at e) ≡ 0
+  pub framed-none : firstFit (frameRows (isSecond s) s (st .at) (st .serial)) ≡ 0
   unfolding frameRows firstFit
-  framed-none e h =
-      rw (le-ltb (length s) (at + 2) (omega (arith, f .sized .low, f .sized .there)), le-ltb (len s at) 6 (f .sized .low), le-ltb (length s) (nextAt s at) (f .sized .there), follows e h, known, fits, not-late, not-other)
+  framed-none =
+      rw (off lengthField (omega arith), off lengthLow (omega arith), off bytesThere (omega arith), off serialFollows (omega arith), off kindKnown (omega arith), off lengthFits (omega arith), off editionFirst (omega arith), off editionIs2 (omega arith))

@@ -1,7 +1,9 @@
-pub mod First
 pub mod Records
 pub mod Slim
+pub mod Small
 pub mod Framed
+pub mod Meets
+pub mod Whole
 pub mod Readback
 pub mod Serials
 pub mod Says

@@ -37,7 +37,8 @@ use Rattle.written.proofs.Unused.{known-steps, unused-steps}
 use Rattle.written.proofs.Comes.{steps-over, comes-follow, Ends, at-step, inside, outside, ends}
 use Rattle.written.proofs.Declined.{written-good}
 use Rattle.written.proofs.Fills.{CameOut, declining, putting, declines-iff, fills, fills-one}
-use Rattle.written.proofs.Retold.{own-bytes, slim-read}
+use Rattle.written.proofs.Small.{slim-read}
+use Rattle.written.proofs.Retold.{own-bytes}
 
 -- the bytes of a history's steps
 abbrev pub listing : History → List ℕ
@@ -48,7 +49,7 @@ listing h = joined stepBytes (historySteps h)
 module _ (s : List ℕ) (b : AllBytes s) (first : isSecond s ≡ false) {h : History} {notes : List Stretch} (r : ReadInto s h notes) where
   -- they are read back
   listing-back : stepsIn (listing h) ≡ historySteps h
-  listing-back = steps-back (read-grown first r .0) (slim-read s b first r)
+  listing-back = steps-back (read-grown first r .0) (slim-read s b r)
 
   -- and followed into the trace's history
   listing-good : follow empty 1 (stepsIn (listing h)) ≡ good h
@@ -72,7 +73,7 @@ module _ (s : List ℕ) (b : AllBytes s) (first : isSecond s ≡ false) {h : His
         notes = notes;
         reads = r;
         comes = by (ends (listing h)) listing-good;
-        unused = unused-steps (read-grown first r .0) (slim-read s b first r);
+        unused = unused-steps (read-grown first r .0) (slim-read s b r);
         long = long;
       }
     where

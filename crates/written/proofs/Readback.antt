@@ -1,50 +1,43 @@
--- What is written is read: record by record, into the history that the steps grew.
-use Prim.Native.Nat.{ℕ, _+_, _%_, _^_, _<_}
+-- What is written is read: record by record, into the history that the steps grew, in either edition.
+use Prim.Native.Nat.{ℕ, _+_, _%_, _^_, _<_, _≤_}
 use mathlib.Core.Path.{_≡_, refl, ap, sym, _∙_}
-use mathlib.Core.Bool.{Bool, false}
-use mathlib.Core.List.{List, [], _∷_, _++_, append-assoc}
+use mathlib.Core.Bool.{Bool, true, false}
+use mathlib.Core.List.{List, [], _∷_, _++_, map, append-assoc, append-nil}
 use native.Mathlib.Omega.{arith}
 use lib.ListN.{length, length-append}
 use Rattle.base.specs.Base.{firstFit}
 use Rattle.base.proofs.Rows.{RowsCounted, fit-behind}
-use Rattle.rules.specs.Numbers.{bytes}
-use Rattle.rules.specs.History.{History, txCount, current, empty}
+use Rattle.rules.specs.History.{History, tx, txCount, current, empty}
 use Rattle.rules.specs.Records.{isSecond, frameRows, eventAt}
-use Rattle.rules.specs.Reading.{State, stepRows, entered, textAt, met, after, refusalNo}
+use Rattle.rules.specs.Reading.{State, stepRows, misplaced, unlawful, excess, repeats, entered, textAt, met, after, refusalNo}
 use Rattle.rules.specs.Traces.{recordOf, trace}
 use Rattle.rules.specs.declared.Event.{Event}
-use Rattle.rules.specs.declared.Event.the-variants.{Open, Read, Write, Close, End, Note, Other}
-use Rattle.rules.proofs.Traces.{serialFrom, serial-below, serial-next}
-use Rattle.rules.proofs.Meeting.{met-first}
-use Rattle.demand1.specs.Rows.{len, kind, serial, behind, Passes, Reaches, start, on, ReadInto, to-the-end}
-use Rattle.demand1.proofs.Events.{Framed}
+use Rattle.rules.specs.declared.Event.the-variants.{Open, Read, Write, Close, End, Other}
+use Rattle.rules.proofs.Traces.{record-length, serialFrom, serial-below, serial-next}
+use Rattle.demand1.specs.Rows.{behind, Passes, Reaches, start, on, ReadInto, to-the-end}
 use Rattle.demand1.proofs.Steps.{next-after}
 use Rattle.demand1.proofs.Refusals.{refusal-none}
-use Rattle.writing.specs.Writing.{itemOf, recordsOf, traceOf, good, follow, endNo}
-use Rattle.writing.proofs.Rows.{Taken, taken-rows, end-clear}
+use Rattle.writing.specs.Writing.{itemOf, traceOf, good, follow, endNo}
+use Rattle.writing.specs.Listing.{historySteps}
+use Rattle.writing.specs.Forms.{Marked, mark, itemWith, itemIn, preamble, wholeOf}
+use Rattle.writing.proofs.Rows.{Taken, open-taken, read-taken, write-taken, close-taken, taken-rows, end-clear}
 use Rattle.writing.proofs.Grown.{Grown, grown-none, grown-step, counts}
 use Rattle.writing.proofs.Followed.{followed}
-use Rattle.writing.proofs.Lengths.{records-append, records-first, records-length, trace-length}
-use Rattle.written.proofs.Records.{Narrow, narrow-end, record-len, record-kind, record-serial, event-framed, event-back, kind-most, first-edition}
+use Rattle.writing.proofs.Told.{told}
+use Rattle.writing.proofs.Marks.{sessionAfter, sessionPast}
+use Rattle.written.proofs.Records.{Narrow, narrow-end, FitsRecord, fits-event, fits-edition, Owned, owned-read, owned-write, owned-close, end-item, same-kind, no-edition, Here, here}
+use Rattle.writing.proofs.Lengths.{items-split, items-more}
+use Rattle.writing.proofs.Sizes.{whole-length}
+use Rattle.written.proofs.Whole.{lead, lead-none, lead-more, whole-lead, first-whole, wanted-edition}
 use Rattle.written.proofs.Framed.{framed-none}
-use Rattle.written.proofs.Slim.{EachSlim, slim-more, slim-at, slim-end, narrow}
+use Rattle.written.proofs.Meets.{Lone, lone, latest-session, met-current}
+use Rattle.written.proofs.Slim.{EachSlim, slim-front, slim-at, slim-session, slim-sessions, narrow}
 
 -- the framing's rows have numbers
 frame-counted : (second : Bool) (s : List ℕ) (at e : ℕ) → RowsCounted (frameRows second s at e)
 unfolding frameRows RowsCounted
 frame-counted second s at e =
     (omega arith, (omega arith, (omega arith, (omega arith, (omega arith, (omega arith, (omega arith, (omega arith, tt))))))))
-
--- a record of an event has no more than 12 bytes of payload
-payload-short : (e : Event) → length (itemOf e .payload) < 65530
-unfolding itemOf bytes
-payload-short (Open s) = omega arith
-payload-short (Read x v) = omega arith
-payload-short (Write x v) = omega arith
-payload-short (Close c) = omega arith
-payload-short (End n) = omega arith
-payload-short Note = omega arith
-payload-short Other = omega arith
 
 -- a step that is taken is no end and no note
 not-end : {h : History} (e : Event) → Taken h e → itemOf e .kind < 5
@@ -61,94 +54,147 @@ no-text b at (Read x v) t = refl
 no-text b at (Write x v) t = refl
 no-text b at (Close c) t = refl
 
-module _ (n : ℕ) (low : n < 2 ^ 32) (b : List ℕ) (first : isSecond b ≡ false) where
-  -- behind the records of es: where the next one starts, the serial that has to come, the history so far
-  abbrev stateBehind : List Event → ℕ → History → State
-  stateBehind es k h = record { at = length (recordsOf n es); serial = k; history = h; notes = [] }
+-- inside a transaction it is of the open one, and of its session
+taken-owned : {h : History} {e : Event} → Taken h e → 0 < current h → Owned e
+taken-owned (open-taken z l) c = absurd (omega (arith, c, z))
+taken-owned (read-taken p l) c = owned-read
+taken-owned (write-taken p q l w) c = owned-write
+taken-owned (close-taken p l) c = owned-close
 
-  -- reading comes there
-  pub record Behind (es : List Event) (h : History) : Type 0 where
+owned-keeps : (n : ℕ) {e : Event} → Owned e → sessionAfter n e ≡ n
+unfolding sessionAfter
+owned-keeps n owned-read = refl
+owned-keeps n owned-write = refl
+owned-keeps n owned-close = refl
+
+-- rows 7 to 10 pass the record that says the edition
+edition-rows : (h : History) (t : ℕ) → firstFit (stepRows h t Other) ≡ 0
+unfolding stepRows misplaced unlawful excess repeats firstFit
+edition-rows h t = refl
+
+-- ── one record ──
+
+module _ (second : Bool) (n : ℕ) (low : n < 2 ^ 32) (b : List ℕ) (own : isSecond b ≡ second) where
+  -- behind these bytes: where the next record starts, the serial that has to come, the history so far
+  abbrev stateBehind : List ℕ → ℕ → History → State
+  stateBehind front next h = record { at = length front; serial = next; history = h; notes = [] }
+
+  -- reading comes there, behind k records
+  record Behind (front : List ℕ) (k : ℕ) (h : History) : Type 0 where
     pub next : ℕ
-    pub follows : 0 < length (recordsOf n es) → next ≡ serialFrom n (length es)
-    pub reaches : Reaches b (stateBehind es next h)
+    pub follows : 0 < length front → next ≡ serialFrom n k
+    pub reaches : Reaches b (stateBehind front next h)
 
-  -- the record of e comes next
-  module _ (es : List Event) (e : Event) (back : List ℕ) (w : Narrow e) (is : b ≡ recordsOf n es ++ (recordOf (serialFrom n (length es)) (itemOf e) ++ back)) where
-    pub framed : Framed b (length (recordsOf n es))
-    framed = rw is (event-framed (recordsOf n es) (serialFrom n (length es)) back (rw is at first) w)
+  -- the record of x comes next
+  module _ (front : List ℕ) (k : ℕ) (x : Marked) (back : List ℕ) (w : FitsRecord second x) (is : b ≡ front ++ (recordOf (serialFrom n k) (itemIn second x) ++ back)) where
+    pub is-here : Here second b (length front) (serialFrom n k) x
+    is-here = rw is (here second front (serialFrom n k) back (serial-below n k low) (rw is at own) w)
 
-    pub event-here : eventAt b (length (recordsOf n es)) ≡ e
-    event-here = rw is (event-back (recordsOf n es) (serialFrom n (length es)) back (rw is at first) w)
-
-    pub serial-here : serial b (length (recordsOf n es)) ≡ serialFrom n (length es)
-    serial-here = rw is (record-serial (recordsOf n es) (serialFrom n (length es)) (itemOf e) back (serial-below n (length es) low))
-
-    pub kind-here : kind b (length (recordsOf n es)) ≡ itemOf e .kind
-    kind-here = rw is (record-kind (recordsOf n es) (serialFrom n (length es)) (itemOf e) back (omega (arith, kind-most e)))
-
-    pub ends-here : behind b (length (recordsOf n es)) ≡ length (recordsOf n (es ++ (e ∷ [])))
-    ends-here = omega (arith, len-here, records-length n es e)
-      where
-        len-here : len b (length (recordsOf n es)) ≡ 6 + length (itemOf e .payload)
-        len-here = rw is (record-len (recordsOf n es) (serialFrom n (length es)) (itemOf e) back (payload-short e))
+    pub ends-here : behind b (length front) ≡ length (front ++ recordOf (serialFrom n k) (itemIn second x))
+    ends-here = omega (arith, is-here .len-is, length-append front (recordOf (serialFrom n k) (itemIn second x)), record-length (serialFrom n k) (itemIn second x))
 
     -- no row refuses it where rows 7 to 10 do not
-    passes : (k : ℕ) (h : History) → (0 < length (recordsOf n es) → k ≡ serialFrom n (length es)) → firstFit (stepRows h (current h) e) ≡ 0
-        → Passes b (stateBehind es k h)
+    passes : (next : ℕ) (h : History) (t : ℕ) → (0 < length front → next ≡ serialFrom n k) → (itemIn second x .kind ≡ 16 → length front ≡ 0) → met b (stateBehind front next h) ≡ t
+        → firstFit (stepRows h t (x .event)) ≡ 0 → Passes b (stateBehind front next h)
     unfolding refusalNo
-    passes k h f z =
-        refusal-none b (stateBehind es k h) .0
-        (fit-behind (frameRows (isSecond b) b (length (recordsOf n es)) k) (stepRows h (met b (stateBehind es k h)) (eventAt b (length (recordsOf n es))))
-        (frame-counted (isSecond b) b (length (recordsOf n es)) k)
-        (framed-none framed first (omega (arith, kind-here, kind-most e)) k (λ l. serial-here ∙ sym (f l)))
-        ∙ rw (met-first b (stateBehind es k h) first, event-here) z)
+    passes next h t f g m z =
+        let st = stateBehind front next h in
+        refusal-none b st .0
+        (fit-behind (frameRows (isSecond b) b (length front) next) (stepRows h (met b st) (eventAt b (length front))) (frame-counted (isSecond b) b (length front) next)
+        (framed-none b st (is-here .framed) (λ l. is-here .serial-is ∙ sym (f l)) (λ q. (g (sym (is-here .kind-is) ∙ q), is-here .edition-is q)))
+        ∙ rw (m, is-here .event-is) z)
 
     -- the state behind it
-    after-is : (k : ℕ) (h : History) → textAt b (length (recordsOf n es)) e ≡ []
-        → after b (stateBehind es k h) ≡ stateBehind (es ++ (e ∷ [])) ((serialFrom n (length es) + 1) % 2 ^ 32) (entered h (current h) e)
+    after-is : (next : ℕ) (h : History) (t : ℕ) → met b (stateBehind front next h) ≡ t → textAt b (length front) (x .event) ≡ []
+        → after b (stateBehind front next h) ≡ stateBehind (front ++ recordOf (serialFrom n k) (itemIn second x)) ((serialFrom n k + 1) % 2 ^ 32) (entered h t (x .event))
     unfolding after
-    after-is k h x = rw (met-first b (stateBehind es k h) first, event-here, serial-here, ends-here, x)
+    after-is next h t m e = rw (m, is-here .event-is, is-here .serial-is, ends-here, e)
 
-    -- a step that is taken
-    on-step : {h : History} → Behind es h → Taken h e → Behind (es ++ (e ∷ [])) (entered h (current h) e)
-    on-step {h} r t =
-        let p = passes (r .next) h (r .follows) (taken-rows h e t) in
+    -- a record that is not the end
+    on-record : {h : History} (r : Behind front k h) (t : ℕ) → (itemIn second x .kind ≡ 16 → length front ≡ 0) → met b (stateBehind front (r .next) h) ≡ t
+        → firstFit (stepRows h t (x .event)) ≡ 0 → textAt b (length front) (x .event) ≡ [] → (itemIn second x .kind ≡ 5 → ⊥)
+        → Behind (front ++ recordOf (serialFrom n k) (itemIn second x)) (k + 1) (entered h t (x .event))
+    on-record {h} r t g m z e d =
+        let p = passes (r .next) h t (r .follows) g m z in
         record {
-          next = (serialFrom n (length es) + 1) % 2 ^ 32;
-          follows = λ _. sym (ap (serialFrom n) (length-append es (e ∷ [])) ∙ serial-next n (length es) low);
-          reaches = rw (← after-is (r .next) h (no-text b (length (recordsOf n es)) e t))
-              (on (r .reaches) p (next-after b (stateBehind es (r .next) h) p (λ k. omega (arith, kind-here, not-end e t))));
+          next = (serialFrom n k + 1) % 2 ^ 32;
+          follows = λ _. sym (serial-next n k low);
+          reaches = rw (← after-is (r .next) h t m e) (on (r .reaches) p (next-after b (stateBehind front (r .next) h) p (λ q. d (sym (is-here .kind-is) ∙ q))));
         }
 
--- the records of more steps, the first of them by itself
-pub split-records : (n : ℕ) (es : List Event) (e : Event) (rest : List Event)
-    → recordsOf n (es ++ (e ∷ rest)) ≡ recordsOf n es ++ (recordOf (serialFrom n (length es)) (itemOf e) ++ recordsOf ((serialFrom n (length es) + 1) % 2 ^ 32) rest)
-split-records n es e rest = records-append n es (e ∷ rest) ∙ rw (records-first (serialFrom n (length es)) e rest)
+  -- a step that is taken, where m is the session before it
+  on-step : (front : List ℕ) (k m : ℕ) (e : Event) (back : List ℕ) → sessionAfter m e < 65536 → Narrow e
+      → b ≡ front ++ (recordOf (serialFrom n k) (itemIn second (mark (sessionAfter m e) e)) ++ back) → {h : History} → Behind front k h → Lone h
+      → (0 < current h → tx h (txCount h) .session ≡ m) → Taken h e
+      → Behind (front ++ recordOf (serialFrom n k) (itemIn second (mark (sessionAfter m e) e))) (k + 1) (entered h (current h) e)
+  on-step front k m e back l w is {h} r only s t =
+      let x = mark (sessionAfter m e) e in
+      on-record front k x back (fits-event l w) is r (current h) (λ q. absurd (no-edition second (x .session) w q))
+      (met-current b (stateBehind front (r .next) h) only (λ y c. s c ∙ sym (is-here front k x back (fits-event l w) is .session-is (sym own ∙ y) (taken-owned t c) ∙ owned-keeps m (taken-owned t c)))) (taken-rows h e t)
+      (no-text b (length front) e t) (λ q. omega (arith, q, same-kind second (x .session) w, not-end e t))
+
+-- ── all of them ──
+
+-- their bytes
+abbrev leading : Bool → ℕ → List Event → List ℕ
+leading second n es = trace n (map (itemIn second) (lead second es))
+
+-- "Edition 2 of the trace begins with a kind 16 record", which enters nothing
+behind-preamble : (second : Bool) (n : ℕ) (low : n < 2 ^ 32) (b : List ℕ) (own : isSecond b ≡ second) (rest : List Marked) → b ≡ trace n (map (itemIn second) (preamble second ++ rest))
+    → Behind second n low b own (trace n (map (itemIn second) (preamble second))) (length (preamble second)) empty
+unfolding preamble trace serialFrom itemWith entered textAt
+behind-preamble false n low b own rest is = record { next = 0; follows = λ l. absurd (omega arith); reaches = start }
+behind-preamble true n low b own rest is =
+    let r = recordOf n (itemWith 0 Other) in
+    rw (append-nil r)
+    (on-record true n low b own [] 0 (mark 0 Other) _ (fits-edition refl) is (record { next = 0; follows = λ l. absurd (omega arith); reaches = start }) _ (λ _. refl) refl (edition-rows empty _) refl
+    (λ q. omega arith))
 
 -- steps that have grown, with more behind them
-pub behind-all : (n : ℕ) (low : n < 2 ^ 32) (b : List ℕ) (first : isSecond b ≡ false) {es : List Event} {h : History} → Grown es h → (rest : List Event)
-    → b ≡ recordsOf n (es ++ rest) → EachSlim (es ++ rest) → Behind n low b first es h
-unfolding recordsOf trace
-behind-all n low b first grown-none rest is s = record { next = 0; follows = λ l. absurd (omega arith); reaches = start }
-behind-all n low b first (grown-step {es} {h} e g t) rest is s =
-    let q : (es ++ (e ∷ [])) ++ rest ≡ es ++ (e ∷ rest) = append-assoc es (e ∷ []) rest in
-    let x : EachSlim (es ++ (e ∷ rest)) = rw q at s in
-    let y : b ≡ recordsOf n (es ++ (e ∷ rest)) = rw q at is in
-    on-step n low b first es e (recordsOf ((serialFrom n (length es) + 1) % 2 ^ 32) rest) (narrow t (slim-at es e rest x)) (y ∙ split-records n es e rest)
-    (behind-all n low b first g (e ∷ rest) y x) t
+behind-all : (second : Bool) (n : ℕ) (low : n < 2 ^ 32) (b : List ℕ) (own : isSecond b ≡ second) {es : List Event} {h : History} → Grown es h → (rest : List Marked)
+    → b ≡ trace n (map (itemIn second) (lead second es ++ rest)) → EachSlim es → Behind second n low b own (leading second n es) (length (lead second es)) h
+behind-all second n low b own grown-none rest is s = rw (lead-none second) (behind-preamble second n low b own rest (rw (lead-none second) at is))
+behind-all second n low b own (grown-step {es} {h} e g t) rest is s =
+    let m = sessionPast 0 es in
+    let x = mark (sessionAfter m e) e in
+    let q : lead second (es ++ (e ∷ [])) ++ rest ≡ lead second es ++ (x ∷ rest) = rw (lead-more second es e) (append-assoc (lead second es) (x ∷ []) rest) in
+    let y : b ≡ trace n (map (itemIn second) (lead second es ++ (x ∷ rest))) = rw q at is in
+    let a = slim-front es e s in
+    let o = slim-at es e [] s in
+    let r = behind-all second n low b own g (x ∷ rest) y a in
+    rw (lead-more second es e, items-more (itemIn second) n (lead second es) x, length-append (lead second es) (x ∷ []))
+    (on-step second n low b own (leading second n es) (length (lead second es)) m e _ (slim-session (slim-sessions (omega arith) es a) e o) (narrow t o)
+    (y ∙ items-split (itemIn second) n (lead second es) x rest) r (lone g) (latest-session g) t)
 
--- a good sequence is read back, without notes
+-- a history that has grown, as blocks in either edition, is read back, without notes
+pub read-back-in : (second : Bool) (n : ℕ) → n < 2 ^ 32 → {g : History} → Grown (historySteps g) g → current g ≡ 0 → EachSlim (historySteps g)
+    → ReadInto (trace n (map (itemIn second) (wholeOf second g))) g []
+unfolding endNo
+read-back-in second n low {g} x z s =
+    let es = historySteps g in
+    let c = counts x in
+    let end = mark 0 (End (txCount g)) in
+    let b = trace n (map (itemIn second) (wholeOf second g)) in
+    let own : isSecond b ≡ second = wanted-edition second n g in
+    let q : b ≡ trace n (map (itemIn second) (lead second es ++ (end ∷ []))) = ap (λ l. trace n (map (itemIn second) l)) (whole-lead second g) in
+    let a = behind-all second n low b own x (end ∷ []) q s in
+    let front = leading second n es in
+    let k = length (lead second es) in
+    let is = q ∙ items-split (itemIn second) n (lead second es) end [] in
+    let v : Narrow (End (txCount g)) = narrow-end {n = txCount g} (omega (arith, c .few-txs)) in
+    let w : FitsRecord second end = fits-event {n = 0} (omega arith) v in
+    to-the-end {st = stateBehind second n low b own front (a .next) g} (few second) (a .reaches)
+    (passes second n low b own front k end _ w is (a .next) g (current g) (a .follows) (λ e. absurd (no-edition second 0 v e)) (met-current b _ (lone x) (λ _ l. absurd (omega arith))) (end-clear g .1 z))
+    (is-here second n low b own front k end _ w is .kind-is ∙ ap (λ i. i .kind) (end-item 0 second (txCount g)))
+    (ends-here second n low b own front k end _ w is ∙ ap length (sym (q ∙ items-more (itemIn second) n (lead second es) end)))
+  where
+    few : (second : Bool) → length (trace n (map (itemIn second) (wholeOf second g))) ≤ 32768
+    few false = omega (arith, whole-length false n low g x z, counts x .few-txs, counts x .few-ops)
+    few true = omega (arith, whole-length true n low g x z, counts x .few-txs, counts x .few-ops)
+
+-- a good sequence is read back
 pub read-back : (n : ℕ) → n < 2 ^ 32 → (es : List Event) (g : History) → follow empty 1 es ≡ good g → EachSlim es → ReadInto (traceOf n es g) g []
-unfolding endNo itemOf
 read-back n low es g f s =
     let r = followed empty 1 es grown-none f in
-    let c = counts (r .0) in
-    let end = End (txCount g) in
-    let b = traceOf n es g in
-    let x : EachSlim (es ++ (end ∷ [])) = slim-more es end s (slim-end (txCount g)) in
-    let first : isSecond b ≡ false = first-edition n (es ++ (end ∷ [])) in
-    let a = behind-all n low b first (r .0) (end ∷ []) refl x in
-    let is : b ≡ recordsOf n es ++ (recordOf (serialFrom n (length es)) (itemOf end) ++ recordsOf ((serialFrom n (length es) + 1) % 2 ^ 32) []) = split-records n es end [] in
-    let w : Narrow end = narrow-end {n = txCount g} (omega (arith, c .few-txs)) in
-    to-the-end {st = stateBehind n low b first es (a .next) g} (omega (arith, trace-length n es 1 g f, c .few-txs, c .few-ops)) (a .reaches)
-    (passes n low b first es end _ w is (a .next) g (a .follows) (end-clear g .1 (r .1))) (kind-here n low b first es end _ w is) (ends-here n low b first es end _ w is)
+    let t = told (r .0) in
+    rw (first-whole n g, t) at (read-back-in false n low (rw t (r .0)) (r .1) (rw t s))

@@ -23,8 +23,8 @@ use Rattle.writing.proofs.Told.{told}
 use Rattle.writing.proofs.Lengths.{records-more}
 use Rattle.writing.proofs.Listed.{Stepped, by-step, by-note, stepped, reached}
 use Rattle.written.specs.Writes.{AllBytes}
-use Rattle.written.proofs.Slim.{EachSlim, slim-none, slim-more, le-below}
-use Rattle.written.proofs.Spelt.{step-spelt, slim-event, end-spelt}
+use Rattle.written.proofs.Slim.{le-below}
+use Rattle.written.proofs.Spelt.{step-spelt, last-spelt}
 
 -- the records before a state are those of its history's steps
 record Retold (s : List ℕ) (st : State) : Type 0 where
@@ -105,19 +105,7 @@ module _ (s : List ℕ) (b : AllBytes s) (first : isSecond s ≡ false) where
       number = exactly (endNumber s (st .at)) (txCount (st .history)) (λ d. p valueLawful (end-wrong k d))
 
       whole : take (length s) s ≡ recordsOf n es ++ recordOf (serialFrom n (length es)) (itemOf (End (txCount (st .history))))
-      whole = rw (← e) (end-spelt b first (passes-framed p) k ∙ rw (r .front, serial-here p r, number))
+      whole = rw (← e) (last-spelt b first (passes-framed p) k ∙ rw (r .front, serial-here p r, number))
 
   pub own-bytes : {h : History} → ReadInto s h [] → traceOf n (historySteps h) h ≡ s
   own-bytes r = own r refl
-
-  -- the fields of the steps of a trace, also of one with notes, fit
-  slim-reached : {st : State} → Reaches s st → EachSlim (historySteps (st .history))
-  slim-reached start = rw (told grown-none) slim-none
-  slim-reached (on {st} {next} rs p nx) = by (slim-reached rs) (stepped s first st p nx)
-    where
-      by : EachSlim (historySteps (st .history)) → Stepped s first st p next → EachSlim (historySteps (next .history))
-      by a (by-step e t q i _) = rw (i, told (grown-step e (reached first rs) t)) (slim-more (historySteps (st .history)) e a (rw q at (slim-event b first (passes-framed p))))
-      by a (by-note i _) = rw i a
-
-  pub slim-read : {h : History} {notes : List Stretch} → ReadInto s h notes → EachSlim (historySteps h)
-  slim-read (to-the-end l rs p k e) = slim-reached rs

@@ -5,19 +5,18 @@ use mathlib.Core.List.{List, [], _∷_, _++_}
 use mathlib.Core.Logic.{⊎-elim}
 use native.Mathlib.Omega.{arith}
 use native.Mathlib.Numerals.{unary-clauses}
-use lib.Dec.{eqb}
 use lib.ListN.{length, getD, List·getD-append, List·getD-eq-default}
 use lib.Seq.{getD-append-seam}
 use Rattle.base.specs.Base.{pick}
-use Rattle.base.proofs.Tests.{ifso, split}
+use Rattle.base.proofs.Tests.{split}
 use Rattle.base.proofs.Searches.{singles-length, singles-at}
-use Rattle.base.proofs.Numbered.{getD-more}
 use Rattle.rules.specs.Numbers.{le}
 use Rattle.rules.specs.History.{History}
 use Rattle.rules.specs.declared.Event.{Event}
 use Rattle.rules.specs.declared.Event.the-variants.{Open, Read, Write, Close, End, Note, Other}
 use Rattle.writing.specs.Steps.{stepOf, stepAt, stepCount, stepsFrom, stepsIn}
 use Rattle.writing.proofs.Rows.{Taken, open-taken, read-taken, write-taken, close-taken}
+use Rattle.writing.proofs.Marks.{sessionAfter, sessionPast}
 use Rattle.written.specs.Writes.{AllBytes}
 use Rattle.written.proofs.Records.{Narrow, narrow-open, narrow-read, narrow-write, narrow-close}
 
@@ -43,24 +42,11 @@ narrow (close-taken {c} p l) b = narrow-close {c = c} (omega arith)
 abbrev pub EachSlim : List Event → Type 0
 EachSlim es = (i : ℕ) → Slim (getD es i Other)
 
-pub slim-none : EachSlim []
-unfolding Slim
-slim-none i = tt
-
-slim-other : Slim Other
+pub slim-other : Slim Other
 unfolding Slim
 slim-other = tt
 
-pub slim-end : (n : ℕ) → Slim (End n)
-unfolding Slim
-slim-end n = tt
-
--- one more
-pub slim-more : (es : List Event) (e : Event) → EachSlim es → Slim e → EachSlim (es ++ (e ∷ []))
-unfolding pick
-slim-more es e a b i = rw (getD-more es e Other i) (ifso (eqb (length es) i) (λ t. rw t b) (λ t. rw t (a i)))
-
--- .. and one less
+-- one less
 pub slim-front : (es : List Event) (e : Event) → EachSlim (es ++ (e ∷ [])) → EachSlim es
 slim-front es e a i =
     ⊎-elim (λ l. rw (List·getD-append es (e ∷ []) Other i l) at (a i)) (λ (g : length es ≤ i). rw (List·getD-eq-default es Other {n = i} g) slim-other) (split i (length es))
@@ -68,6 +54,22 @@ slim-front es e a i =
 -- the one that stands behind others
 pub slim-at : (es : List Event) (e : Event) (rest : List Event) → EachSlim (es ++ (e ∷ rest)) → Slim e
 slim-at es e rest a = rw (getD-append-seam es e rest Other) at (a (length es))
+
+-- the session that they come to
+pub slim-session : {n : ℕ} → n < 65536 → (e : Event) → Slim e → sessionAfter n e < 65536
+unfolding Slim sessionAfter
+slim-session l (Open s) a = a
+slim-session l (Read x v) a = l
+slim-session l (Write x v) a = l
+slim-session l (Close c) a = l
+slim-session l (End m) a = l
+slim-session l Note a = l
+slim-session l Other a = l
+
+pub slim-sessions : {n : ℕ} → n < 65536 → (es : List Event) → EachSlim es → sessionPast n es < 65536
+unfolding sessionPast
+slim-sessions l [] a = l
+slim-sessions l (e ∷ es) a = slim-sessions (slim-session l e (a 0)) es (λ i. a (suc i))
 
 -- ── numbers that bytes spell ──
 

@@ -1,11 +1,12 @@
 -- The definition's outcome is what is promised of writing, and the promise leaves one.
-use Prim.Native.Nat.{ℕ, _+_, _*_, _^_, _<_}
+use Prim.Native.Nat.{ℕ, _+_, _*_, _%_, _^_, _<_, _≤_}
 use mathlib.Core.Path.{_≡_, refl, ap, sym, _∙_}
+use mathlib.Core.Bool.{false}
 use mathlib.Core.List.{List, [], _∷_, _++_}
 use mathlib.Core.Logic.{_⊎_, ⊎-elim, _↔_}
 use native.Mathlib.Omega.{arith}
 use lib.ListN.{length, getD, length-append, List·getD-append}
-use lib.Seq.{getD-append-seam}
+use lib.Seq.{getD-at}
 use Rattle.base.proofs.Tests.{split}
 use Rattle.base.proofs.Searches.{singles-length, singles-at}
 use Rattle.rules.specs.History.{History, txCount, empty}
@@ -15,15 +16,16 @@ use Rattle.demand1.specs.Rows.{serial, numberOf}
 use Rattle.writing.specs.Filling.{refusing, said, fillOf}
 use Rattle.writing.specs.Steps.{stepAt, stepCount, stepsFrom, stepsIn}
 use Rattle.writing.specs.Writing.{Followed, good, follow, itemOf, recordsOf, traceOf, written}
+use Rattle.writing.specs.Forms.{mark}
 use Rattle.writing.specs.declared.Filled.{Filled}
 use Rattle.writing.proofs.Grown.{Grown, grown-none, counts}
 use Rattle.writing.proofs.Followed.{followed}
 use Rattle.written.specs.Declined.{traceLength, WriteDeclines, bad-step, ends-inside, trace-short}
 use Rattle.written.specs.Writes.{AllBytes, recordAt, IsStepRecord, IsEndRecord, TraceOf, WritesTrace}
-use Rattle.written.proofs.Records.{narrow-end, first-edition}
+use Rattle.written.proofs.Records.{Narrow, narrow-end, FitsRecord, fits-event, Here, first-edition}
 use Rattle.written.proofs.Slim.{slim-steps}
 use Rattle.written.proofs.Readback.{read-back}
-use Rattle.written.proofs.Serials.{EachNarrow, record-serials, record-events, record-kinds, records-framed, records-end, grown-narrow, narrow-last}
+use Rattle.written.proofs.Serials.{EachNarrow, record-here, records-end, grown-narrow, each-last}
 use Rattle.written.proofs.Fields.{step-fields, end-fields}
 use Rattle.written.proofs.Says.{says, says-one}
 use Rattle.written.proofs.Bytes.{records-bytes}
@@ -46,43 +48,53 @@ module _ (s : List ℕ) (b : AllBytes s) (n : ℕ) (low : n < 2 ^ 32) (h : Histo
   unfolding stepsFrom
   step-is k l = singles-at (λ i. stepAt s (16 * i)) Other 0 (stepCount s) k (omega arith) ∙ ap (λ (i : ℕ). stepAt s (16 * i)) (omega arith)
 
-  all : EachNarrow (stepsIn s ++ (End (txCount h) ∷ []))
-  all = narrow-last (stepsIn s) (End (txCount h)) (grown-narrow grown (slim-steps s b)) (narrow-end {n = txCount h} (omega (arith, counts grown .few-txs)))
+  -- all, and the end
+  abbrev es : List Event
+  es = stepsIn s ++ (End (txCount h) ∷ [])
 
-  more : length (stepsIn s ++ (End (txCount h) ∷ [])) ≡ length (stepsIn s) + 1
-  more = length-append (stepsIn s) (End (txCount h) ∷ [])
+  all : EachNarrow es
+  all = each-last Narrow Other (stepsIn s) (End (txCount h)) (grown-narrow grown (slim-steps s b)) (narrow-end {n = txCount h} (omega (arith, counts grown .few-txs)))
+
+  more : length es ≡ stepCount s + 1
+  more = length-append (stepsIn s) (End (txCount h) ∷ []) ∙ rw count
+
+  each : (k : ℕ) → k < length es → FitsRecord false (mark 0 (getD es k Other))
+  each k l = fits-event {n = 0} (omega arith) (all k l)
+
+  record-is : (k : ℕ) → k ≤ stepCount s → Here false (recordsOf n es) (recordAt (recordsOf n es) k) ((n + k) % 2 ^ 32) (mark 0 (getD es k Other))
+  unfolding recordsOf
+  record-is k l = record-here false (mark 0) Other n low es each (recordsOf n es) (first-edition n es) refl k (omega (arith, more))
 
   -- the record of a step, and the end
-  step-record : (k : ℕ) → k < stepCount s → IsStepRecord (traceOf n (stepsIn s) h) (recordAt (traceOf n (stepsIn s) h) k) s k
+  step-record : (k : ℕ) → k < stepCount s → IsStepRecord (recordsOf n es) (recordAt (recordsOf n es) k) s k
   step-record k l =
-      let x : List Event = stepsIn s ++ (End (txCount h) ∷ []) in
-      let m : k < length x = omega (arith, more, count) in
-      let g : getD x k Other ≡ stepAt s (16 * k) = List·getD-append (stepsIn s) (End (txCount h) ∷ []) Other k (omega (arith, count)) ∙ step-is k l in
-      step-fields (recordsOf n x) (recordAt (recordsOf n x) k) (records-framed n low x all k m) s k h (rw g at (all k m)) (record-kinds n low x all k m ∙ ap (λ (e : Event). itemOf e .kind) g)
-      (record-events n low x all k m ∙ g)
+      let r = record-is k (omega arith) in
+      let g : getD es k Other ≡ stepAt s (16 * k) = List·getD-append (stepsIn s) (End (txCount h) ∷ []) Other k (omega (arith, count)) ∙ step-is k l in
+      step-fields (recordsOf n es) (recordAt (recordsOf n es) k) (r .framed) s k h (rw g at (all k (omega (arith, more)))) (r .kind-is ∙ ap (λ (e : Event). itemOf e .kind) g) (r .event-is ∙ g)
 
-  ended : IsEndRecord (traceOf n (stepsIn s) h) (recordAt (traceOf n (stepsIn s) h) (length (stepsIn s))) (txCount h)
+  ended : IsEndRecord (recordsOf n es) (recordAt (recordsOf n es) (stepCount s)) (txCount h)
   unfolding itemOf
   ended =
-      let x : List Event = stepsIn s ++ (End (txCount h) ∷ []) in
-      let k : ℕ = length (stepsIn s) in
-      let m : k < length x = omega (arith, more) in
-      let g : getD x k Other ≡ End (txCount h) = getD-append-seam (stepsIn s) (End (txCount h)) [] Other in
-      end-fields (recordsOf n x) (recordAt (recordsOf n x) k) (records-framed n low x all k m) (txCount h) (record-kinds n low x all k m ∙ ap (λ (e : Event). itemOf e .kind) g)
-      (record-events n low x all k m ∙ g)
+      let r = record-is (stepCount s) (omega arith) in
+      let g : getD es (stepCount s) Other ≡ End (txCount h) = getD-at (stepsIn s) (End (txCount h)) [] Other (stepCount s) count in
+      end-fields (recordsOf n es) (recordAt (recordsOf n es) (stepCount s)) (r .framed) (txCount h) (r .kind-is ∙ ap (λ (e : Event). itemOf e .kind) g) (r .event-is ∙ g)
+
+  no-more : recordAt (recordsOf n es) (stepCount s + 1) ≡ length (recordsOf n es)
+  unfolding recordsOf
+  no-more = rw (← more) (records-end false (mark 0) Other n low es each (recordsOf n es) (first-edition n es) refl)
 
   pub trace-of : TraceOf s n (traceOf n (stepsIn s) h)
   trace-of =
       record {
-        is-bytes = records-bytes n (stepsIn s ++ (End (txCount h) ∷ []));
-        first-edition = first-edition n (stepsIn s ++ (End (txCount h) ∷ []));
+        is-bytes = records-bytes n es;
+        first-edition = first-edition n es;
         history = h;
         reads = read-back n low (stepsIn s) h f (slim-steps s b);
         says = says grown (followed empty 1 (stepsIn s) grown-none f .1);
-        serials = λ k l. record-serials n low (stepsIn s ++ (End (txCount h) ∷ [])) all k (omega (arith, more, count));
+        serials = λ k l. record-is k l .serial-is;
         step-records = step-record;
-        end-record = rw (← count) ended;
-        no-more = rw (← count, ← more) (records-end n low (stepsIn s ++ (End (txCount h) ∷ [])) all);
+        end-record = ended;
+        no-more = no-more;
       }
 
 -- ── the promise ──

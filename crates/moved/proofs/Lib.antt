@@ -1,0 +1,6 @@
+pub mod Renumbered
+pub mod Records
+pub mod Spelt
+pub mod Moved
+pub mod Moves
+pub mod Back

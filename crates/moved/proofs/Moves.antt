@@ -1,0 +1,103 @@
+-- The definition's outcome is what is promised of a move, and the promise leaves one.
+use Prim.Native.Nat.{ℕ, _≤_}
+use mathlib.Core.Path.{_≡_, refl, ap, _∙_}
+use mathlib.Core.Bool.{Bool, true, false}
+use mathlib.Core.List.{List}
+use mathlib.Core.Logic.{⊎-elim, _↔_}
+use native.Mathlib.Omega.{arith}
+use lib.ListN.{length}
+use Rattle.base.proofs.Tests.{clash, ifso, is-false, split}
+use Rattle.rules.specs.Numbers.{over}
+use Rattle.rules.specs.History.{History}
+use Rattle.rules.specs.Records.{isSecond}
+use Rattle.rules.specs.Reading.{Stretch, Reading, refused, read, reading}
+use Rattle.demand1.specs.Rows.{serial, ReadInto}
+use Rattle.demand1.proofs.Readings.{refuses-iff, reads-iff, one-outcome}
+use Rattle.writing.specs.Filling.{refusing, answering, said, fillOf}
+use Rattle.writing.specs.Forms.{wholeOf}
+use Rattle.writing.specs.declared.Filled.{Filled}
+use Rattle.writing.proofs.Filling.{into-short, into-fits}
+use Rattle.written.specs.Writes.{AllBytes}
+use Rattle.written.proofs.Fills.{CameOut, declining, putting, declines-iff, fills, fills-one}
+use Rattle.moving.specs.Moving.{isSame, movedTrace, movedTo}
+use Rattle.moving.proofs.Moving.{same-iff, moved-refused, moved-same, moved-other}
+use Rattle.moved.specs.Records.{RecordsAre}
+use Rattle.moved.specs.Moved.{Moved, ComesOut, unchanged, was-moved, movedLength, MoveDeclines, trace-refused, unchanged-short, moved-short, Moves}
+use Rattle.moved.proofs.Spelt.{records-one}
+use Rattle.moved.proofs.Moved.{moved-length, is-moved}
+
+module _ (second : Bool) (s : List ℕ) (b : AllBytes s) (o : List ℕ) where
+  -- ── the definition's cases ──
+
+  module _ {h : History} {notes : List Stretch} (r : ReadInto s h notes) where
+    as-read : reading s ≡ read h notes
+    as-read = reads-iff s h notes .1 r
+
+    same-test : isSecond s ≡ second → isSame (isSecond s) second ≡ true
+    same-test e = same-iff (isSecond s) second .1 e
+
+    other-test : (isSecond s ≡ second → ⊥) → isSame (isSecond s) second ≡ false
+    other-test d = is-false (isSame (isSecond s) second) (λ t. d (same-iff (isSecond s) second .0 t))
+
+    same-fits : isSecond s ≡ second → length s ≤ length o → movedTo second s o ≡ fillOf (answering (length s)) (over s o)
+    same-fits e l = moved-same second s o as-read (same-test e) ∙ into-fits s o l
+
+    pub moved-fits : (isSecond s ≡ second → ⊥) → movedLength second h ≤ length o
+        → movedTo second s o ≡ fillOf (answering (length (movedTrace second (serial s 0) h))) (over (movedTrace second (serial s 0) h) o)
+    moved-fits d l = moved-other second s o as-read (other-test d) ∙ into-fits (movedTrace second (serial s 0) h) o (omega (arith, moved-length second s b r))
+
+  declined-is : (m p : ℕ) → MoveDeclines second s (length o) m p → movedTo second s o ≡ fillOf (refusing m p) o
+  declined-is m p (trace-refused {n} {at} x) = moved-refused second s o (refuses-iff s n at .1 x)
+  declined-is m p (unchanged-short e r l) = moved-same second s o (as-read r) (same-test r e) ∙ into-short s o l
+  declined-is m p (moved-short {h} d r l) =
+      let n = moved-length second s b r in
+      moved-other second s o (as-read r) (other-test r d) ∙ into-short (movedTrace second (serial s 0) h) o (omega (arith, n)) ∙ ap (λ (x : ℕ). fillOf (refusing 16 x) o) n
+
+  -- ── the promise ──
+
+  abbrev Out : Type 0
+  Out = CameOut (MoveDeclines second s (length o)) (ComesOut second s) o (movedTo second s o) declined-is
+
+  out : Out
+  out = by (reading s) refl
+    where
+      by : (x : Reading) → reading s ≡ x → Out
+      by (refused n p) e = declining n p (trace-refused (refuses-iff s n p .0 e))
+      by (read h notes) e =
+          let r = reads-iff s h notes .0 e in
+          ifso (isSame (isSecond s) second)
+          (λ t.
+          let q = same-iff (isSecond s) second .0 t in
+          ⊎-elim (λ l. declining 16 (length s) (unchanged-short q r l)) (λ l. putting s (unchanged q r) (same-fits r q l)) (split (length o) (length s)))
+          (λ t.
+          let d : isSecond s ≡ second → ⊥ = λ q. clash (same-iff (isSecond s) second .1 q) t in
+          ⊎-elim (λ l. declining 16 (movedLength second h) (moved-short d r l))
+          (λ l. putting (movedTrace second (serial s 0) h) (was-moved d (is-moved second s b r d)) (moved-fits r d l)) (split (length o) (movedLength second h)))
+
+  -- refused exactly then
+  pub move-declines-iff : (m p : ℕ) → (movedTo second s o .answer ≡ refusing m p) ↔ MoveDeclines second s (length o) m p
+  move-declines-iff = declines-iff (MoveDeclines second s (length o)) (ComesOut second s) o (movedTo second s o) declined-is out
+
+  -- any answer and content that the contract admits
+  pub moves : (r : Filled) (c : List ℕ) → fillOf (said r) c ≡ movedTo second s o → Moves second s o r c
+  moves = fills (MoveDeclines second s (length o)) (ComesOut second s) o (movedTo second s o) declined-is out
+
+-- ── one outcome ──
+
+-- two traces that s was moved to: their records are those of one history
+moved-one : {second : Bool} {s : List ℕ} (x y : List ℕ) → Moved second s x → Moved second s y → x ≡ y
+moved-one {second} {s} x y a c =
+    let h : c .history ≡ a .history = one-outcome s .one-reading (c .history) (a .history) (c .notes) (a .notes) (c .reads) (a .reads) .0 in
+    let q : RecordsAre y (serial s 0) (wholeOf second (a .history)) = rw h at (c .records) in
+    records-one x y (a .wanted) (c .wanted) (a .records) q
+
+-- what comes out is one
+pub comes-one : {second : Bool} {s : List ℕ} (x y : List ℕ) → ComesOut second s x → ComesOut second s y → x ≡ y
+comes-one x y (unchanged e r) (unchanged d q) = refl
+comes-one x y (unchanged e r) (was-moved d m) = absurd (d e)
+comes-one x y (was-moved d m) (unchanged e r) = absurd (d e)
+comes-one x y (was-moved d m) (was-moved e k) = moved-one x y m k
+
+-- any two outcomes that the promise admits coincide
+pub moves-one : {second : Bool} {s o : List ℕ} {r q : Filled} {c d : List ℕ} → Moves second s o r c → Moves second s o q d → (said r ≡ said q) × (c ≡ d)
+moves-one x y = fills-one comes-one x y

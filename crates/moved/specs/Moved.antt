@@ -1,0 +1,68 @@
+-- Document 02, request Five, in its own terms, apart from the functions that compute: what comes out of a move, and when it is refused.
+use Prim.Native.Nat.{ℕ, _+_, _*_, _<_, _≤_}
+use mathlib.Core.Path.{_≡_}
+use mathlib.Core.Bool.{Bool, true, false}
+use mathlib.Core.List.{List, []}
+use lib.ListN.{length}
+use Rattle.rules.specs.History.{History, op, txCount, opCount}
+use Rattle.rules.specs.Records.{isSecond}
+use Rattle.rules.specs.Reading.{Stretch}
+use Rattle.rules.specs.Outcome.{judged}
+use Rattle.demand1.specs.Lawful.{IsOp}
+use Rattle.demand1.specs.Rows.{serial, Refuses, ReadInto}
+use Rattle.writing.specs.Forms.{wholeOf}
+use Rattle.writing.specs.declared.Filled.{Filled}
+use Rattle.written.specs.Fills.{Fills}
+use Rattle.renumbering.specs.Renumbering.{Renumbers, SameFindings, JudgedAlike}
+use Rattle.moving.specs.Renumbering.{newNumber, oldNumber}
+use Rattle.moved.specs.Records.{RecordsAre}
+
+-- g has the transactions of h as "blocks in order of opening", each with its own operations in their order: operation i of h has become operation
+-- `newNumber h i`
+pub record InBlocksOf (h g : History) : Type 0 where
+  pub renumbers : Renumbers (newNumber h) (oldNumber h) h g
+  pub in-turn : (i j : ℕ) → IsOp g i → IsOp g j → i < j → op g i .tx ≤ op g j .tx
+
+-- "Verdicts, orders and pairs stay equal; findings may differ only in operation numbers, so in their order": of the traces s and b, read into h and g
+pub record SameCase (s b : List ℕ) (h g : History) : Type 0 where
+  pub alike : (level : ℕ) (fs ps os : List ℕ) → JudgedAlike h g fs (judged s level fs ps os) (judged b level fs ps os)
+  pub findings : SameFindings (newNumber h) (oldNumber h) h g
+
+-- b is the trace s, moved to edition 2 or 1
+pub record Moved (second : Bool) (s b : List ℕ) : Type 0 where
+  pub history : History
+  pub notes : List Stretch
+  pub reads : ReadInto s history notes
+  -- it is of the wanted edition, and is read; "Notes are left out"
+  pub wanted : isSecond b ≡ second
+  pub moved-history : History
+  pub moved-reads : ReadInto b moved-history []
+  -- "The first serial is kept and the rest follow it": record by record
+  pub records : RecordsAre b (serial s 0) (wholeOf second history)
+  -- "Going back, transactions become blocks in order of opening"; going to edition 2 they are blocks as they were
+  pub in-blocks : InBlocksOf history moved-history
+  pub same-history : second ≡ true → moved-history ≡ history
+  pub same-case : SameCase s b history moved-history
+
+-- what comes out of moving s
+pub data ComesOut (second : Bool) (s : List ℕ) : List ℕ → Type 0 where
+  -- "A trace already in the wanted edition comes out unchanged, notes too."
+  unchanged : {h : History} {notes : List Stretch} → isSecond s ≡ second → ReadInto s h notes → ComesOut second s s
+  was-moved : {b : List ℕ} → (isSecond s ≡ second → ⊥) → Moved second s b → ComesOut second s b
+
+-- the bytes of a trace without notes: in edition 1 an open has 10, a read or a write 20, a close 9, the end 10; in edition 2 there are 10 more before them, a
+-- read or a write has 22, a close 11
+abbrev pub movedLength : Bool → History → ℕ
+movedLength false h = 19 * txCount h + 20 * opCount h + 10
+movedLength true h = 21 * txCount h + 22 * opCount h + 20
+
+-- moving s, with a buffer of o bytes, is refused with this number and place: "Refusals: 01's for the input, then 16 for the output."
+pub data MoveDeclines (second : Bool) (s : List ℕ) (o : ℕ) : ℕ → ℕ → Type 0 where
+  trace-refused : {n at : ℕ} → Refuses s n at → MoveDeclines second s o n at
+  unchanged-short : {h : History} {notes : List Stretch} → isSecond s ≡ second → ReadInto s h notes → o < length s → MoveDeclines second s o 16 (length s)
+  moved-short : {h : History} {notes : List Stretch} → (isSecond s ≡ second → ⊥) → ReadInto s h notes → o < movedLength second h
+      → MoveDeclines second s o 16 (movedLength second h)
+
+-- what is promised of moving the trace s, in a buffer that held o
+abbrev pub Moves : Bool → List ℕ → List ℕ → Filled → List ℕ → Type 0
+Moves second s o = Fills (MoveDeclines second s (length o)) (ComesOut second s) o

@@ -1,0 +1,159 @@
+// A trace moved from one edition to the other: its history goes into a table, and from there, transaction by transaction, into a lent buffer.
+ghost use mathlib.Core.Path.{_≡_};
+ghost use mathlib.Core.Bool.{true, false};
+ghost use Prim.Native.Nat.{_≤_};
+ghost use lib.ListN.{length};
+ghost use Rattle.rules.specs.History.{txCount, opCount};
+ghost use Rattle.rules.specs.Records.{serialAt};
+ghost use Rattle.table.specs.Table.{historyOf, Held};
+ghost use Rattle.writing.specs.Filling.{said, fillOf, Gives, content, into};
+ghost use Rattle.writing.specs.Forms.{formOf, preamble, wholeOf};
+ghost use Rattle.writing.proofs.Sizes.{wholeSize};
+ghost use Rattle.blocks.specs.Blocks.{PutBefore, RoomBefore};
+ghost use Rattle.moving.specs.Moving.{isSame, movedTrace, movedTo};
+ghost use Rattle.mover.specs.Mover.{wholeCount, Movable};
+use blocks::Place;
+use rules::Event;
+use trace::Out;
+use writing::Filled;
+use writing::Form;
+
+// The words of a history's table.
+const WORDS: usize = 2306;
+
+// ── a trace that is of the wanted edition ──
+
+fn is_same(is: bool, second: bool) -> bool
+    ensures { λ r. ⌜ r ≡ isSame is second ⌝ }
+{
+    if is {
+        return second;
+    }
+    !second
+}
+
+// "A trace already in the wanted edition comes out unchanged, notes too."
+fn put_same(trace: &[u8], out: &mut [u8]) -> Filled
+    ensures { λ r. ⌜ fillOf (said r) (now (out .exit)) ≡ into (content (now (trace .entry))) (now (out .entry)) ⌝ }
+{
+    let n = trace.len();
+    if out.len() < n {
+        return Filled::Refused(16, n);
+    }
+    copying::copy(trace, n, out);
+    Filled::Length(n)
+}
+
+// ── one that is not ──
+
+fn form_of(second: bool) -> Form
+    ensures { λ r. ⌜ r ≡ formOf second ⌝ }
+{
+    if second {
+        return Form::Second;
+    }
+    Form::First
+}
+
+// How many bytes and how many records the moved trace has.
+fn moved_length(h: &[u64], second: bool) -> usize
+    requires { ⌜ Held (now h) ⌝ }
+    ensures { λ r. ⌜ r ≡ wholeSize second (txCount (historyOf (now (h .entry)))) (opCount (historyOf (now (h .entry)))) ⌝ }
+{
+    if second {
+        return 21 * table::txs(h) + 22 * table::ops(h) + 20;
+    }
+    19 * table::txs(h) + 20 * table::ops(h) + 10
+}
+
+fn moved_count(h: &[u64], second: bool) -> u32
+    requires { ⌜ Held (now h) ⌝ }
+    ensures { λ r. ⌜ r ≡ wholeCount second (txCount (historyOf (now (h .entry)))) (opCount (historyOf (now (h .entry)))) ⌝ }
+{
+    let records = (2 * table::txs(h) + table::ops(h) + 1) as u32;
+    if second {
+        return records + 1;
+    }
+    records
+}
+
+// "Edition 2 of the trace begins with a kind 16 record".
+fn put_preamble(second: bool, first: u32, out: &mut [u8], place: Place) -> Place
+    requires { ⌜ RoomBefore (formOf second) (now out) place (preamble second) ⌝ }
+    ensures { λ r. ⌜ PutBefore (formOf second) first (now (out .entry)) place (now (out .exit)) r (preamble second) ⌝ }
+{
+    if second {
+        return blocks::put_before(Form::Second, first, 0, Event::Other, out, place);
+    }
+    place
+}
+
+// The end record, the transactions and what the edition begins with, from the last to the first.
+fn put_whole(h: &[u64], second: bool, first: u32, out: &mut [u8], place: Place) -> Place
+    requires { ⌜ Held (now h) × Movable second (historyOf (now h)) × RoomBefore (formOf second) (now out) place (wholeOf second (historyOf (now h))) ⌝ }
+    ensures { λ r. ⌜ PutBefore (formOf second) first (now (out .entry)) place (now (out .exit)) r (wholeOf second (historyOf (now (h .entry)))) ⌝ }
+{
+    let form = form_of(second);
+    let txs = table::txs(h) as u16;
+    let from = blocks::put_before(form, first, 0, Event::End(txs), out, place);
+    let from = blocks::put_txs(h, form, first, out, from);
+    put_preamble(second, first, out, from)
+}
+
+// "The first serial is kept and the rest follow it. Notes are left out."
+fn put_moved(trace: &[u8], h: &[u64], second: bool, out: &mut [u8]) -> Filled
+    requires { ⌜ Held (now h) × Movable second (historyOf (now h)) × (8 ≤ length (now trace)) ⌝ }
+    ensures { λ r. ⌜ fillOf (said r) (now (out .exit)) ≡ into (content (movedTrace second (serialAt (now (trace .entry)) 0) (historyOf (now (h .entry))))) (now (out .entry)) ⌝ }
+{
+    let first = frame::u32_at(trace, 4);
+    let n = moved_length(h, second);
+    if out.len() < n {
+        return Filled::Refused(16, n);
+    }
+    let count = moved_count(h, second);
+    put_whole(
+        h,
+        second,
+        first,
+        out,
+        Place {
+            at: n,
+            count: count,
+        },
+    );
+    Filled::Length(n)
+}
+
+// ── the calls ──
+
+// To edition 2 or 1: "Refusals: 01's for the input, then 16 for the output."
+fn move_to(second: bool, trace: &[u8], out: &mut [u8]) -> Filled
+    ensures { λ r. ⌜ fillOf (said r) (now (out .exit)) ≡ movedTo second (now (trace .entry)) (now (out .entry)) ⌝ }
+{
+    let mut h = [0u64; WORDS];
+    let read = trace::read_trace(trace, 0, &mut h);
+    match read {
+        Out::Bad(no, place) => Filled::Refused(no, place),
+        Out::Good(_, _, _) => {
+            if is_same(frame::is_second(trace), second) {
+                return put_same(trace, out);
+            }
+            put_moved(trace, &h, second, out)
+        }
+    }
+}
+
+// Fills a lent buffer with a trace, moved to edition 1. What the answer means, and what the buffer then holds, is what the definition gives these bytes and
+// this buffer.
+pub fn to_edition_1(trace: &[u8], out: &mut [u8]) -> Filled
+    ensures { λ r. ⌜ Gives r (now (out .exit)) (movedTo false (now (trace .entry)) (now (out .entry))) ⌝ }
+{
+    move_to(false, trace, out)
+}
+
+// .. moved to edition 2.
+pub fn to_edition_2(trace: &[u8], out: &mut [u8]) -> Filled
+    ensures { λ r. ⌜ Gives r (now (out .exit)) (movedTo true (now (trace .entry)) (now (out .entry))) ⌝ }
+{
+    move_to(true, trace, out)
+}

@@ -1,8 +1,9 @@
 //! Traces whose answers are known: those of the specification, worked there by
-//! hand, its edges, unanswered commits, the writes of unclean reads, and those of
-//! edition 2, each with what `judge` has to print.
+//! hand, its edges, unanswered commits, the writes of unclean reads, those of
+//! edition 2 and those with notes, each with what `judge` has to print.
 
 use crate::encode::Writer;
+use crate::note_cases;
 use crate::overlap_cases;
 use crate::text;
 use crate::trace::{Status, CLOSE, END, MAX_BYTES, MAX_TRANSACTIONS, NOTE, OPEN, WRITE};
@@ -29,6 +30,7 @@ pub fn all() -> Vec<Case> {
     cases.extend(framing());
     cases.extend(order_of_checks());
     cases.extend(overlap_cases::all());
+    cases.extend(note_cases::all().into_iter().map(|known| known.case));
     cases
 }
 

@@ -4,6 +4,7 @@ use crate::encode::Writer;
 use crate::random::Random;
 use crate::trace::{self, Edition, Status, MAX_BYTES, MAX_NOTE, MAX_TRANSACTIONS};
 use crate::weave::{self, Access, Whole};
+use crate::writing;
 
 /// How a trace came about.
 #[derive(Clone, Copy, Debug, PartialEq, Eq)]
@@ -16,11 +17,12 @@ pub enum Origin {
     Large,
     Unclean,
     Unanswered,
+    Noted,
     Damaged,
 }
 
 impl Origin {
-    pub const ALL: [Origin; 9] = [
+    pub const ALL: [Origin; 10] = [
         Origin::Case,
         Origin::Bytes,
         Origin::Records,
@@ -29,6 +31,7 @@ impl Origin {
         Origin::Large,
         Origin::Unclean,
         Origin::Unanswered,
+        Origin::Noted,
         Origin::Damaged,
     ];
 
@@ -42,6 +45,7 @@ impl Origin {
             Origin::Large => "plausible, large",
             Origin::Unclean => "mostly unclean reads",
             Origin::Unanswered => "unanswered, interwoven",
+            Origin::Noted => "few or many notes",
             Origin::Damaged => "damaged",
         }
     }
@@ -53,17 +57,18 @@ pub fn any(random: &mut Random) -> (Origin, Vec<u8>) {
     match random.below(100) {
         0..=3 => (Origin::Bytes, bytes(random, edition)),
         4..=11 => (Origin::Records, records(random, edition)),
-        12..=41 => (Origin::Small, Shape::small(random, edition).trace(random)),
-        42..=47 => (
+        12..=37 => (Origin::Small, Shape::small(random, edition).trace(random)),
+        38..=43 => (
             Origin::Unclean,
             Shape::unclean(random, edition).trace(random),
         ),
-        48..=58 => (Origin::Medium, Shape::medium(random, edition).trace(random)),
-        59..=62 => (Origin::Large, Shape::large(random, edition).trace(random)),
-        63..=81 => (
+        44..=53 => (Origin::Medium, Shape::medium(random, edition).trace(random)),
+        54..=57 => (Origin::Large, Shape::large(random, edition).trace(random)),
+        58..=76 => (
             Origin::Unanswered,
             Web::drawn(random, edition).trace(random),
         ),
+        77..=81 => (Origin::Noted, noted(random, edition)),
         _ => (Origin::Damaged, damaged(random, edition)),
     }
 }
@@ -154,6 +159,7 @@ fn any_record(random: &mut Random, writer: &mut Writer, kind: u16, session: u16,
             let most = if random.percent(fault) { 3 } else { 2 };
             writer.close_in(session, random.from_to(0, most) as u8);
         }
+        trace::NOTE if random.percent(fault) => writer.note(&long_note(random)),
         trace::NOTE => writer.note(&note(random)),
         trace::EDITION => writer.record(kind, &[random.from_to(1, 3) as u8, 0]),
         other => writer.record(other, &vec![0; random.below(14)]),
@@ -171,7 +177,102 @@ fn first_serial(random: &mut Random) -> u32 {
 
 fn note(random: &mut Random) -> Vec<u8> {
     let size = *random.pick(&[0, 1, 5, 20, MAX_NOTE - 1, MAX_NOTE]);
+    text(random, size)
+}
+
+/// A note that is refused for its length.
+fn long_note(random: &mut Random) -> Vec<u8> {
+    let size = *random.pick(&[MAX_NOTE + 1, MAX_NOTE + 1, MAX_NOTE + 2, 100, 300]);
+    text(random, size)
+}
+
+fn text(random: &mut Random, size: usize) -> Vec<u8> {
     (0..size).map(|_| random.draw() as u8).collect()
+}
+
+/// One note, or some in a row.
+fn some_notes(random: &mut Random, writer: &mut Writer) {
+    for _ in 0..*random.pick(&[1, 1, 1, 2, 3]) {
+        writer.note(&note(random));
+    }
+}
+
+/// The records of a trace, with the chance in percent for notes before each.
+fn sprinkled(random: &mut Random, bytes: &[u8], chance: usize) -> Vec<u8> {
+    let mut writer = Writer::new(writing::first_serial(bytes));
+    for record in trace::records(bytes) {
+        if random.percent(chance) {
+            some_notes(random, &mut writer);
+        }
+        writer.record(record.kind, record.payload);
+    }
+    writer.bytes
+}
+
+/// A small trace with notes among its records, up to as many as there is room
+/// for, and now and then one more. In edition 2 they are refused, and a trace
+/// that one of them begins is no longer of that edition.
+fn noted(random: &mut Random, edition: Edition) -> Vec<u8> {
+    let plain = match random.below(5) {
+        0 => Writer::of_edition(edition, first_serial(random)).end(),
+        1 => Web::drawn(random, edition).trace(random),
+        _ => Shape::small(random, edition).trace(random),
+    };
+    let (least, most) = match edition {
+        Edition::One => *random.pick(&[(1, 3), (4, 30), (253, 258), (259, 1_100), (4_000, 5_000)]),
+        Edition::Two => (1, 3),
+    };
+    let wanted = random.from_to(least, most);
+    let texts = texts_for(random, wanted, MAX_BYTES.saturating_sub(plain.len()));
+    with_notes(random, &plain, texts)
+}
+
+/// The texts of so many notes, or of as many as have room.
+fn texts_for(random: &mut Random, wanted: usize, mut room: usize) -> Vec<Vec<u8>> {
+    const HEAD: usize = 8;
+    // All of one length, or each of its own.
+    let size = *random.pick(&[Some(0), Some(0), Some(MAX_NOTE), None]);
+    let mut texts = Vec::new();
+    while texts.len() < wanted {
+        let text = match size {
+            Some(size) => text(random, size),
+            None => note(random),
+        };
+        match room.checked_sub(HEAD + text.len()) {
+            Some(left) => room = left,
+            None if random.percent(90) => break,
+            // One above what has room.
+            None => {
+                texts.push(text);
+                break;
+            }
+        }
+        texts.push(text);
+    }
+    texts
+}
+
+/// The records of a trace with notes before them, each in a place of its own
+/// choice.
+fn with_notes(random: &mut Random, bytes: &[u8], texts: Vec<Vec<u8>>) -> Vec<u8> {
+    let records: Vec<trace::Record> = trace::records(bytes).collect();
+    // Mostly few places, so that there are long rows.
+    let places = random.from_to(1, records.len());
+    let first = random.from_to(0, records.len() - places);
+    let mut notes: Vec<(usize, Vec<u8>)> = texts
+        .into_iter()
+        .map(|text| (first + random.below(places), text))
+        .collect();
+    notes.sort_by_key(|(place, _)| *place);
+    let mut waiting = notes.into_iter().peekable();
+    let mut writer = Writer::new(writing::first_serial(bytes));
+    for (place, record) in records.iter().enumerate() {
+        while let Some((_, text)) = waiting.next_if(|(at, _)| *at == place) {
+            writer.note(&text);
+        }
+        writer.record(record.kind, record.payload);
+    }
+    writer.bytes
 }
 
 /// What a plausible trace is like. The store it imitates answers each read
@@ -422,7 +523,7 @@ impl Shape {
         let mut writer = Writer::new(first_serial(random));
         let maybe_note = |writer: &mut Writer, random: &mut Random| {
             if random.percent(self.notes) {
-                writer.note(&note(random));
+                some_notes(random, writer);
             }
         };
         maybe_note(&mut writer, random);
@@ -538,6 +639,8 @@ struct Web {
     /// A transaction whose operations stand in any order, not first the reads
     /// of others, then the writes, then the reads of its own.
     shuffled: usize,
+    /// Notes before a record, in edition 1; the other has none.
+    notes: usize,
 }
 
 impl Web {
@@ -557,6 +660,7 @@ impl Web {
             unanswered: *random.pick(&[60, 80, 95, 100, 100]),
             intermediate: *random.pick(&[0, 0, 10, 50]),
             shuffled: *random.pick(&[0, 0, 10, 50]),
+            notes: *random.pick(&[0, 0, 5, 30]),
         };
         match random.percent(50) {
             true => web,
@@ -582,7 +686,10 @@ impl Web {
             })
             .collect();
         match self.edition {
-            Edition::One => weave::blocks(Edition::One, first_serial(random), &wholes),
+            Edition::One => {
+                let blocks = weave::blocks(Edition::One, first_serial(random), &wholes);
+                sprinkled(random, &blocks, self.notes)
+            }
             Edition::Two => overlapping(random, wholes),
         }
     }
@@ -766,7 +873,7 @@ fn damage(random: &mut Random, bytes: &mut Vec<u8>) {
     let other = random.below(records.len());
     let first_serial = records[0].serial;
     let mut renumber = true;
-    match random.below(16) {
+    match random.below(18) {
         0 => records.swap(at, other),
         1 => {
             records.swap(at, other);
@@ -829,11 +936,18 @@ fn damage(random: &mut Random, bytes: &mut Vec<u8>) {
             }
         }
         12 => records.insert(at, Loose::edition(random)),
-        13 => records.insert(at, Loose::new(trace::NOTE, note(random))),
+        13 => {
+            let text = match random.percent(25) {
+                true => long_note(random),
+                false => note(random),
+            };
+            records.insert(at, Loose::new(trace::NOTE, text));
+        }
         14 => match records[0].kind {
             trace::EDITION => drop(records.remove(0)),
             _ => records.insert(0, Loose::edition(random)),
         },
+        15 | 16 => renumber = spoil_note(random, &mut records),
         _ => {
             if records[at].payload.pop().is_some() {
                 records[at].length -= 1;
@@ -846,4 +960,28 @@ fn damage(random: &mut Random, bytes: &mut Vec<u8>) {
         }
     }
     *bytes = tighten(&records);
+}
+
+/// Makes one of the notes, if there are any, a record that is refused, or that
+/// swallows or loses a byte. Answers whether the serials may be made to follow.
+fn spoil_note(random: &mut Random, records: &mut [Loose]) -> bool {
+    let notes = records.iter_mut().filter(|r| r.kind == trace::NOTE);
+    let mut notes: Vec<&mut Loose> = notes.collect();
+    if notes.is_empty() {
+        return true;
+    }
+    let at = random.below(notes.len());
+    let note = &mut *notes[at];
+    match random.below(3) {
+        0 => {
+            note.serial = note.serial.wrapping_add(random.from_to(1, 300) as u32);
+            return false;
+        }
+        1 => note.length = note.length.wrapping_add(*random.pick(&[1, u16::MAX])),
+        _ => {
+            note.payload = long_note(random);
+            note.length = 6 + note.payload.len() as u16;
+        }
+    }
+    true
 }

@@ -2,9 +2,10 @@
 //!
 //! It is written from the specification alone, `01-scope.md` and the requests
 //! for a writer, for unanswered commits, for the writes of unclean reads, for
-//! overlapping transactions and for moves between the editions, to be compared
-//! with the proved judge, writer and mover: the two sides share no code, so a
-//! mistake would have to be made twice, in the same way, to stay unseen.
+//! overlapping transactions, for moves between the editions and for notes that
+//! are only counted, to be compared with the proved judge, writer and mover: the
+//! two sides share no code, so a mistake would have to be made twice, in the same
+//! way, to stay unseen.
 //!
 //! * [`trace`] reads the bytes of a trace, or says why they are refused;
 //! * [`graph`] decides by forced pairs, for any trace, and is meant to be fast;
@@ -15,9 +16,9 @@
 //!   reads what is printed so;
 //! * [`writing`] writes traces from steps and turns traces into steps;
 //! * [`moving`] moves traces between the editions;
-//! * [`encode`], [`text`], [`weave`], [`generate`], [`cases`] and
-//!   [`overlap_cases`] make traces, [`sequences`] and [`sequence_cases`]
-//!   sequences of steps;
+//! * [`encode`], [`text`], [`weave`], [`notes`], [`generate`], [`cases`],
+//!   [`overlap_cases`] and [`note_cases`] make traces, [`sequences`] and
+//!   [`sequence_cases`] sequences of steps;
 //! * [`process`], [`workers`], [`scribes`] and [`moves`] compare.
 
 pub mod brute;
@@ -28,6 +29,8 @@ pub mod graph;
 pub mod hash;
 pub mod moves;
 pub mod moving;
+pub mod note_cases;
+pub mod notes;
 pub mod overlap_cases;
 pub mod process;
 pub mod random;

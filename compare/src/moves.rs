@@ -1,13 +1,15 @@
-//! Compares traces with what they are moved to: the program `scribe` moves them,
-//! and the program `stream` judges them before and after.
+//! Compares traces with what they are moved to, and with those that differ from
+//! them in their notes only: the program `scribe` moves them, and the program
+//! `stream` judges them before and after.
 
 use crate::cases::{self, Case};
 use crate::generate;
-use crate::moving::{self, move_to};
+use crate::moving;
+use crate::notes;
 use crate::process::{self, behind_length, kept};
 use crate::random::Random;
 use crate::report::{self, Finding, Verdict};
-use crate::scribes::{self, Item, Program, Way, AMPLE};
+use crate::scribes::{self, Item, Program, Reply, Way, AMPLE};
 use crate::trace::{self, Edition, Operation, Refusal, Trace};
 use crate::weave::{self, Judged};
 use crate::workers::{self, add_each, must, Difference, Extent, Tally};
@@ -45,6 +47,8 @@ struct Subject {
     number: usize,
     name: String,
     bytes: Vec<u8>,
+    /// For what is drawn when it is changed.
+    drawn: u64,
 }
 
 /// A trace that is read, and what it is moved to.
@@ -59,10 +63,11 @@ impl Subject {
     /// A known case, or a random trace. Each number has its own random stream,
     /// so that a run is the same whatever the number of threads.
     fn new(number: usize, seed: u64, case: Option<&Case>) -> Subject {
+        let mut random = Random::new(seed, number as u64);
         let (name, bytes) = match case {
             Some(case) => (format!("case '{}'", case.name), case.bytes.clone()),
             None => {
-                let (origin, bytes) = generate::any(&mut Random::new(seed, number as u64));
+                let (origin, bytes) = generate::any(&mut random);
                 let origin = origin.describe();
                 (format!("trace {number} of seed {seed}, {origin}"), bytes)
             }
@@ -71,6 +76,7 @@ impl Subject {
             number,
             name,
             bytes: kept(&bytes).to_vec(),
+            drawn: random.draw(),
         }
     }
 
@@ -81,9 +87,16 @@ impl Subject {
             Err(refusal) => return Ok(Err(refusal)),
         };
         let wanted = moving::other(before.edition);
+        let reply = Way::to(wanted).answer(&self.bytes, usize::MAX);
         // A refusal, printed, is no trace.
-        let bytes = print(&move_to(wanted, &self.bytes, usize::MAX));
-        match moving::check(wanted, &self.bytes, &before, &bytes) {
+        let bytes = print(&reply.written);
+        let checked = moving::check(wanted, &self.bytes, &before, &bytes).and_then(|after| {
+            if let Some(notes) = reply.notes {
+                moving::check_notes(&self.bytes, &before, &bytes, notes)?;
+            }
+            Ok(after)
+        });
+        match checked {
             Ok(after) => Ok(Ok(Moved {
                 before,
                 after,
@@ -99,57 +112,27 @@ impl Subject {
         }
     }
 
-    /// What is asked of the mover: both editions of the trace, and the way back.
-    fn items(&self, moved: &Result<Moved, Refusal>) -> Vec<Item> {
-        let item = |name: String, wanted, bytes: &[u8]| Item {
-            name,
-            way: Way::to(wanted),
-            room: AMPLE,
-            bytes: bytes.to_vec(),
-        };
-        let here = |wanted| item(self.name.clone(), wanted, &self.bytes);
-        let mut items = vec![here(Edition::One), here(Edition::Two)];
-        if let Ok(moved) = moved {
-            let name = format!("{}, moved", self.name);
-            items.push(item(name, moved.before.edition, &moved.bytes));
+    /// The traces that differ from it in their notes only: with other texts,
+    /// where there are any that a reader comes to, and without, where it is read.
+    fn variants(&self, moved: &Result<Moved, Refusal>) -> Vec<Variant> {
+        let mut random = Random::new(self.drawn, 0);
+        let mut variants = Vec::new();
+        let texts = notes::texts(&self.bytes, moved.as_ref().err());
+        if !texts.is_empty() {
+            variants.push(Variant {
+                change: Change::OtherTexts,
+                bytes: notes::with_other_texts(&mut random, &self.bytes, &texts),
+            });
         }
-        items
-    }
-
-    /// What is printed of the trace is what has to be, given what is printed of
-    /// the moved one.
-    fn check_texts(
-        &self,
-        moved: &Result<Moved, Refusal>,
-        texts: &mut impl Iterator<Item = String>,
-        tally: &mut Outcomes,
-    ) -> Result<(), Box<Difference>> {
-        let mut next = || texts.next().unwrap_or_default();
-        let before = next();
-        let moved = match moved {
-            Ok(moved) => moved,
-            Err(refusal) => {
-                tally.refused[usize::from(refusal.number)] += 1;
-                let mover = String::from_utf8_lossy(&print(&Err(*refusal))).into_owned();
-                if before == mover {
-                    return Ok(());
-                }
-                let answers = [("the judge", before), ("the mover", mover)];
-                return Err(self.differs(": refused otherwise", answers));
-            }
-        };
-        let after = next();
-        match check_judged(moved, &before, &after) {
-            Ok(findings) => {
-                tally.count(&self.bytes, moved, findings);
-                Ok(())
-            }
-            Err(message) => {
-                let what = format!(", moved to the other edition: {message}");
-                let answers = [("the judge, before,", before), ("the judge, after,", after)];
-                Err(self.differs(&what, answers))
-            }
+        if moved.is_ok() && trace::has_notes(&self.bytes) {
+            // The first serial is free.
+            let serials = [first_serial(&self.bytes), random.draw() as u32];
+            variants.push(Variant {
+                change: Change::LeftOut,
+                bytes: notes::left_out(&self.bytes, *random.pick(&serials)),
+            });
         }
+        variants
     }
 
     fn differs(&self, what: &str, answers: [(&'static str, String); 2]) -> Box<Difference> {
@@ -162,44 +145,254 @@ impl Subject {
     }
 }
 
+/// How a trace differs from another in its notes only.
+#[derive(Clone, Copy)]
+enum Change {
+    OtherTexts,
+    LeftOut,
+}
+
+impl Change {
+    fn describe(self) -> &'static str {
+        match self {
+            Change::OtherTexts => "with other texts in its notes",
+            Change::LeftOut => "without its notes",
+        }
+    }
+}
+
+/// A trace that differs from another in its notes only.
+struct Variant {
+    change: Change,
+    bytes: Vec<u8>,
+}
+
+impl Variant {
+    /// What moving it to edition 2 has to answer, given the answer for the trace
+    /// that it differs from: of other texts nothing may be seen, and of notes left
+    /// out only that there are none, and where the serials begin.
+    fn reply(&self, of_trace: Reply) -> Reply {
+        match self.change {
+            Change::OtherTexts => of_trace,
+            Change::LeftOut => {
+                let serial = first_serial(&self.bytes);
+                let renumber = |moved: Vec<u8>| notes::left_out(&moved, serial);
+                Reply::to_edition_2(of_trace.written.map(|moved| (renumber(moved), 0)))
+            }
+        }
+    }
+}
+
+/// A trace with all that is asked about it.
+struct Asked<'a> {
+    subject: &'a Subject,
+    moved: Result<Moved, Refusal>,
+    variants: Vec<Variant>,
+}
+
+impl<'a> Asked<'a> {
+    /// With what the independent mover makes of it, which is checked.
+    fn of(subject: &'a Subject) -> Result<Asked<'a>, Box<Difference>> {
+        let moved = subject.moved()?;
+        let variants = subject.variants(&moved);
+        let asked = Asked {
+            subject,
+            moved,
+            variants,
+        };
+        asked.check_replies()?;
+        Ok(asked)
+    }
+
+    /// The independent mover answers alike whatever is in the notes.
+    fn check_replies(&self) -> Result<(), Box<Difference>> {
+        let reply = |bytes: &[u8]| Way::ToEdition2.answer(bytes, usize::MAX);
+        for variant in &self.variants {
+            let expected = variant.reply(reply(&self.subject.bytes));
+            let found = reply(&variant.bytes);
+            if found != expected {
+                let show = |reply: &Reply| {
+                    let notes = reply.notes.unwrap_or_default();
+                    format!(
+                        "{notes} notes\n{}",
+                        scribes::show(&print(&reply.written), 0)
+                    )
+                };
+                let answers = [
+                    ("the Rust mover", show(&found)),
+                    ("the Rust mover, of the trace as it is,", show(&expected)),
+                ];
+                return Err(self.variant_differs(variant, "moved otherwise", answers));
+            }
+        }
+        Ok(())
+    }
+
+    /// What is asked of the mover: both editions of the trace, the way back, and
+    /// edition 2 of the traces with other notes.
+    fn items(&self) -> Vec<Item> {
+        let item = |what: &str, wanted, bytes: &[u8]| Item {
+            name: format!("{}{what}", self.subject.name),
+            way: Way::to(wanted),
+            room: AMPLE,
+            bytes: bytes.to_vec(),
+        };
+        let here = |wanted| item("", wanted, &self.subject.bytes);
+        let mut items = vec![here(Edition::One), here(Edition::Two)];
+        if let Ok(moved) = &self.moved {
+            items.push(item(", moved", moved.before.edition, &moved.bytes));
+        }
+        for Variant { change, bytes } in &self.variants {
+            let what = format!(", {}", change.describe());
+            items.push(item(&what, Edition::Two, bytes));
+        }
+        items
+    }
+
+    /// What is asked of the judge: the trace, the moved one, and those with other
+    /// notes.
+    fn traces(&self) -> impl Iterator<Item = &[u8]> {
+        let moved = self.moved.as_ref().ok().map(|moved| &moved.bytes);
+        let variants = self.variants.iter().map(|variant| &variant.bytes);
+        [&self.subject.bytes]
+            .into_iter()
+            .chain(moved)
+            .chain(variants)
+            .map(Vec::as_slice)
+    }
+
+    /// What is printed of the trace is what has to be, given what is printed of
+    /// the others.
+    fn check_texts(
+        &self,
+        texts: &mut impl Iterator<Item = String>,
+        tally: &mut Outcomes,
+    ) -> Result<(), Box<Difference>> {
+        let mut next = || texts.next().unwrap_or_default();
+        let before = next();
+        match &self.moved {
+            Ok(moved) => self.check_moved(moved, &before, next(), tally)?,
+            Err(refusal) => self.check_refused(refusal, &before, tally)?,
+        }
+        for variant in &self.variants {
+            self.check_variant(variant, &before, next(), tally)?;
+        }
+        Ok(())
+    }
+
+    /// A trace that is read is judged alike before and after the move.
+    fn check_moved(
+        &self,
+        moved: &Moved,
+        before: &str,
+        after: String,
+        tally: &mut Outcomes,
+    ) -> Result<(), Box<Difference>> {
+        match check_judged(moved, before, &after) {
+            Ok(findings) => {
+                tally.count(&self.subject.bytes, moved, findings);
+                Ok(())
+            }
+            Err(message) => {
+                let what = format!(", moved to the other edition: {message}");
+                let answers = [
+                    ("the judge, before,", before.into()),
+                    ("the judge, after,", after),
+                ];
+                Err(self.subject.differs(&what, answers))
+            }
+        }
+    }
+
+    /// A trace that is refused is refused alike when judged and when moved.
+    fn check_refused(
+        &self,
+        refusal: &Refusal,
+        before: &str,
+        tally: &mut Outcomes,
+    ) -> Result<(), Box<Difference>> {
+        tally.refused[usize::from(refusal.number)] += 1;
+        let mover = String::from_utf8_lossy(&print(&Err(*refusal))).into_owned();
+        if before == mover {
+            return Ok(());
+        }
+        let answers = [("the judge", before.into()), ("the mover", mover)];
+        Err(self.subject.differs(": refused otherwise", answers))
+    }
+
+    /// A trace that differs in its notes only is judged, or refused, just so.
+    fn check_variant(
+        &self,
+        variant: &Variant,
+        before: &str,
+        text: String,
+        tally: &mut Outcomes,
+    ) -> Result<(), Box<Difference>> {
+        if text == before {
+            tally.count_variant(variant, &self.subject.bytes, &self.moved);
+            return Ok(());
+        }
+        let answers = [
+            ("the judge", text),
+            ("the judge, of the trace as it is,", before.into()),
+        ];
+        Err(self.variant_differs(variant, "judged otherwise", answers))
+    }
+
+    fn variant_differs(
+        &self,
+        variant: &Variant,
+        what: &str,
+        answers: [(&'static str, String); 2],
+    ) -> Box<Difference> {
+        let what = format!(", {}: {what}", variant.change.describe());
+        let difference = self.subject.differs(&what, answers);
+        Box::new(Difference {
+            bytes: variant.bytes.clone(),
+            ..*difference
+        })
+    }
+}
+
 /// Puts the traces through one run of each program, and compares.
 fn check_run(
     programs: &Programs,
     subjects: &[Subject],
     tally: &mut Outcomes,
 ) -> Result<(), Box<Difference>> {
-    let mut all_moved = Vec::new();
-    let mut items = Vec::new();
-    let mut traces = Vec::new();
-    for subject in subjects {
-        let moved = subject.moved()?;
-        items.extend(subject.items(&moved));
-        traces.extend(behind_length(&subject.bytes));
-        if let Ok(moved) = &moved {
-            traces.extend(behind_length(&moved.bytes));
-        }
-        all_moved.push(moved);
-    }
+    let asked: Result<Vec<Asked>, _> = subjects.iter().map(Asked::of).collect();
+    let asked = asked?;
+    let items: Vec<Item> = asked.iter().flat_map(Asked::items).collect();
     // From here on what the program moves to is what the independent mover does.
     scribes::ask(&programs.scribe, &items, |_, _| {})?;
-    let asked = subjects.len() + all_moved.iter().flatten().count();
-    let texts = stream_answers(&programs.stream, &traces, asked).map_err(|message| {
+    let traces: Vec<&[u8]> = asked.iter().flat_map(Asked::traces).collect();
+    let mut texts = judged(programs, &traces, subjects)?.into_iter();
+    for asked in &asked {
+        asked.check_texts(&mut texts, tally)?;
+    }
+    Ok(())
+}
+
+/// What the judge prints of each of these traces.
+fn judged(
+    programs: &Programs,
+    traces: &[&[u8]],
+    subjects: &[Subject],
+) -> Result<Vec<String>, Box<Difference>> {
+    let input: Vec<u8> = traces.iter().flat_map(|t| behind_length(t)).collect();
+    let asked = traces.len();
+    stream_answers(&programs.stream, &input, asked).map_err(|message| {
         let first = subjects.first().map_or("", |subject| &subject.name);
         Box::new(Difference {
             name: format!("a run of traces, moved and not, from {first} on"),
-            bytes: traces,
+            bytes: input,
             file: "traces".into(),
             answers: [
                 ("the judge", message + "\n"),
                 ("what was asked", format!("{asked} traces\n")),
             ],
         })
-    })?;
-    let mut texts = texts.into_iter();
-    for (subject, moved) in subjects.iter().zip(&all_moved) {
-        subject.check_texts(moved, &mut texts, tally)?;
-    }
-    Ok(())
+    })
 }
 
 /// One run of the program `stream` over so many traces. Whether it answers each
@@ -359,6 +552,13 @@ struct Outcomes {
     /// By what became of their findings.
     findings: [usize; 4],
     refused: [usize; Refusal::NUMBERS],
+    /// Traces that were read, also with other texts in their notes, and without.
+    other_texts: usize,
+    left_out: usize,
+    /// Traces that were refused, also with other texts in their notes, and those
+    /// of them whose refused record is such a note.
+    refused_other_texts: [usize; Refusal::NUMBERS],
+    refused_notes: [usize; Refusal::NUMBERS],
 }
 
 impl Tally for Outcomes {
@@ -370,6 +570,10 @@ impl Tally for Outcomes {
         self.wrapped += other.wrapped;
         add_each(&mut self.findings, &other.findings);
         add_each(&mut self.refused, &other.refused);
+        self.other_texts += other.other_texts;
+        self.left_out += other.left_out;
+        add_each(&mut self.refused_other_texts, &other.refused_other_texts);
+        add_each(&mut self.refused_notes, &other.refused_notes);
     }
 }
 
@@ -388,6 +592,19 @@ impl Outcomes {
         self.findings[findings as usize] += 1;
     }
 
+    fn count_variant(&mut self, variant: &Variant, bytes: &[u8], moved: &Result<Moved, Refusal>) {
+        match (variant.change, moved) {
+            (Change::OtherTexts, Ok(_)) => self.other_texts += 1,
+            (Change::LeftOut, _) => self.left_out += 1,
+            (Change::OtherTexts, Err(refusal)) => {
+                let number = usize::from(refusal.number);
+                self.refused_other_texts[number] += 1;
+                let is_note = notes::is_refused_note(bytes, refusal);
+                self.refused_notes[number] += usize::from(is_note);
+            }
+        }
+    }
+
     fn describe(&self, programs: &Programs, extent: &Extent) -> String {
         let refused: usize = self.refused.iter().sum();
         let [of_1, of_2] = self.moved;
@@ -402,6 +619,8 @@ impl Outcomes {
         for (name, count) in [
             ("moved from edition 1 to 2", of_1),
             ("  with notes, left out", self.noted),
+            ("    also with other texts", self.other_texts),
+            ("    also without notes", self.left_out),
             ("  came back byte for byte", self.came_back),
             ("moved from edition 2 to 1", of_2),
             ("  two open at once", self.overlapping),
@@ -414,9 +633,15 @@ impl Outcomes {
         ] {
             lines.push(format!("  {name:<28}{count:>8}"));
         }
-        lines.push("refusals:".into());
+        lines.push("refusals; also with other texts in notes; of these, at such a note:".into());
         for number in 2..=11 {
-            lines.push(format!("  {number:>2} {:>9}", self.refused[number]));
+            let counts = [
+                self.refused[number],
+                self.refused_other_texts[number],
+                self.refused_notes[number],
+            ];
+            let counts = counts.map(|count| format!("{count:>9}"));
+            lines.push(format!("  {number:>2} {}", counts.join(" ")));
         }
         lines.join("\n") + "\n"
     }

@@ -1,8 +1,9 @@
 //! Moving traces between the editions, and what has to hold of a moved one.
 //!
-//! Both ways keep the first serial, which may be a note's, and leave out notes. A
-//! moved trace always is short enough to be read: 127 transactions with 1,024
-//! operations take 25,215 bytes in edition 2.
+//! Both ways keep the first serial, which may be a note's, and leave out notes;
+//! the way to edition 2 answers how many there were. A moved trace always is
+//! short enough to be read: 127 transactions with 1,024 operations take 25,215
+//! bytes in edition 2.
 
 use crate::encode::Writer;
 use crate::trace::{self, Edition, Refusal, Trace, CLOSE, NOTE, OPEN, READ, WRITE};
@@ -10,26 +11,45 @@ use crate::weave;
 use crate::workers::must;
 use crate::writing::{first_serial, fit};
 
-/// The trace in the wanted edition, for a buffer with `room` bytes. One that is
-/// of that edition already is copied whole, notes too.
-pub fn move_to(wanted: Edition, bytes: &[u8], room: usize) -> Result<Vec<u8>, Refusal> {
+/// The trace in edition 1, for a buffer with `room` bytes. One that is of this
+/// edition already is copied whole, notes too.
+pub fn to_edition_1(bytes: &[u8], room: usize) -> Result<Vec<u8>, Refusal> {
     let trace = Trace::parse(bytes)?;
-    let moved = match (trace.edition, wanted) {
-        (Edition::One, Edition::Two) => to_edition_2(bytes),
-        (Edition::Two, Edition::One) => to_edition_1(&trace, first_serial(bytes)),
-        (Edition::One, Edition::One) | (Edition::Two, Edition::Two) => bytes.to_vec(),
+    let moved = match trace.edition {
+        Edition::One => bytes.to_vec(),
+        Edition::Two => in_blocks(&trace, first_serial(bytes)),
     };
     fit(moved, room)
 }
 
-/// Record by record, with the session added where edition 2 has one.
-fn to_edition_2(bytes: &[u8]) -> Vec<u8> {
+/// The trace in edition 2, for a buffer with `room` bytes, and how many notes it
+/// had. One that is of this edition already is copied whole, and had none.
+pub fn to_edition_2(bytes: &[u8], room: usize) -> Result<(Vec<u8>, u16), Refusal> {
+    let (moved, notes) = match Trace::parse(bytes)?.edition {
+        Edition::One => with_sessions(bytes),
+        Edition::Two => (bytes.to_vec(), 0),
+    };
+    Ok((fit(moved, room)?, notes))
+}
+
+/// The trace in the wanted edition, for those who do not ask about notes.
+pub fn move_to(wanted: Edition, bytes: &[u8], room: usize) -> Result<Vec<u8>, Refusal> {
+    match wanted {
+        Edition::One => to_edition_1(bytes, room),
+        Edition::Two => to_edition_2(bytes, room).map(|(moved, _)| moved),
+    }
+}
+
+/// Record by record, with the session added where edition 2 has one; and the
+/// number of notes. There is room for 4,094 of them beside the end record.
+fn with_sessions(bytes: &[u8]) -> (Vec<u8>, u16) {
     let mut writer = Writer::edition_2(first_serial(bytes));
     let mut session = 0;
+    let mut notes = 0;
     for record in trace::records(bytes) {
         let payload = record.payload;
         match record.kind {
-            NOTE => {}
+            NOTE => notes += 1,
             READ | WRITE | CLOSE => writer.record_in(session, record.kind, payload),
             // An open or the end, which are alike in both editions.
             kind => {
@@ -40,11 +60,11 @@ fn to_edition_2(bytes: &[u8]) -> Vec<u8> {
             }
         }
     }
-    writer.bytes
+    (writer.bytes, notes)
 }
 
 /// Transaction by transaction: they are numbered in order of opening.
-fn to_edition_1(trace: &Trace, first_serial: u32) -> Vec<u8> {
+fn in_blocks(trace: &Trace, first_serial: u32) -> Vec<u8> {
     let mut writer = Writer::new(first_serial);
     for (number, transaction) in (1..).zip(&trace.transactions) {
         writer.open(transaction.session);
@@ -97,4 +117,14 @@ pub fn check(wanted: Edition, bytes: &[u8], trace: &Trace, moved: &[u8]) -> Resu
         must(back.as_deref() == Ok(bytes), "does not come back as it was")?;
     }
     Ok(after)
+}
+
+/// What has to hold of the number that the move to edition 2 answers, given that
+/// [`check`] finds nothing wrong with the bytes: a record was put in, the one that
+/// says the edition, and besides notes none was left out. No kind is looked at.
+pub fn check_notes(bytes: &[u8], trace: &Trace, moved: &[u8], notes: u16) -> Result<(), String> {
+    let [before, after] = [bytes, moved].map(|bytes| trace::records(bytes).count());
+    let put_in = usize::from(trace.edition == Edition::One);
+    let holds = before + put_in == after + usize::from(notes);
+    must(holds, "another number of notes than were left out")
 }

@@ -8,11 +8,17 @@ use std::thread;
 /// The command with its input and output piped; its standard error is passed
 /// through.
 pub fn spawn(command: &str) -> Result<Child, String> {
+    spawn_with(command, Stdio::inherit())
+}
+
+/// The same with its standard error where it is told to go.
+fn spawn_with(command: &str, standard_error: Stdio) -> Result<Child, String> {
     let mut words = command.split_whitespace();
     Command::new(words.next().unwrap_or_default())
         .args(words)
         .stdin(Stdio::piped())
         .stdout(Stdio::piped())
+        .stderr(standard_error)
         .spawn()
         .map_err(|error| format!("{command}: {error}"))
 }
@@ -33,6 +39,8 @@ pub fn behind_length(bytes: &[u8]) -> Vec<u8> {
 /// What a program that has ended left behind.
 pub struct Ended {
     pub output: Vec<u8>,
+    /// What it has on standard error; empty where that was passed through.
+    pub error: Vec<u8>,
     /// Why its output cannot be taken for an answer, if it cannot.
     pub failure: Option<String>,
 }
@@ -49,7 +57,16 @@ pub fn run_once(command: &str, input: &[u8]) -> Result<Vec<u8>, String> {
 
 /// The same, with what it printed even where it then failed.
 pub fn run_to_end(command: &str, input: &[u8]) -> Result<Ended, String> {
-    let mut child = spawn(command)?;
+    feed(spawn(command)?, input)
+}
+
+/// The same, with its standard error kept as a part of what it answers.
+pub fn run_keeping_error(command: &str, input: &[u8]) -> Result<Ended, String> {
+    feed(spawn_with(command, Stdio::piped())?, input)
+}
+
+/// Gives the program its input, and waits for its end.
+fn feed(mut child: Child, input: &[u8]) -> Result<Ended, String> {
     let mut stdin = child.stdin.take().expect("standard input is piped");
     thread::scope(|scope| {
         // Written beside the reading, so that neither side can block the
@@ -70,6 +87,7 @@ pub fn run_to_end(command: &str, input: &[u8]) -> Result<Ended, String> {
         };
         Ok(Ended {
             output: output.stdout,
+            error: output.stderr,
             failure,
         })
     })

@@ -4,7 +4,8 @@
 
 use crate::cases;
 use crate::generate;
-use crate::moving::{self, move_to};
+use crate::moving;
+use crate::note_cases::{self, NoteCase};
 use crate::process::{self, behind_length, kept};
 use crate::random::Random;
 use crate::sequence_cases;
@@ -21,6 +22,8 @@ use crate::writing::{
 
 /// Room for everything that can be written.
 pub const AMPLE: u16 = u16::MAX;
+/// Bytes of a number of notes in an answer of the program `scribe`.
+const NOTES_SIZE: usize = size_of::<u16>();
 
 /// The program that is compared.
 pub enum Program {
@@ -66,20 +69,79 @@ impl Program {
     }
 
     /// What each of the items gets: an answer, or why there is none.
-    fn answers(&self, items: &[Item]) -> Vec<Result<Vec<u8>, String>> {
+    fn answers(&self, items: &[Item]) -> Vec<Result<Said, String>> {
         match self {
             Program::Scribe(command) => scribe_answers(command, items),
-            Program::Once(_, command) => items
+            Program::Once(way, command) => items
                 .iter()
-                .map(|item| process::run_once(command, &item.bytes))
+                .map(|item| once_answer(*way, command, &item.bytes))
                 .collect(),
+        }
+    }
+
+    /// What it has to say where this is the answer.
+    fn expected(&self, reply: &Reply) -> Said {
+        Said {
+            written: print(&reply.written),
+            notes: match self {
+                Program::Scribe(_) => reply.notes_in_scribe(),
+                Program::Once(..) => reply.on_standard_error(),
+            },
+        }
+    }
+}
+
+/// What a program says of an item.
+#[derive(Debug, PartialEq, Eq)]
+struct Said {
+    /// What is written, or the refusal's line.
+    written: Vec<u8>,
+    /// Of a move to edition 2 what stands for the number of notes: from `scribe`
+    /// the bytes behind the answer, from `to_edition_2` its standard error.
+    notes: Vec<u8>,
+}
+
+impl Said {
+    /// The bytes of what is written that are alike from the first one on.
+    fn alike(&self, other: &Said) -> usize {
+        let pairs = self.written.iter().zip(&other.written);
+        pairs.take_while(|(one, other)| one == other).count()
+    }
+
+    fn show(&self, way: Way, alike: usize) -> String {
+        let mut out = show(&self.written, alike);
+        if way.tells_notes() {
+            let notes = self.notes.escape_ascii();
+            out += &format!("for the number of notes: \"{notes}\"\n");
+        }
+        out
+    }
+}
+
+/// One run of a program that is asked in one way only. Standard error is a part
+/// of the answer where it tells the number of notes, and passed through elsewhere.
+fn once_answer(way: Way, command: &str, input: &[u8]) -> Result<Said, String> {
+    let ended = match way.tells_notes() {
+        true => process::run_keeping_error(command, input)?,
+        false => process::run_to_end(command, input)?,
+    };
+    match ended.failure {
+        None => Ok(Said {
+            written: ended.output,
+            notes: ended.error,
+        }),
+        Some(message) if ended.error.is_empty() => Err(message),
+        // What was kept may say why.
+        Some(message) => {
+            let error = ended.error.escape_ascii();
+            Err(format!("{message}, on standard error \"{error}\""))
         }
     }
 }
 
 /// One run of the program `scribe` over all of the items. Whether it answers
 /// each at once or all at the end does not matter.
-fn scribe_answers(command: &str, items: &[Item]) -> Vec<Result<Vec<u8>, String>> {
+fn scribe_answers(command: &str, items: &[Item]) -> Vec<Result<Said, String>> {
     let input: Vec<u8> = items.iter().flat_map(Item::to_bytes).collect();
     let ended = match process::run_to_end(command, &input) {
         Ok(ended) => ended,
@@ -87,19 +149,33 @@ fn scribe_answers(command: &str, items: &[Item]) -> Vec<Result<Vec<u8>, String>>
     };
     let mut answers = Vec::new();
     let mut left = ended.output.as_slice();
-    while let Some((length, rest)) = left.split_first_chunk() {
-        let Some((answer, rest)) = rest.split_at_checked(u16::from_le_bytes(*length).into()) else {
+    for item in items {
+        let Some((said, rest)) = split_answer(item.way, left) else {
             break;
         };
-        answers.push(Ok(answer.to_vec()));
+        answers.push(Ok(said));
         left = rest;
     }
     if let Some(message) = ended.failure {
         answers.push(Err(message));
     } else if !left.is_empty() {
-        answers.push(Err(format!("{} bytes are no whole answer", left.len())));
+        let message = format!("{} bytes are no whole answer to an item", left.len());
+        answers.push(Err(message));
     }
     answers
+}
+
+/// The answer of the program `scribe` that these bytes begin with, and the rest.
+fn split_answer(way: Way, bytes: &[u8]) -> Option<(Said, &[u8])> {
+    let (length, rest) = bytes.split_first_chunk()?;
+    let (written, rest) = rest.split_at_checked(u16::from_le_bytes(*length).into())?;
+    let notes_size = match way.tells_notes() {
+        true => NOTES_SIZE,
+        false => 0,
+    };
+    let (notes, rest) = rest.split_at_checked(notes_size)?;
+    let [written, notes] = [written, notes].map(<[u8]>::to_vec);
+    Some((Said { written, notes }, rest))
 }
 
 /// What is asked.
@@ -160,14 +236,68 @@ impl Way {
         }
     }
 
+    /// Whether the number of notes is answered too.
+    fn tells_notes(self) -> bool {
+        self == Way::ToEdition2
+    }
+
     /// The answer of the independent writer or mover.
-    pub fn answer(self, bytes: &[u8], room: usize) -> Result<Vec<u8>, Refusal> {
+    pub fn answer(self, bytes: &[u8], room: usize) -> Reply {
         match self {
-            Way::Steps => write_input(bytes, room),
-            Way::List => steps_of(bytes, room),
-            Way::Rewrite => rewrite(bytes, room),
-            Way::ToEdition1 => move_to(Edition::One, bytes, room),
-            Way::ToEdition2 => move_to(Edition::Two, bytes, room),
+            Way::Steps => Reply::of_writing(write_input(bytes, room)),
+            Way::List => Reply::of_writing(steps_of(bytes, room)),
+            Way::Rewrite => Reply::of_writing(rewrite(bytes, room)),
+            Way::ToEdition1 => Reply::of_writing(moving::to_edition_1(bytes, room)),
+            Way::ToEdition2 => Reply::to_edition_2(moving::to_edition_2(bytes, room)),
+        }
+    }
+}
+
+/// What has to be answered.
+#[derive(Clone, Debug, PartialEq, Eq)]
+pub struct Reply {
+    pub written: Result<Vec<u8>, Refusal>,
+    /// How many notes the trace had: only the move to edition 2 tells, and 0 if
+    /// it is refused.
+    pub notes: Option<u16>,
+}
+
+impl Reply {
+    /// The answer of a way that tells of no notes.
+    pub fn of_writing(written: Result<Vec<u8>, Refusal>) -> Reply {
+        Reply {
+            written,
+            notes: None,
+        }
+    }
+
+    /// The answer of the move to edition 2.
+    pub fn to_edition_2(moved: Result<(Vec<u8>, u16), Refusal>) -> Reply {
+        let notes = moved.as_ref().map_or(0, |&(_, notes)| notes);
+        Reply {
+            written: moved.map(|(bytes, _)| bytes),
+            notes: Some(notes),
+        }
+    }
+
+    /// The answer as the program `scribe` gives it: behind its length, and behind
+    /// it the number of notes, where that is told.
+    pub fn in_scribe(&self) -> Vec<u8> {
+        let mut bytes = behind_length(&print(&self.written));
+        bytes.extend(self.notes_in_scribe());
+        bytes
+    }
+
+    fn notes_in_scribe(&self) -> Vec<u8> {
+        self.notes.map_or(vec![], |n| n.to_le_bytes().to_vec())
+    }
+
+    /// What a program that is asked in one way only has on standard error: the
+    /// number of notes as a line, where that is told, but nothing on a refusal.
+    pub fn on_standard_error(&self) -> Vec<u8> {
+        match (&self.written, self.notes) {
+            (Ok(_), Some(notes)) => format!("notes {notes}\n").into_bytes(),
+            _ => vec![],
         }
     }
 }
@@ -197,7 +327,7 @@ struct Subject {
     bytes: Vec<u8>,
     rooms: Rooms,
     /// The answer with ample room, where it is known beforehand.
-    known: Option<Result<Vec<u8>, Refusal>>,
+    known: Option<Reply>,
 }
 
 enum Rooms {
@@ -239,6 +369,7 @@ impl Rooms {
 pub fn compare(program: &Program, extent: &Extent) -> (String, Option<Box<Difference>>) {
     let source = Source {
         traces: cases::all(),
+        noted: note_cases::all(),
         sequences: sequence_cases::all(),
         seed: extent.seed,
     };
@@ -256,6 +387,8 @@ pub fn compare(program: &Program, extent: &Extent) -> (String, Option<Box<Differ
 /// Where the subjects come from.
 struct Source {
     traces: Vec<cases::Case>,
+    /// Some of the traces, with what moving them to edition 2 has to answer.
+    noted: Vec<NoteCase>,
     sequences: Vec<sequence_cases::SequenceCase>,
     seed: u64,
 }
@@ -264,6 +397,12 @@ impl Source {
     /// So many numbers are known cases.
     fn known(&self) -> usize {
         self.traces.len() + self.sequences.len()
+    }
+
+    /// What a known trace has to be answered when it is moved, if that is known.
+    fn known_move(&self, name: &str, way: Way) -> Option<Reply> {
+        let known = self.noted.iter().find(|known| known.case.name == name)?;
+        (way == Way::ToEdition2).then(|| Reply::to_edition_2(known.moved.clone()))
     }
 
     /// The subjects with this number: a sequence and what it writes, or a
@@ -275,13 +414,16 @@ impl Source {
             let name = format!("case '{}'", case.name);
             let rooms = || Rooms::Telling;
             let mut subjects = of_sequence(&name, case.input.clone(), rooms);
-            subjects[0].known = Some(case.answer.clone());
+            subjects[0].known = Some(Reply::of_writing(case.answer.clone()));
             return subjects;
         }
         if let Some(case) = self.traces.get(number - self.sequences.len()) {
             let name = format!("case '{}'", case.name);
             let rooms = || Rooms::Telling;
             let mut subjects = of_trace(&name, &case.bytes, rooms);
+            for subject in &mut subjects {
+                subject.known = self.known_move(case.name, subject.way);
+            }
             if let Ok(steps) = steps_of(&case.bytes, usize::MAX) {
                 tally.origins[Origin::OfTrace as usize] += 1;
                 let serial = first_serial(&case.bytes).to_le_bytes();
@@ -353,7 +495,7 @@ fn check_run(
             let full = subject.way.answer(&subject.bytes, usize::MAX);
             subject.check(&full, tally)?;
             let rooms = match program {
-                Program::Scribe(_) => subject.rooms.choose(&full),
+                Program::Scribe(_) => subject.rooms.choose(&full.written),
                 _ => vec![AMPLE],
             };
             for room in rooms {
@@ -374,13 +516,13 @@ fn check_run(
 pub fn ask(
     program: &Program,
     items: &[Item],
-    mut count: impl FnMut(&Item, &Result<Vec<u8>, Refusal>),
+    mut count: impl FnMut(&Item, &Reply),
 ) -> Result<(), Box<Difference>> {
     let mut answers = program.answers(items).into_iter();
     for item in items {
         let ours = item.way.answer(&item.bytes, item.room.into());
         count(item, &ours);
-        let expected = print(&ours);
+        let expected = program.expected(&ours);
         let theirs = match answers.next() {
             Some(Ok(answer)) if answer == expected => continue,
             Some(theirs) => theirs,
@@ -391,7 +533,8 @@ pub fn ask(
     match (answers.next(), items.last()) {
         (Some(more), Some(item)) => {
             let more = format!("something more behind the last answer: {more:?}");
-            Err(differs(program, item, &Err(more), &[]))
+            let last = program.expected(&item.way.answer(&item.bytes, item.room.into()));
+            Err(differs(program, item, &Err(more), &last))
         }
         _ => Ok(()),
     }
@@ -402,8 +545,8 @@ pub fn ask(
 fn differs(
     program: &Program,
     item: &Item,
-    theirs: &Result<Vec<u8>, String>,
-    expected: &[u8],
+    theirs: &Result<Said, String>,
+    expected: &Said,
 ) -> Box<Difference> {
     let (bytes, file) = match program {
         Program::Scribe(_) => (item.to_bytes(), "item"),
@@ -411,9 +554,8 @@ fn differs(
     };
     let (said, alike) = match theirs {
         Ok(answer) => {
-            let pairs = answer.iter().zip(expected);
-            let alike = pairs.take_while(|(one, other)| one == other).count();
-            (show(answer, alike), alike)
+            let alike = answer.alike(expected);
+            (answer.show(item.way, alike), alike)
         }
         Err(message) => (format!("no answer: {message}\n"), 0),
     };
@@ -424,7 +566,7 @@ fn differs(
         file: file.into(),
         answers: [
             ("the program", said),
-            ("the Rust writer", show(expected, alike)),
+            ("the Rust writer", expected.show(item.way, alike)),
         ],
     })
 }
@@ -452,16 +594,13 @@ pub fn show(answer: &[u8], alike: usize) -> String {
 impl Subject {
     /// What the Rust side can check by itself: the answer with ample room
     /// against a known one, and against the reader.
-    fn check(
-        &self,
-        full: &Result<Vec<u8>, Refusal>,
-        tally: &mut Outcomes,
-    ) -> Result<(), Box<Difference>> {
+    fn check(&self, full: &Reply, tally: &mut Outcomes) -> Result<(), Box<Difference>> {
+        let written = &full.written;
         let checked = match &self.known {
             Some(known) if known != full => Err(format!("the known answer is {known:?}")),
             _ => match self.way {
-                Way::Steps => check_steps(&self.bytes, full, tally),
-                Way::List | Way::Rewrite => check_trace(self.way, &self.bytes, full, tally),
+                Way::Steps => check_steps(&self.bytes, written, tally),
+                Way::List | Way::Rewrite => check_trace(self.way, &self.bytes, written, tally),
                 Way::ToEdition1 => check_move(Edition::One, &self.bytes, full, tally),
                 Way::ToEdition2 => check_move(Edition::Two, &self.bytes, full, tally),
             },
@@ -473,7 +612,7 @@ impl Subject {
                 file: "input".into(),
                 answers: [
                     ("the check in Rust", message + "\n"),
-                    ("the Rust writer", show(&print(full), 0)),
+                    ("the Rust writer", show(&print(written), 0)),
                 ],
             })
         })
@@ -618,15 +757,19 @@ fn check_refused(by_reader: Refusal, full: &Result<Vec<u8>, Refusal>) -> Result<
 fn check_move(
     wanted: Edition,
     bytes: &[u8],
-    full: &Result<Vec<u8>, Refusal>,
+    full: &Reply,
     tally: &mut Outcomes,
 ) -> Result<(), String> {
-    let (trace, moved) = match (Trace::parse(bytes), full) {
+    let (trace, moved) = match (Trace::parse(bytes), &full.written) {
         (Err(by_reader), full) => return check_refused(by_reader, full),
         (Ok(_), Err(refusal)) => return Err(format!("read, but {refusal:?}")),
         (Ok(trace), Ok(moved)) => (trace, moved),
     };
     moving::check(wanted, bytes, &trace, moved)?;
+    if let Some(notes) = full.notes {
+        moving::check_notes(bytes, &trace, moved, notes)?;
+        tally.notes.count(notes);
+    }
     let count = match (trace.edition == wanted, wanted) {
         (true, _) => &mut tally.copied,
         (false, Edition::One) => &mut tally.moved_to_1,
@@ -659,6 +802,8 @@ struct Outcomes {
     moved_to_1: usize,
     moved_to_2: usize,
     copied: usize,
+    /// What the move to edition 2 told.
+    notes: Notes,
     /// Sequences written that wrap, or that reach limits.
     wrapped: usize,
     full_transactions: usize,
@@ -666,6 +811,32 @@ struct Outcomes {
     full_both: usize,
     /// Sequences written that have an unanswered commit.
     unanswered: usize,
+}
+
+/// How many traces had notes, and what their numbers were like.
+#[derive(Default)]
+struct Notes {
+    some: usize,
+    /// Numbers that take more than a byte.
+    above_255: usize,
+    most: u16,
+    /// Items whose number is not told, the buffer being too short.
+    untold: usize,
+}
+
+impl Notes {
+    fn count(&mut self, notes: u16) {
+        self.some += usize::from(notes > 0);
+        self.above_255 += usize::from(notes > 255);
+        self.most = self.most.max(notes);
+    }
+
+    fn add(&mut self, other: &Notes) {
+        self.some += other.some;
+        self.above_255 += other.above_255;
+        self.most = self.most.max(other.most);
+        self.untold += other.untold;
+    }
 }
 
 impl Tally for Outcomes {
@@ -686,6 +857,7 @@ impl Tally for Outcomes {
         self.moved_to_1 += other.moved_to_1;
         self.moved_to_2 += other.moved_to_2;
         self.copied += other.copied;
+        self.notes.add(&other.notes);
         self.wrapped += other.wrapped;
         self.full_transactions += other.full_transactions;
         self.full_operations += other.full_operations;
@@ -695,9 +867,9 @@ impl Tally for Outcomes {
 }
 
 impl Outcomes {
-    fn count(&mut self, item: &Item, answer: &Result<Vec<u8>, Refusal>) {
+    fn count(&mut self, item: &Item, answer: &Reply) {
         let way = item.way as usize;
-        match answer {
+        match &answer.written {
             Ok(bytes) => {
                 self.written[way] += 1;
                 self.fitting[way] += usize::from(bytes.len() == usize::from(item.room));
@@ -706,6 +878,8 @@ impl Outcomes {
                 self.refused[way][usize::from(*number)] += 1;
                 let byte_short = *number == 16 && *place == usize::from(item.room) + 1;
                 self.byte_short[way] += usize::from(byte_short);
+                let tells_notes = item.way.tells_notes() && trace::has_notes(&item.bytes);
+                self.notes.untold += usize::from(*number == 16 && tells_notes);
                 let steps = item.bytes.len().saturating_sub(4) / STEP_SIZE;
                 let behind_all = item.way == Way::Steps && *place == steps + 1;
                 self.ends_inside[way] += usize::from(*number == 7 && behind_all);
@@ -783,6 +957,10 @@ impl Outcomes {
             ("read, but of edition 2", self.of_edition_2),
             ("moved to edition 1", self.moved_to_1),
             ("moved to edition 2", self.moved_to_2),
+            ("  with notes", self.notes.some),
+            ("  with more than 255", self.notes.above_255),
+            ("  the most notes of a trace", self.notes.most.into()),
+            ("items with notes, refused 16", self.notes.untold),
             ("of the wanted edition", self.copied),
         ] {
             lines.push(format!("  {name:<28}{count:>8}"));

@@ -486,6 +486,12 @@ fn the_comparison_finds_no_difference_from_itself() {
     let (summary, differs) = compare_moves(SCRIBE, &format!("{JUDGE} --stream"), 1_500);
     assert!(!differs, "{summary}");
     assert!(summary.starts_with("1500 traces of seed 8"), "{summary}");
+    // Traces that differ in their notes only were among what was asked.
+    for line in ["also with other texts", "also without notes"] {
+        let (_, count) = summary.split_once(line).expect(line);
+        let count: usize = count.split_whitespace().next().unwrap().parse().unwrap();
+        assert!(count > 150, "{summary}");
+    }
     for (option, way) in [("--to-1", Way::ToEdition1), ("--to-2", Way::ToEdition2)] {
         assert_eq!(Way::of_option(option), Some(way));
         let program = Program::Once(way, format!("{SCRIBE} {option}"));
@@ -520,10 +526,17 @@ fn the_comparison_finds_programs_that_answer_otherwise() {
 fn a_run_of_each_program_moves() {
     let one = encode("T1 w1=5");
     let two = encode("edition 2; T1 w1=5");
-    let run = |option: &str, input: &[u8]| process::run_once(&format!("{SCRIBE} {option}"), input);
-    assert_eq!(run("--to-2", &one).as_ref(), Ok(&two));
-    assert_eq!(run("--to-1", &two).as_ref(), Ok(&one));
-    assert_eq!(run("--to-1", &two[..9]), Ok(b"refused 3 0\n".to_vec()));
+    let run = |option: &str, input: &[u8]| {
+        let command = format!("{SCRIBE} {option}");
+        let ended = process::run_keeping_error(&command, input).unwrap();
+        assert_eq!(ended.failure, None);
+        [ended.output, ended.error].map(|bytes| String::from_utf8(bytes).unwrap())
+    };
+    let printed = |bytes: &[u8]| String::from_utf8(bytes.to_vec()).unwrap();
+    assert_eq!(run("--to-2", &one), [&printed(&two), "notes 0\n"]);
+    assert_eq!(run("--to-1", &two), [&printed(&one), ""]);
+    assert_eq!(run("--to-1", &two[..9]), ["refused 3 0\n", ""]);
+    assert_eq!(run("--to-2", &two[..9]), ["refused 3 0\n", ""]);
     let item = |letter: u8, room: u16, bytes: &[u8]| {
         let [low, high] = room.to_le_bytes();
         [
@@ -540,13 +553,17 @@ fn a_run_of_each_program_moves() {
         item(b'2', 0, &one[1..]),
     ];
     let output = [
-        &one,
-        b"refused 16 49\n".as_slice(),
-        &two,
-        b"refused 16 63\n",
-        b"refused 3 0\n",
+        (one.as_slice(), ""),
+        (b"refused 16 49\n", ""),
+        (&two, "\0\0"),
+        (b"refused 16 63\n", "\0\0"),
+        (b"refused 3 0\n", "\0\0"),
     ];
-    let output = output.map(process::behind_length);
+    let output = output.map(|(written, notes)| {
+        let mut answer = process::behind_length(written);
+        answer.extend(notes.bytes());
+        answer
+    });
     assert_eq!(
         process::run_once(SCRIBE, &input.concat()),
         Ok(output.concat())

@@ -28,10 +28,12 @@ const USAGE: &str = "Usage:
   compare --writer COMMAND [options]   the same with the program `writer`: a run for each sequence of steps
   compare --rewrite COMMAND [options]  the same with the program `rewrite`: a run for each trace
   compare --to-1 COMMAND [options]     the same with the program `to_edition_1`
-  compare --to-2 COMMAND [options]     the same with the program `to_edition_2`
+  compare --to-2 COMMAND [options]     the same with the program `to_edition_2`, whose standard error is compared too:
+                                       it tells the number of notes
   compare --moves COMMAND --stream COMMAND [options]
                                        moves traces to both editions and back, by the program `scribe` and in Rust,
-                                       and compares what the program `stream` says before and after: many traces a run
+                                       and compares what the program `stream` says before and after; those that have
+                                       notes also with other texts in them, and without them: many traces a run
 A COMMAND is a program and its arguments, parted by spaces.
 Half of the random traces are of edition 2, with transactions that overlap.
 Options:
@@ -611,7 +613,7 @@ impl Editions {
                  transactions open at once, {} have eight",
                 self.two, self.overlapping, self.overlapping_8
             ),
-            "refusals by edition (1 and 12 to 15 cannot be given by the program):".into(),
+            "refusals by edition (1 and 12 to 14 cannot be given by the program):".into(),
         ];
         for number in 2..=11 {
             let (one, two) = (one[number], two[number]);

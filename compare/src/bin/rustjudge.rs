@@ -45,5 +45,9 @@ fn stream() -> io::Result<()> {
         input.by_ref().take(length.into()).read_to_end(&mut trace)?;
         output.write_all(ferozhak_compare::judge_text(&trace).as_bytes())?;
         output.write_all(b"--\n")?;
+        // Where no more has come yet, somebody may be waiting for the answer.
+        if input.buffer().is_empty() {
+            output.flush()?;
+        }
     }
 }

@@ -3,13 +3,14 @@
 //!
 //! Without arguments standard input has items: what is asked ('s', 'l', 'r', '1'
 //! or '2'), the room and the length (2 bytes little-endian each), and that many
-//! bytes. Each answer stands behind its length (2 bytes little-endian). With
-//! `--writer` standard input is a starting serial and steps, with `--rewrite`,
-//! `--to-1` and `--to-2` a trace, and standard output is the one answer. If the
-//! last item is cut, what there is of its bytes is taken; without all of its head
-//! it is none.
+//! bytes. Each answer stands behind its length (2 bytes little-endian); behind an
+//! answer to '2' stands the number of notes that the trace had (2 bytes
+//! little-endian), 0 with a refusal. With `--writer` standard input is a starting
+//! serial and steps, with `--rewrite`, `--to-1` and `--to-2` a trace, and standard
+//! output is the one answer; with `--to-2` standard error is the line `notes N`,
+//! or with a refusal nothing. If the last item is cut, what there is of its bytes
+//! is taken; without all of its head it is none.
 
-use ferozhak_compare::process::behind_length;
 use ferozhak_compare::scribes::Way;
 use ferozhak_compare::writing;
 use std::io::{self, BufReader, Read, Write};
@@ -42,7 +43,8 @@ fn once(way: Way) -> io::Result<()> {
     let mut input = Vec::new();
     io::stdin().read_to_end(&mut input)?;
     let answer = way.answer(&input, usize::MAX);
-    io::stdout().write_all(&writing::print(&answer))
+    io::stdout().write_all(&writing::print(&answer.written))?;
+    io::stderr().write_all(&answer.on_standard_error())
 }
 
 fn scribe() -> io::Result<()> {
@@ -63,7 +65,7 @@ fn scribe() -> io::Result<()> {
         input.by_ref().take(length.into()).read_to_end(&mut bytes)?;
         let answer = way.answer(&bytes, u16::from_le_bytes(room).into());
         // One write an answer, seen at once by whoever waits for it.
-        output.write_all(&behind_length(&writing::print(&answer)))?;
+        output.write_all(&answer.in_scribe())?;
         output.flush()?;
     }
 }

@@ -2,7 +2,7 @@
 //!
 //! For `stream` these are all cases with known answers, each trace behind its
 //! length, each answer before a line `--`; for `scribe` some items, each answer
-//! behind its length.
+//! behind its length, and the number of notes behind each move to edition 2.
 
 use ferozhak_compare::process::{behind_length, kept};
 use ferozhak_compare::scribes::{Way, AMPLE};
@@ -63,8 +63,7 @@ fn scribe() -> (Vec<u8>, Vec<u8>) {
         input.push(way.letter());
         input.extend(room.to_le_bytes());
         input.extend(behind_length(&bytes));
-        let answer = way.answer(&bytes, room.into());
-        output.extend(behind_length(&writing::print(&answer)));
+        output.extend(way.answer(&bytes, room.into()).in_scribe());
     }
     (input, output)
 }
@@ -80,6 +79,7 @@ fn items() -> Vec<Item> {
     items.extend(unanswered());
     items.extend(edition_2());
     items.extend(moves());
+    items.extend(notes());
     items
 }
 
@@ -220,10 +220,8 @@ fn moves() -> Vec<Item> {
     let mut items = Vec::new();
     for trace in read.map(encode) {
         for way in both {
-            let moved = way
-                .answer(&trace, AMPLE.into())
-                .expect("a trace that is read");
-            let needed = moved.len() as u16;
+            let moved = way.answer(&trace, AMPLE.into()).written;
+            let needed = moved.expect("a trace that is read").len() as u16;
             items.extend([needed, needed - 1].map(|room| (way, room, trace.clone())));
         }
     }
@@ -231,4 +229,28 @@ fn moves() -> Vec<Item> {
         items.extend(both.map(|way| (way, 0, trace.clone())));
     }
     items
+}
+
+/// Moves to edition 2 of traces with notes, whose number is answered too: none,
+/// few, more than a byte can say; and refused ones, whose number is not.
+fn notes() -> Vec<Item> {
+    let many = "note \"\"; ".repeat(258) + "T1 s1";
+    let long = "n".repeat(65);
+    [
+        ("T1 s1", AMPLE),
+        ("note \"a\"", AMPLE),
+        ("note \"a\"", 19),
+        ("T1 s1 note \"\" note \"\"", AMPLE),
+        (
+            "note \"a\"; T1 s1 note \"b\" w1=5 note \"c\" r1=5 note \"d\"; note \"e\"",
+            AMPLE,
+        ),
+        (&many, AMPLE),
+        (&many, 40),
+        (&format!("note \"a\"; note \"{long}\""), AMPLE),
+        ("note \"a\"; T1 s1; note \"b\"; end 2", AMPLE),
+        ("edition 2; T1 s1 w1=5", AMPLE),
+    ]
+    .map(|(notation, room)| (Way::ToEdition2, room, encode(notation)))
+    .into()
 }

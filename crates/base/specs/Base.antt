@@ -2,7 +2,6 @@
 use Prim.Native.Nat.{ℕ, zero, suc, _+_, _-_}
 use mathlib.Core.Bool.{Bool, true, false}
 use mathlib.Core.List.{List, [], _∷_, _++_}
-use lib.ListN.{getD}
 
 infixl 35 _and_
 infixl 30 _or_
@@ -68,10 +67,6 @@ joined f (x ∷ xs) = f x ++ joined f xs
 unfoldable pub numbered : {A : Type 0} → ℕ → (ℕ → A) → List A
 numbered zero f = []
 numbered (suc n) f = numbered n f ++ (f (suc n) ∷ [])
-
--- entry number i of a list, from 1; d at 0 and past the end
-unfoldable pub nth : {A : Type 0} → List A → ℕ → A → A
-nth l i d = getD (d ∷ l) i d
 
 -- a table's rows, each with the test that has to fit and its number: the number of the first row that fits, 0 where none does
 pub data Row : Type 0 where

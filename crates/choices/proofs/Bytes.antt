@@ -17,11 +17,12 @@ use Rattle.rules.specs.Reading.{State, begin, eventIn, refusalNo, after, refuse
 use Rattle.rules.proofs.Walking.{by-turn}
 use Rattle.demand1.specs.Rows.{kind, Passes, Whose, Reaches, start, on}
 use Rattle.demand1.proofs.Events.{passes-framed, exactly}
+use Rattle.demand1.proofs.Agree.{agree-second}
 use Rattle.demand1.proofs.Steps.{whose-one, close-of, next-is, next-after, next-not-end, not-end, is-end, after-within}
 use Rattle.demand1.proofs.Sessions.{one-open-each}
 use Rattle.demand1.proofs.Refusals.{refusal-none}
 use Rattle.choices.specs.Choices.{outcomeOf, chosen, chosenReading, isUnansweredClose, chosenAt, chosenFrom, chosenBytes, Unanswered, Answered}
-use Rattle.choices.proofs.Agree.{same-byte, agree-second}
+use Rattle.choices.proofs.Agree.{same-byte}
 use Rattle.choices.proofs.Turns.{none-refuses}
 use Rattle.choices.proofs.Replaced.{unanswered-close, close-unanswered, status-within, at-status, at-other, from-refused, from-end, from-on, from-length, from-before}
 use Rattle.choices.proofs.Walks.{walk-by}

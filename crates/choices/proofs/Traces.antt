@@ -9,11 +9,11 @@ use Rattle.base.specs.Base.{count}
 use Rattle.base.proofs.Searches.{count-under}
 use Rattle.theory.proofs.Entries.{number-one}
 use Rattle.rules.specs.History.{History, size, committed}
-use Rattle.rules.specs.Reading.{Stretch, Reading, refused, read, reading}
+use Rattle.rules.specs.Reading.{Reading, refused, read, reading}
 use Rattle.demand1.specs.Lawful.{LawfulHistory}
-use Rattle.demand1.specs.Rows.{ReadInto}
+use Rattle.demand1.specs.Rows.{ReadInto, HasHistory}
 use Rattle.demand1.proofs.Lawful.{lawful-history}
-use Rattle.demand1.proofs.Readings.{reads-iff}
+use Rattle.demand1.proofs.Readings.{reads-iff, has-history, has-read, read-has}
 use Rattle.demand2.specs.Accepted.{Accepts}
 use Rattle.demand2.proofs.Counts.{counts-iff}
 use Rattle.demand2.proofs.Accepted.{committed-number}
@@ -42,24 +42,20 @@ accepts-within {h} {g} okh okg w {n = n} a =
 
 module _ (s : List ℕ) (level room : ℕ) where
   -- the trace with a choice is read into the chosen history
-  pub reads-chosen : (f : ℕ → Bool) {b : List ℕ} → Answered f s b → {h : History} {notes : List Stretch} → ReadInto s h notes
+  pub reads-chosen : (f : ℕ → Bool) {b : List ℕ} → Answered f s b → {h : History} {notes : ℕ} → ReadInto s h notes
       → ReadInto b (chosen f h) notes
   unfolding chosenReading
   reads-chosen f {b} x {h} {notes} r =
       reads-iff b (chosen f h) notes .0 (answered-reading f s x ∙ ap (chosenReading f) (reads-iff s h notes .1 r))
 
   -- and what it is read into is a choice of what the trace is read into
-  chosen-reads : (f : ℕ → Bool) {b : List ℕ} → Answered f s b → {g : History} {notes : List Stretch} → ReadInto b g notes
-      → (h : History) × ReadInto s h notes × (chosen f h ≡ g)
+  chosen-reads : (f : ℕ → Bool) {b : List ℕ} → Answered f s b → {g : History} → HasHistory b g → (h : History) × HasHistory s h × (chosen f h ≡ g)
   unfolding chosenReading
-  chosen-reads f {b} x {g} {notes} r = go (reading s) refl (sym (answered-reading f s x) ∙ reads-iff b g notes .1 r)
+  chosen-reads f x {g} r = go (reading s) refl (sym (answered-reading f s x) ∙ read-has r)
     where
-      go : (q : Reading) → reading s ≡ q → chosenReading f q ≡ read g notes → (h : History) × ReadInto s h notes × (chosen f h ≡ g)
+      go : (q : Reading) → reading s ≡ q → chosenReading f q ≡ read g (r .notes) → (h : History) × HasHistory s h × (chosen f h ≡ g)
       go (refused n p) e c = let z : _≡_ {A = ℕ} 0 1 = cc in absurd (omega arith)
-      go (read h texts) e c =
-          let a : chosen f h ≡ g = cc in
-          let t : texts ≡ notes = cc in
-          (h, reads-iff s h notes .0 (rw t at e), a)
+      go (read h notes) e c = let a : chosen f h ≡ g = cc in (h, has-read e, a)
 
   smallest-choice : TraceAccepted s level room → TraceByChoice s level room
   smallest-choice t =
@@ -80,8 +76,7 @@ module _ (s : List ℕ) (level room : ℕ) where
                     low = a .low;
                     high = a .high;
                     history = chosen f h;
-                    notes = a .notes;
-                    reads = reads-chosen f x (a .reads);
+                    reads = has-history (reads-chosen f x (a .reads .reads));
                     accepts = accepts-within (chosen-lawful f h ok) ok (within-smallest ok) (a .accepts);
                   };
             };
@@ -102,7 +97,6 @@ module _ (s : List ℕ) (level room : ℕ) where
               low = a .low;
               high = a .high;
               history = h;
-              notes = a .notes;
               reads = r .1;
               accepts = accepts-within ok (chosen-lawful f h ok) (smallest-within ok f (x .clean)) x;
             };

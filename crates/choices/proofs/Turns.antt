@@ -10,15 +10,16 @@ use borrow.Author.Tests.{ltb-false, eqb-true, eqb-false, le-ltb}
 use Rattle.base.proofs.Tests.{ifso, pick-of}
 use Rattle.rules.specs.History.{History}
 use Rattle.rules.specs.Records.{isSecond, sessionAt, eventAt}
-use Rattle.rules.specs.Reading.{misplaced, unlawful, excess, repeats, stepRows, entered, isEnd, textAt, State, eventIn, metBy, met, refusalNo, after, refused, read, finished}
+use Rattle.rules.specs.Reading.{misplaced, unlawful, excess, repeats, stepRows, entered, isEnd, notesBehind, State, eventIn, metBy, met, refusalNo, after, refused, read, finished}
 use Rattle.rules.specs.declared.Event.{Event}
 use Rattle.rules.specs.declared.Event.the-variants.{Open, Read, Write, Close, End, Note, Other}
 use Rattle.rules.proofs.Meeting.{met-first, met-second}
-use Rattle.demand1.specs.Rows.{len, Passes}
+use Rattle.demand1.specs.Rows.{Passes}
+use Rattle.demand1.proofs.Agree.{agree-len, agree-serial, agree-frame}
 use Rattle.demand1.proofs.Refusals.{refusal-none}
 use Rattle.choices.specs.Choices.{statusBy, chosen, chosenReading, isUnansweredClose}
 use Rattle.choices.proofs.Chosen.{outcome-most, status-chosen, status-kept, chosen-op-count, chosen-count, chosen-write, chosen-current, chosen-open-of, chosen-any, chosen-with-op, chosen-opened, chosen-closed}
-use Rattle.choices.proofs.Agree.{SameHead, agree-len, agree-serial, agree-frame}
+use Rattle.choices.proofs.Agree.{SameFront}
 
 -- ── a turn of the walk ──
 
@@ -122,16 +123,16 @@ module _ (f : ℕ → Bool) where
   chosen-entered h t Note = refl
   chosen-entered h t Other = refl
 
-  -- a note's text
-  by-text : (s b : List ℕ) (at t : ℕ) (e : Event) → len b at ≡ len s at → textAt b at (eventBy t e) ≡ textAt s at e
-  unfolding eventBy textAt
-  by-text s b at t (Open n) l = refl
-  by-text s b at t (Read x v) l = refl
-  by-text s b at t (Write x v) l = refl
-  by-text s b at t (Close c) l = refl
-  by-text s b at t (End n) l = refl
-  by-text s b at t Note l = rw l
-  by-text s b at t Other l = refl
+  -- the number of notes
+  by-notes : (n t : ℕ) (e : Event) → notesBehind n (eventBy t e) ≡ notesBehind n e
+  unfolding eventBy notesBehind
+  by-notes n t (Open s) = refl
+  by-notes n t (Read x v) = refl
+  by-notes n t (Write x v) = refl
+  by-notes n t (Close c) = refl
+  by-notes n t (End m) = refl
+  by-notes n t Note = refl
+  by-notes n t Other = refl
 
   -- ── a record of s and one of b, which have the same header ──
 
@@ -139,7 +140,7 @@ module _ (f : ℕ → Bool) where
   abbrev pub chosenState : State → State
   chosenState st = record { at = st .at; serial = st .serial; history = chosen f (st .history); notes = st .notes }
 
-  module _ {s b : List ℕ} (st : State) (x : SameHead s b (st .at)) where
+  module _ {s b : List ℕ} (st : State) (x : SameFront s b (st .at)) where
     abbrev h : History
     h = st .history
 
@@ -148,15 +149,15 @@ module _ (f : ℕ → Bool) where
     met-same q =
         ifso (isSecond s)
         (λ e.
-        met-second b (chosenState st) (x .second ∙ e) ∙ chosen-met h (sessionAt b (st .at)) (eventIn b (chosenState st)) (eventIn s st) q
-        ∙ ap (λ (n : ℕ). metBy h n (eventIn s st)) (x .front (λ k. e)) ∙ sym (met-second s st e))
-        (λ e. met-first b (chosenState st) (x .second ∙ e) ∙ chosen-current f h ∙ sym (met-first s st e))
+        met-second b (chosenState st) (x .head .second ∙ e) ∙ chosen-met h (sessionAt b (st .at)) (eventIn b (chosenState st)) (eventIn s st) q
+        ∙ ap (λ (n : ℕ). metBy h n (eventIn s st)) (x .of-session e) ∙ sym (met-second s st e))
+        (λ e. met-first b (chosenState st) (x .head .second ∙ e) ∙ chosen-current f h ∙ sym (met-first s st e))
 
     -- the rows that refuse it, by its event
     same-refusal : {e : Event} → eventAt b (st .at) ≡ e → isEnd e ≡ isEnd (eventIn s st)
         → stepRows h (met s st) e ≡ stepRows h (met s st) (eventIn s st) → refusalNo b (chosenState st) ≡ refusalNo s st
     unfolding refusalNo
-    same-refusal {e} q d r = rw (agree-frame x (st .serial), met-same (ap isEnd q ∙ d), q, chosen-rows h (met s st) e, r)
+    same-refusal {e} q d r = rw (agree-frame (x .head) (st .serial), met-same (ap isEnd q ∙ d), q, chosen-rows h (met s st) e, r)
 
     pub refusal-same : eventAt b (st .at) ≡ eventAt s (st .at) → refusalNo b (chosenState st) ≡ refusalNo s st
     refusal-same q = same-refusal q refl refl
@@ -172,7 +173,8 @@ module _ (f : ℕ → Bool) where
       pub after-by : after b (chosenState st) ≡ chosenState (after s st)
       unfolding after
       after-by =
-          rw (agree-len x, agree-serial x, met-same end-by, q, chosen-entered h (met s st) (eventIn s st), by-text s b (st .at) (met s st) (eventIn s st) (agree-len x))
+          let n = by-notes (st .notes) (met s st) (eventIn s st) in
+          rw (agree-len (x .head), agree-serial (x .head .header), met-same end-by, q, chosen-entered h (met s st) (eventIn s st), n)
 
 -- what stands behind the end
 pub finished-by : (f : ℕ → Bool) (s b : List ℕ) (st : State) → length b ≡ length s → finished b (chosenState f st) ≡ chosenReading f (finished s st)

@@ -14,10 +14,11 @@ use Rattle.rules.specs.declared.Event.the-variants.{Close}
 use Rattle.rules.proofs.Walking.{walk-refused, walk-end, walk-on, by-turn}
 use Rattle.demand1.specs.Rows.{kind, status, Passes}
 use Rattle.demand1.proofs.Events.{Framed, passes-framed, close-event}
+use Rattle.demand1.proofs.Agree.{Agree, agree-le, agree-kind, agree-event}
 use Rattle.demand1.proofs.Steps.{after-within}
 use Rattle.choices.specs.Choices.{outcomeOf, chosenReading, isUnansweredClose, chosenAt, chosenFrom}
 use Rattle.choices.proofs.Chosen.{status-chosen}
-use Rattle.choices.proofs.Agree.{same-byte, Agree, agree-le, agree-kind, SameHead, agree-framed, agree-event}
+use Rattle.choices.proofs.Agree.{same-byte, SameFront, agree-framed}
 use Rattle.choices.proofs.Turns.{none-refuses, eventBy, event-kept, end-kept, chosenState, refusal-same, refusal-by, end-by, after-by, finished-by}
 use Rattle.choices.proofs.Replaced.{unanswered-close, status-within, keeping, at-status, at-other, from-refused, from-end, from-on, from-length, from-before}
 
@@ -39,22 +40,28 @@ module _ (f : ℕ → Bool) (s : List ℕ) where
     near a e m n d =
         record { long = g .long; same = λ i l h. g .same i (omega arith) ∙ from-before f s k st i (omega arith) (d i h) }
 
-    head : SameHead s b (st .at)
-    head =
+    -- the two bytes behind the header, where no status of a close is among them
+    front : (kind s (st .at) ≡ 4 → isSecond s ≡ true) → le 2 b (st .at + 8) ≡ le 2 s (st .at + 8)
+    front d =
+        agree-le
+        (near (st .at + 8) (st .at + 10) (omega arith) (omega arith) (λ i l c q. let z : i ≡ st .at + 8 + 2 = rw (d c) at q in omega arith)) 2
+        (st .at + 8) (omega arith) (omega arith)
+
+    -- so header and session stay
+    same-front : SameFront s b (st .at)
+    same-front =
         record {
-          header = near (st .at) (st .at + 8) (omega arith) (omega arith) (λ i l _ q. omega arith);
-          second = g .second;
-          front =
-              λ second.
-              agree-le
-              (near (st .at + 8) (st .at + 10) (omega arith) (omega arith)
-              (λ i l c q. let z : i ≡ st .at + 8 + 2 = rw (second c) at q in omega arith))
-              2 (st .at + 8) (omega arith) (omega arith);
+          head = record {
+            header = near (st .at) (st .at + 8) (omega arith) (omega arith) (λ i l _ q. omega arith);
+            second = g .second;
+            says = λ k. front (λ c. absurd (omega arith));
+          };
+          of-session = λ e. front (λ _. e);
         }
 
     -- where nothing is left to replace, the whole record is
     stays : chosenFrom k f s st ≡ s → eventAt b (st .at) ≡ eventAt s (st .at)
-    stays q = agree-event head (record { long = g .long; same = λ i l h. g .same i l ∙ same-byte i q })
+    stays q = agree-event (same-front .head) (record { long = g .long; same = λ i l h. g .same i l ∙ same-byte i q })
 
   -- ── a record that passes and is not the end ──
 
@@ -77,7 +84,7 @@ module _ (f : ℕ → Bool) (s : List ℕ) where
     unfolding eventBy
     event-replaced u =
         let c = unanswered-close framed u in
-        let x = head (suc k) st b g in
+        let x = same-front (suc k) st b g .head in
         let there = fieldsAt s (st .at) in
         let room : there < length behind = omega (arith, from-length f s k (after s st), status-within s st passes u, after-within s st passes .1) in
         let z : status b (st .at) ≡ outcomeOf f (met s st) =
@@ -89,7 +96,7 @@ module _ (f : ℕ → Bool) (s : List ℕ) where
     event-stays : isUnansweredClose (eventIn s st) ≡ false → eventAt b (st .at) ≡ eventBy f (met s st) (eventIn s st)
     unfolding after
     event-stays u =
-        agree-event (head (suc k) st b g)
+        agree-event (same-front (suc k) st b g .head)
         (record {
           long = g .long;
           same = λ i l h. byte i l ∙ same-byte i (keeping f s st behind u) ∙ from-before f s k (after s st) i (omega arith) (λ _ q. omega arith);
@@ -119,16 +126,16 @@ module _ (f : ℕ → Bool) (s : List ℕ) where
   walk-by (suc k) st b g =
       by-turn s st
       (λ t.
-      let q = refusal-same f st (head (suc k) st b g) (stays (suc k) st b g (from-refused f s k st t)) in
+      let q = refusal-same f st (same-front (suc k) st b g) (stays (suc k) st b g (from-refused f s k st t)) in
       walk-refused b (chosenState f st) k (ap (ltb 0) q ∙ t) ∙ ap (λ (n : ℕ). refused n (st .at)) q ∙ sym (ap (chosenReading f) (walk-refused s st k t)))
       (λ t e.
-      let x = head (suc k) st b g in
+      let x = same-front (suc k) st b g in
       let q : eventAt b (st .at) ≡ eventBy f (met s st) (eventIn s st) =
       stays (suc k) st b g (from-end f s k st e) ∙ sym (end-kept f (met s st) (eventIn s st) e) in
       walk-end b (chosenState f st) k (ap (ltb 0) (refusal-by f st x q) ∙ t) (end-by f st x q ∙ e)
       ∙ ap (finished b) (after-by f st x q) ∙ finished-by f s b (after s st) (g .long) ∙ sym (ap (chosenReading f) (walk-end s st k t e)))
       (λ t e.
-      let x = head (suc k) st b g in
+      let x = same-front (suc k) st b g in
       let q = event k st b g t e in
       walk-on b (chosenState f st) k (ap (ltb 0) (refusal-by f st x q) ∙ t) (end-by f st x q ∙ e)
       ∙ ap (walk k b) (after-by f st x q) ∙ walk-by k (after s st) b (goes-on k st b g t e) ∙ sym (ap (chosenReading f) (walk-on s st k t e)))

@@ -145,6 +145,15 @@ module _ {k n : ℕ} where
   close-length true f q = exactly n 9 (λ d. f (close-not-9 refl q d))
   close-length false f q = exactly n 7 (λ d. f (close-not-7 refl q d))
 
+-- a note says nothing, however long it is
+pub note-event : (s : List ℕ) (at : ℕ) → kind s at ≡ 6 → eventAt s at ≡ Note
+unfolding eventAt eventOf pick
+note-event s at k = rw k
+
+-- a number that begins the payload
+pub payload-begins : (s : List ℕ) (at : ℕ) → 8 ≤ len s at → le 2 (payloadAt s at) 0 ≡ le 2 s (at + 8)
+payload-begins s at l = let a : at + 8 + 0 ≡ at + 8 = omega arith in le-part 2 (at + 8) (at + 2 + len s at) s 0 (omega arith) ∙ ap (le 2 s) a
+
 module _ {s : List ℕ} {at : ℕ} (f : Framed s at) where
   -- a number of the payload, w bytes from the i-th on
   payload : (w i : ℕ) → 6 + (i + w) ≤ len s at → le w (payloadAt s at) i ≡ le w s (at + 8 + i)
@@ -159,14 +168,10 @@ module _ {s : List ℕ} {at : ℕ} (f : Framed s at) where
       let a : at + 8 + (fieldsFrom (isSecond s) + 4) ≡ fieldsAt s at + 4 = omega arith in
       payload 8 (fieldsFrom (isSecond s) + 4) (omega arith) ∙ ap (le 8 s) a
 
-  -- a number that begins the payload
-  front : len s at ≡ 8 → le 2 (payloadAt s at) 0 ≡ le 2 s (at + 8)
-  front e = let a : at + 8 + 0 ≡ at + 8 = omega arith in payload 2 0 (omega arith) ∙ ap (le 2 s) a
-
   -- each kind with what its payload says
   pub open-event : kind s at ≡ 1 → eventAt s at ≡ Open (session s at)
   unfolding eventAt eventOf pick
-  open-event k = rw k (ap Open (front (exactly (len s at) 8 (λ d. f .fits (open-not-8 k d)))))
+  open-event k = rw k (ap Open (payload-begins s at (omega (arith, exactly (len s at) 8 (λ d. f .fits (open-not-8 k d))))))
 
   pub read-event : kind s at ≡ 2 → eventAt s at ≡ Read (key s at) (value s at)
   unfolding eventAt eventOf pick
@@ -182,11 +187,7 @@ module _ {s : List ℕ} {at : ℕ} (f : Framed s at) where
 
   pub end-event : kind s at ≡ 5 → eventAt s at ≡ End (endNumber s at)
   unfolding eventAt eventOf pick
-  end-event k = rw k (ap End (front (exactly (len s at) 8 (λ d. f .fits (end-not-8 k d)))))
-
-  pub note-event : kind s at ≡ 6 → eventAt s at ≡ Note
-  unfolding eventAt eventOf pick
-  note-event k = rw k
+  end-event k = rw k (ap End (payload-begins s at (omega (arith, exactly (len s at) 8 (λ d. f .fits (end-not-8 k d))))))
 
   pub edition-event : kind s at ≡ 16 → eventAt s at ≡ Other
   unfolding eventAt eventOf pick
@@ -201,7 +202,7 @@ module _ {s : List ℕ} {at : ℕ} (f : Framed s at) where
         as-write = write-event;
         as-close = close-event;
         as-end = end-event;
-        as-note = note-event;
+        as-note = note-event s at;
         as-edition = edition-event;
       }
 

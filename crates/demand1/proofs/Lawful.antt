@@ -8,9 +8,9 @@ use native.Mathlib.Omega.{arith}
 use Rattle.base.proofs.Tests.{clash, ifso, split}
 use Rattle.rules.specs.History.{History, Op, tx, op, txCount, opCount, empty, opened, closed, withOp}
 use Rattle.rules.specs.Records.{isSecond}
-use Rattle.rules.specs.Reading.{State, Stretch}
+use Rattle.rules.specs.Reading.{State}
 use Rattle.demand1.specs.Lawful.{IsOp, IsWrite, IsTx, Over, says-aborted, says-committed, says-unanswered, LawfulHistory}
-use Rattle.demand1.specs.Rows.{kind, session, status, opIn, Inside, OpenOf, Misplaced, Passes, inPlace, valueLawful, withinLimit, newWrite, open-inside, read-outside, write-outside, close-outside, end-inside, end-with-open, in-first, in-second, written-0, status-above-2, open-128th, read-1025th, write-1025th, Whose, the-latest, of-its-session, Next, after-open, after-read, after-write, after-close, after-note, after-edition, Reaches, start, on, ReadInto, to-the-end}
+use Rattle.demand1.specs.Rows.{kind, session, status, opIn, Inside, OpenOf, Misplaced, Passes, inPlace, valueLawful, withinLimit, newWrite, open-inside, read-outside, write-outside, close-outside, end-inside, end-with-open, in-first, in-second, written-0, status-above-2, open-128th, read-1025th, write-1025th, Whose, the-latest, of-its-session, Next, after-open, after-read, after-write, after-close, after-note, after-edition, Reaches, start, on, ReadInto, to-the-end, HasHistory}
 use Rattle.rules.proofs.History.{with-op-count, with-op-old, with-op-new, open-count, open-old, open-new, close-count, close-this, close-other}
 use Rattle.demand1.proofs.Events.{same-or, at-least, below}
 use Rattle.demand1.proofs.Steps.{inside}
@@ -219,14 +219,17 @@ growing {s} start = growing-begin (isSecond s)
 growing {s} (on {st} r p n) = grown s st p (growing r) n
 
 -- a trace that is read gives a lawful history
-pub lawful-history : {s : List ℕ} {h : History} {notes : List Stretch} → ReadInto s h notes → LawfulHistory h
-lawful-history (to-the-end l r p k e) =
-    let g = growing r in
-    record {
-      few-txs = g .txs .few-txs;
-      few-ops = g .ops .few-ops;
-      in-tx = g .ops .in-tx;
-      not-zero = g .ops .not-zero;
-      one-write = g .ops .one-write;
-      is-over = all-over (g .txs) (λ e i. p inPlace (in-first e (end-inside k i))) (λ e n t o. p inPlace (in-second e (end-with-open k o)));
-    }
+pub lawful-history : {s : List ℕ} {h : History} → HasHistory s h → LawfulHistory h
+lawful-history {s} x = of (x .reads)
+  where
+    of : {h : History} {notes : ℕ} → ReadInto s h notes → LawfulHistory h
+    of (to-the-end l r p k e) =
+        let g = growing r in
+        record {
+          few-txs = g .txs .few-txs;
+          few-ops = g .ops .few-ops;
+          in-tx = g .ops .in-tx;
+          not-zero = g .ops .not-zero;
+          one-write = g .ops .one-write;
+          is-over = all-over (g .txs) (λ e i. p inPlace (in-first e (end-inside k i))) (λ e n t o. p inPlace (in-second e (end-with-open k o)));
+        }

@@ -1,9 +1,9 @@
 pub mod Histories
 pub mod Events
+pub mod Agree
 pub mod Steps
 pub mod Sessions
 pub mod Lawful
 pub mod Checks
 pub mod Refusals
 pub mod Readings
-pub mod Notes

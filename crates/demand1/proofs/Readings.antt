@@ -11,9 +11,9 @@ use lib.ListN.{length}
 use borrow.Author.Tests.{lt-ltb, le-ltb}
 use Rattle.base.proofs.Tests.{split, pick-on, pick-off}
 use Rattle.rules.specs.History.{History}
-use Rattle.rules.specs.Reading.{State, begin, after, refusalNo, Reading, refused, read, finished, walk, reading, Stretch}
+use Rattle.rules.specs.Reading.{State, begin, after, refusalNo, Reading, refused, read, finished, walk, reading}
 use Rattle.rules.proofs.Walking as turns
-use Rattle.demand1.specs.Rows.{kind, behind, lengthField, numberOf, Passes, Reaches, start, on, Refuses, too-long, at-record, bytes-behind, ReadInto, to-the-end, OneOutcome}
+use Rattle.demand1.specs.Rows.{kind, behind, lengthField, numberOf, Passes, Reaches, start, on, Refuses, too-long, at-record, bytes-behind, ReadInto, to-the-end, HasHistory, OneOutcome}
 use Rattle.demand1.proofs.Events.{same-or}
 use Rattle.demand1.proofs.Steps.{next-is, next-after, next-not-end, end-after, is-end, not-end, after-within}
 use Rattle.demand1.proofs.Sessions.{one-open-each}
@@ -63,7 +63,7 @@ reached-within {s} (on {st} r p n) = rw (next-is s st p (one-open-each r) n) (af
 -- a reading that the conditions bear out
 data Ends (s : List ℕ) : Reading → Type 0 where
   refusing : {n p : ℕ} → Refuses s n p → Ends s (refused n p)
-  reading-it : {h : History} {notes : List Stretch} → ReadInto s h notes → Ends s (read h notes)
+  reading-it : {h : History} {notes : ℕ} → ReadInto s h notes → Ends s (read h notes)
 
 module _ (s : List ℕ) (short : length s ≤ 32768) where
   -- the end record
@@ -126,12 +126,15 @@ refused-is {s} (at-record {st} {c} short r f) =
     resumed s short r _ (λ g _. walk-refused s st g (refusal-row s st (numberOf c) (number-positive c) .1 (c, refl, f)) (number-positive c))
 refused-is {s} (bytes-behind {st} short r p k l) = resumed s short r _ (λ g _. walk-end s st g p k ∙ finished-behind s st l)
 
-read-is : {s : List ℕ} {h : History} {notes : List Stretch} → ReadInto s h notes → reading s ≡ read h notes
+read-is : {s : List ℕ} {h : History} {notes : ℕ} → ReadInto s h notes → reading s ≡ read h notes
 read-is {s} (to-the-end {st} short r p k e) = resumed s short r _ (λ g _. walk-end s st g p k ∙ finished-read s st p k e)
 
 -- a trace that is read has a record
-pub has-record : {s : List ℕ} {h : History} {notes : List Stretch} → ReadInto s h notes → 8 ≤ length s
-has-record {s} (to-the-end {st} l r p k e) = omega (arith, after-within s st p .0, behind-at s st)
+pub has-record : {s : List ℕ} {h : History} → HasHistory s h → 8 ≤ length s
+has-record {s} x = of (x .reads)
+  where
+    of : {h : History} {notes : ℕ} → ReadInto s h notes → 8 ≤ length s
+    of (to-the-end {st} l r p k e) = omega (arith, after-within s st p .0, behind-at s st)
 
 -- ── the theorems ──
 
@@ -145,12 +148,12 @@ module _ (s : List ℕ) where
       of (reading-it x) e = let z : _≡_ {A = ℕ} 0 1 = cc in absurd (omega arith)
 
   -- it gives a history and notes exactly if the trace is read into them
-  pub reads-iff : (h : History) (notes : List Stretch) → (reading s ≡ read h notes) ↔ ReadInto s h notes
+  pub reads-iff : (h : History) (notes : ℕ) → (reading s ≡ read h notes) ↔ ReadInto s h notes
   reads-iff h notes = (λ e. of (reading-ends s) e, read-is)
     where
       of : {r : Reading} → Ends s r → r ≡ read h notes → ReadInto s h notes
       of (refusing x) e = let z : _≡_ {A = ℕ} 0 1 = cc in absurd (omega arith)
-      of (reading-it {h = g} {notes = texts} x) e = let a : h ≡ g = cc in let b : notes ≡ texts = cc in rw (a, b) x
+      of (reading-it {h = g} {notes = m} x) e = let a : h ≡ g = cc in let b : notes ≡ m = cc in rw (a, b) x
 
   -- every trace is refused or read, in one way
   pub one-outcome : OneOutcome s
@@ -159,10 +162,10 @@ module _ (s : List ℕ) where
         either = some (reading-ends s);
         not-both = λ n p h notes x y. let a = refused-is x in let b = read-is y in let z : _≡_ {A = ℕ} 0 1 = cc in absurd (omega arith);
         one-refusal = λ n p m q x y. let a = refused-is x in let b = refused-is y in (cc, cc);
-        one-reading = λ h g notes texts x y. let a = read-is x in let b = read-is y in (cc, cc);
+        one-reading = λ h g n m x y. let a = read-is x in let b = read-is y in (cc, cc);
       }
     where
-      some : {r : Reading} → Ends s r → ((n : ℕ) × (p : ℕ) × Refuses s n p) ⊎ ((h : History) × (notes : List Stretch) × ReadInto s h notes)
+      some : {r : Reading} → Ends s r → ((n : ℕ) × (p : ℕ) × Refuses s n p) ⊎ ((h : History) × (notes : ℕ) × ReadInto s h notes)
       some (refusing {n} {p} x) = inl (n, p, x)
       some (reading-it {h} {notes} x) = inr (h, notes, x)
 
@@ -170,3 +173,19 @@ module _ (s : List ℕ) where
   pub boundary-refused : {st : State} → length s ≤ 32768 → Reaches s st → st .at ≡ length s → reading s ≡ refused 3 (length s)
   boundary-refused {st} l r e =
       rw (← e) (refused-is (at-record {c = lengthField} l r (record { fails = omega arith; none-before = λ d h f. omega arith })))
+
+-- ── whatever number of notes ──
+
+pub has-history : {s : List ℕ} {h : History} {n : ℕ} → ReadInto s h n → HasHistory s h
+has-history r = record { notes = _; reads = r }
+
+-- the reading gives its history
+pub has-read : {s : List ℕ} {h : History} {n : ℕ} → reading s ≡ read h n → HasHistory s h
+has-read {s} {h} {n} e = has-history (reads-iff s h n .0 e)
+
+pub read-has : {s : List ℕ} {h : History} (r : HasHistory s h) → reading s ≡ read h (r .notes)
+read-has r = read-is (r .reads)
+
+-- a trace has one history
+pub history-one : {s : List ℕ} {h g : History} → HasHistory s h → HasHistory s g → h ≡ g
+history-one {s} {h} {g} r q = one-outcome s .one-reading h g (r .notes) (q .notes) (r .reads) (q .reads) .0

@@ -2,14 +2,14 @@
 use Prim.Native.Nat.{ℕ, _+_, _≤_}
 use mathlib.Core.Path.{_≡_, refl}
 use mathlib.Core.Bool.{true, false}
-use mathlib.Core.List.{List, append-nil}
+use mathlib.Core.List.{List}
 use mathlib.Core.Logic.{⊎-elim}
 use native.Mathlib.Omega.{arith}
 use lib.ListN.{length}
 use Rattle.base.proofs.Tests.{clash, ifso, split}
 use Rattle.rules.specs.History.{openOf, withOp, closed}
 use Rattle.rules.specs.Records.{isSecond}
-use Rattle.rules.specs.Reading.{State, after, entered, textAt, isEnd, eventIn, met}
+use Rattle.rules.specs.Reading.{State, after, entered, notesBehind, isEnd, eventIn, met}
 use Rattle.rules.proofs.Meeting.{met-first, met-second, met-session}
 use Rattle.demand1.specs.Rows.{kind, session, status, Inside, OpenOf, OneOpenEach, Misplaced, Astray, in-first, in-second, Passes, inPlace, read-outside, read-of-none, write-outside, write-of-none, close-outside, close-of-none, Whose, the-latest, of-its-session, opIn, moved, Next, after-open, after-read, after-write, after-close, after-note, after-edition}
 use Rattle.demand1.proofs.Histories.{inside-current, inside-or-not, open-found, open-known}
@@ -75,44 +75,44 @@ module _ (s : List ℕ) (st : State) (p : Passes s st) where
   -- ── the state behind it ──
 
   read-after : kind s (st .at) ≡ 2 → moved s st (withOp (st .history) (opIn s (st .at) (met s st) false)) (st .notes) ≡ after s st
-  unfolding after entered textAt
-  read-after k = rw (read-event (passes-framed p) k, append-nil (st .notes))
+  unfolding after entered notesBehind
+  read-after k = rw (read-event (passes-framed p) k)
 
   write-after : kind s (st .at) ≡ 3 → moved s st (withOp (st .history) (opIn s (st .at) (met s st) true)) (st .notes) ≡ after s st
-  unfolding after entered textAt
-  write-after k = rw (write-event (passes-framed p) k, append-nil (st .notes))
+  unfolding after entered notesBehind
+  write-after k = rw (write-event (passes-framed p) k)
 
   close-after : kind s (st .at) ≡ 4 → moved s st (closed (st .history) (met s st) (status s (st .at))) (st .notes) ≡ after s st
-  unfolding after entered textAt
-  close-after k = rw (close-event (passes-framed p) k, append-nil (st .notes))
+  unfolding after entered notesBehind
+  close-after k = rw (close-event (passes-framed p) k)
 
   -- it is `after`
   pub next-is : (isSecond s ≡ true → OneOpenEach (st .history)) → {x : State} → Next s st x → x ≡ after s st
-  unfolding after entered textAt
-  next-is one (after-open k) = rw (open-event (passes-framed p) k, append-nil (st .notes))
+  unfolding after entered notesBehind
+  next-is one (after-open k) = rw (open-event (passes-framed p) k)
   next-is one (after-read k w) = rw (whose-one one w (read-of k)) (read-after k)
   next-is one (after-write k w) = rw (whose-one one w (write-of k)) (write-after k)
   next-is one (after-close k w) = rw (whose-one one w (close-of k)) (close-after k)
-  next-is one (after-note k) = rw (note-event (passes-framed p) k)
-  next-is one (after-edition k) = rw (edition-event (passes-framed p) k, append-nil (st .notes))
+  next-is one (after-note k) = rw (note-event s (st .at) k)
+  next-is one (after-edition k) = rw (edition-event (passes-framed p) k)
 
   pub next-after : (kind s (st .at) ≡ 5 → ⊥) → Next s st (after s st)
-  unfolding after entered textAt
+  unfolding after entered notesBehind
   next-after d = go (shape (passes-framed p))
     where
       go : Shape s (st .at) → Next s st (after s st)
-      go (open-record k e) = rw (e, append-nil (st .notes)) (after-open k)
+      go (open-record k e) = rw (e) (after-open k)
       go (read-record k e) = rw (← read-after k) (after-read k (read-of k))
       go (write-record k e) = rw (← write-after k) (after-write k (write-of k))
       go (close-record k e) = rw (← close-after k) (after-close k (close-of k))
       go (end-record k e) = absurd (d k)
       go (note-record k e) = rw e (after-note k)
-      go (edition-record k e) = rw (e, append-nil (st .notes)) (after-edition k)
+      go (edition-record k e) = rw (e) (after-edition k)
 
   -- the end leaves history and notes as they are
   pub end-after : kind s (st .at) ≡ 5 → (after s st .history ≡ st .history) × (after s st .notes ≡ st .notes)
-  unfolding after entered textAt
-  end-after k = (rw (end-event (passes-framed p) k), rw (end-event (passes-framed p) k) (append-nil (st .notes)))
+  unfolding after entered notesBehind
+  end-after k = (rw (end-event (passes-framed p) k), rw (end-event (passes-framed p) k))
 
   -- it has 8 bytes or more, and ends within the trace
   pub after-within : (st .at + 8 ≤ after s st .at) × (after s st .at ≤ length s)

@@ -1,15 +1,15 @@
 -- Document 01's table of refusals, with document 02's second edition, as conditions in their own terms, apart from the functions that compute. The theorems
 -- say that the two agree.
-use Prim.Native.Nat.{ℕ, _+_, _-_, _%_, _^_, _<_, _≤_}
+use Prim.Native.Nat.{ℕ, _+_, _%_, _^_, _<_, _≤_}
 use mathlib.Core.Path.{_≡_}
 use mathlib.Core.Bool.{Bool, true, false}
-use mathlib.Core.List.{List, [], _∷_, _++_}
+use mathlib.Core.List.{List}
 use mathlib.Core.Logic.{_⊎_}
 use lib.ListN.{length}
 use Rattle.rules.specs.Numbers.{le}
 use Rattle.rules.specs.History.{History, Op, tx, txCount, opCount, opened, closed, withOp}
 use Rattle.rules.specs.Records.{isSecond, fieldsAt}
-use Rattle.rules.specs.Reading.{State, begin, Stretch}
+use Rattle.rules.specs.Reading.{State, begin}
 use Rattle.demand1.specs.Lawful.{IsTx, IsWrite}
 
 -- ── a record's fields, by their offsets ──
@@ -193,7 +193,7 @@ Passes s st = NoneFails (Fails s st)
 -- ── what a record leaves ──
 
 -- the next one starts behind it; "Each later serial is its predecessor plus one; after 4,294,967,295 comes 0."
-abbrev pub moved : List ℕ → State → History → List Stretch → State
+abbrev pub moved : List ℕ → State → History → ℕ → State
 moved s st h notes = record { at = behind s (st .at); serial = (serial s (st .at) + 1) % 2 ^ 32; history = h; notes = notes }
 
 -- the transaction that a read, a write or a close belongs to: in edition 1, "Transactions do not overlap", the latest opened; in edition 2 the open one of
@@ -206,17 +206,13 @@ pub data Whose (s : List ℕ) (st : State) : ℕ → Type 0 where
 abbrev pub opIn : List ℕ → ℕ → ℕ → Bool → Op
 opIn s at t w = record { tx = t; isWrite = w; key = key s at; value = value s at }
 
--- a note's text, as a stretch of the trace
-abbrev pub noteText : List ℕ → ℕ → Stretch
-noteText s at = record { start = at + 8; length = len s at - 6 }
-
 -- the state behind the record, which is not the end
 pub data Next (s : List ℕ) (st : State) : State → Type 0 where
   after-open : kind s (st .at) ≡ 1 → Next s st (moved s st (opened (st .history) (session s (st .at))) (st .notes))
   after-read : {t : ℕ} → kind s (st .at) ≡ 2 → Whose s st t → Next s st (moved s st (withOp (st .history) (opIn s (st .at) t false)) (st .notes))
   after-write : {t : ℕ} → kind s (st .at) ≡ 3 → Whose s st t → Next s st (moved s st (withOp (st .history) (opIn s (st .at) t true)) (st .notes))
   after-close : {t : ℕ} → kind s (st .at) ≡ 4 → Whose s st t → Next s st (moved s st (closed (st .history) t (status s (st .at))) (st .notes))
-  after-note : kind s (st .at) ≡ 6 → Next s st (moved s st (st .history) (st .notes ++ (noteText s (st .at) ∷ [])))
+  after-note : kind s (st .at) ≡ 6 → Next s st (moved s st (st .history) (st .notes + 1))
   after-edition : kind s (st .at) ≡ 16 → Next s st (moved s st (st .history) (st .notes))
 
 -- ── how far reading comes, and how it ends ──
@@ -234,18 +230,18 @@ pub data Refuses (s : List ℕ) : ℕ → ℕ → Type 0 where
       → Refuses s 11 (behind s (st .at))
 
 -- the trace is read: the end record is its last
-pub data ReadInto (s : List ℕ) : History → List Stretch → Type 0 where
+pub data ReadInto (s : List ℕ) : History → ℕ → Type 0 where
   to-the-end : {st : State} → length s ≤ 32768 → Reaches s st → Passes s st → kind s (st .at) ≡ 5 → behind s (st .at) ≡ length s
       → ReadInto s (st .history) (st .notes)
 
+-- .. whatever number of notes it has
+pub record HasHistory (s : List ℕ) (h : History) : Type 0 where
+  pub notes : ℕ
+  pub reads : ReadInto s h notes
+
 -- every trace is refused, on one row and at one place, or read, in one way, and never both
 pub record OneOutcome (s : List ℕ) : Type 0 where
-  pub either : ((n : ℕ) × (p : ℕ) × Refuses s n p) ⊎ ((h : History) × (notes : List Stretch) × ReadInto s h notes)
-  pub not-both : (n p : ℕ) (h : History) (notes : List Stretch) → Refuses s n p → ReadInto s h notes → ⊥
+  pub either : ((n : ℕ) × (p : ℕ) × Refuses s n p) ⊎ ((h : History) × (notes : ℕ) × ReadInto s h notes)
+  pub not-both : (n p : ℕ) (h : History) (notes : ℕ) → Refuses s n p → ReadInto s h notes → ⊥
   pub one-refusal : (n p m q : ℕ) → Refuses s n p → Refuses s m q → (n ≡ m) × (p ≡ q)
-  pub one-reading : (h g : History) (notes texts : List Stretch) → ReadInto s h notes → ReadInto s g texts → (h ≡ g) × (notes ≡ texts)
-
--- asking for note k is refused with number n and place p: "it takes 2 to 11 and then 15"
-pub data NoteDeclines (s : List ℕ) (k : ℕ) : ℕ → ℕ → Type 0 where
-  trace-refused : {n at : ℕ} → Refuses s n at → NoteDeclines s k n at
-  no-note : {h : History} {notes : List Stretch} → ReadInto s h notes → ((1 ≤ k) × (k ≤ length notes) → ⊥) → NoteDeclines s k 15 0
+  pub one-reading : (h g : History) (n m : ℕ) → ReadInto s h n → ReadInto s g m → (h ≡ g) × (n ≡ m)

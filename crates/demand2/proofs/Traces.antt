@@ -9,7 +9,7 @@ use Rattle.rules.specs.Numbers.{over}
 use Rattle.rules.specs.Outcome.{order, Report, accepting, Outcome, outcome, judged}
 use Rattle.rules.proofs.Outcome.{verdictNo, Came, came-no-level, came-refused, came-short, came-short-pairs, came-rejected, came-short-order, came-accepted, came, came-is}
 use Rattle.demand1.proofs.Lawful.{lawful-history}
-use Rattle.demand1.proofs.Readings.{reads-iff}
+use Rattle.demand1.proofs.Readings.{has-read, read-has}
 use Rattle.demand2.specs.Accepted.{AcceptsTrace, OrderWritten}
 use Rattle.demand2.proofs.Accepted.{accepted-iff, order-first, order-number, committed-number}
 
@@ -26,7 +26,7 @@ module _ (s : List ℕ) (level : ℕ) (fs ps os : List ℕ) where
       let ok = lawful-history (a .reads) in
       let t = accepted-iff ok (a .low) (a .high) .1 (x .clean, x .ordered) in
       let e = order-number ok (a .low) (a .high) t (x .each) in
-      came-is s level fs ps os (came-accepted (a .low) (a .high) (reads-iff s h (a .notes) .1 (a .reads)) t (omega (arith, e, x .fits)))
+      came-is s level fs ps os (came-accepted (a .low) (a .high) (read-has (a .reads)) t (omega (arith, e, x .fits)))
       ∙ ap (λ (k : ℕ). outcome (accepting k) fs ps (over (order h level) os)) e
 
   -- it is accepted, with n, exactly if it is read into such a history, and n is the number of its committed transactions
@@ -40,8 +40,8 @@ module _ (s : List ℕ) (level : ℕ) (fs ps os : List ℕ) where
       of (came-short-pairs a b r t g l) e = absurd (other e (omega arith))
       of (came-rejected a b r t g k) e = absurd (other e (omega arith))
       of (came-short-order a b r t l) e = absurd (other e (omega arith))
-      of (came-accepted {h} {notes} a b r t g) e =
-          let i = reads-iff s h notes .0 r in
+      of (came-accepted {h} a b r t g) e =
+          let i = has-read r in
           let ok = lawful-history i in
           let x = accepted-iff ok a b .0 t in
           let q : n ≡ length (order h level) = ap (λ (r : Report). r .order) (sym e) in
@@ -49,7 +49,6 @@ module _ (s : List ℕ) (level : ℕ) (fs ps os : List ℕ) where
             low = a;
             high = b;
             history = h;
-            notes = notes;
             reads = i;
             accepts = record { clean = x .0; ordered = x .1; each = rw (q, order-number ok a b t (committed-number ok)) (committed-number ok); fits = omega arith };
           }

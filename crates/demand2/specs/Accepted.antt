@@ -6,9 +6,8 @@ use lib.ListN.{length}
 use Rattle.theory.specs.Entries.{Number}
 use Rattle.rules.specs.Numbers.{over}
 use Rattle.rules.specs.History.{History}
-use Rattle.rules.specs.Reading.{Stretch}
 use Rattle.rules.specs.Outcome.{Outcome}
-use Rattle.demand1.specs.Rows.{ReadInto}
+use Rattle.demand1.specs.Rows.{HasHistory}
 use Rattle.demand2.specs.Kinds.{AllClean}
 use Rattle.demand2.specs.Axiom.{Member, HasOrder, FirstShown}
 
@@ -28,8 +27,7 @@ pub record AcceptsTrace (s : List ℕ) (level n room : ℕ) : Type 0 where
   pub low : 1 ≤ level
   pub high : level ≤ 3
   pub history : History
-  pub notes : List Stretch
-  pub reads : ReadInto s history notes
+  pub reads : HasHistory s history
   pub accepts : Accepts history level n room
 
 -- "only the order is written": it is the first commit order, and n, which is answered, its length; fs, ps and os are what the buffers held before

@@ -15,7 +15,7 @@ use Rattle.rules.specs.Outcome.{Pair, findings, pairs, findingList, pairList, i
 use Rattle.rules.proofs.Outcome.{verdictNo, accepted-empty, is-accepted, Came, came-no-level, came-refused, came-short, came-short-pairs, came-rejected, came-short-order, came-accepted, came, came-is}
 use Rattle.demand1.specs.Lawful.{LawfulHistory}
 use Rattle.demand1.proofs.Lawful.{lawful-history}
-use Rattle.demand1.proofs.Readings.{reads-iff}
+use Rattle.demand1.proofs.Readings.{has-read, read-has}
 use Rattle.demand2.specs.Kinds.{AllClean}
 use Rattle.demand2.specs.Axiom.{HasOrder}
 use Rattle.demand2.proofs.Accepted.{accepted-iff}
@@ -98,7 +98,6 @@ module _ (s : List ℕ) (level : ℕ) (fs ps os : List ℕ) where
   rejected-outcome : {f p : ℕ} (a : RejectsTrace s level f p (length fs) (length ps))
       → judged s level fs ps os ≡ outcome (rejecting f p) (over (findingList (a .history)) fs) (over (pairList (a .history) level) ps) os
   rejected-outcome {f} {p} a =
-      let h = a .history in
       let j = a .rejects in
       let ok = lawful-history (a .reads) in
       let m = findings-counted ok (a .low) (a .high) (j .findings) in
@@ -107,7 +106,7 @@ module _ (s : List ℕ) (level : ℕ) (fs ps os : List ℕ) where
       let v = pairs-bytes ok (a .low) (a .high) (j .pairs) in
       rw (← m, ← n)
       (came-is s level fs ps os
-      (came-rejected (a .low) (a .high) (reads-iff s h (a .notes) .1 (a .reads)) (fault-iff ok (a .low) (a .high) .1 (j .fault)) (omega (arith, u, j .findings-fit)) (omega (arith, v, j .pairs-fit))))
+      (came-rejected (a .low) (a .high) (read-has (a .reads)) (fault-iff ok (a .low) (a .high) .1 (j .fault)) (omega (arith, u, j .findings-fit)) (omega (arith, v, j .pairs-fit))))
 
   -- it is rejected, with f and p, exactly if it is read into a history with a fault, and those are the numbers of its faults, which fit
   pub rejected-trace : (f p : ℕ) → (judged s level fs ps os .report ≡ rejecting f p) ↔ RejectsTrace s level f p (length fs) (length ps)
@@ -120,8 +119,8 @@ module _ (s : List ℕ) (level : ℕ) (fs ps os : List ℕ) where
       of (came-short-pairs a b r t g l) e = absurd (other e (λ z. omega arith))
       of (came-short-order a b r t l) e = absurd (other e (λ z. omega arith))
       of (came-accepted a b r t g) e = absurd (other e (λ z. omega arith))
-      of (came-rejected {h} {notes} a b r t g k) e =
-          let i = reads-iff s h notes .0 r in
+      of (came-rejected {h} a b r t g k) e =
+          let i = has-read r in
           let ok = lawful-history i in
           let m : length (findings h) ≡ f = ap (λ (x : Report). x .findings) e in
           let n : length (pairs h level) ≡ p = ap (λ (x : Report). x .pairs) e in
@@ -131,7 +130,6 @@ module _ (s : List ℕ) (level : ℕ) (fs ps os : List ℕ) where
             low = a;
             high = b;
             history = h;
-            notes = notes;
             reads = i;
             rejects =
                 record {

@@ -6,9 +6,8 @@ use lib.ListN.{length}
 use Rattle.theory.specs.Entries.{Number}
 use Rattle.rules.specs.Numbers.{over}
 use Rattle.rules.specs.History.{History}
-use Rattle.rules.specs.Reading.{Stretch}
 use Rattle.rules.specs.Outcome.{Pair, Outcome}
-use Rattle.demand1.specs.Rows.{ReadInto}
+use Rattle.demand1.specs.Rows.{HasHistory}
 use Rattle.demand3.specs.Forced.{ListedPair}
 use Rattle.demand3.specs.Lists.{Finding, Findings, PairBefore, PairListed, Pairs, FindingBytes, PairBytes}
 
@@ -37,8 +36,7 @@ pub record RejectsTrace (s : List ℕ) (level f p n m : ℕ) : Type 0 where
   pub low : 1 ≤ level
   pub high : level ≤ 3
   pub history : History
-  pub notes : List Stretch
-  pub reads : ReadInto s history notes
+  pub reads : HasHistory s history
   pub rejects : Rejects history level f p n m
 
 -- "only the two lists are written", and f and p, which are answered, are their lengths; fs, ps and os are what the buffers held before

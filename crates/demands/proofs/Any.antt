@@ -5,12 +5,11 @@ use mathlib.Core.List.{List}
 use mathlib.Core.Logic.{_↔_}
 use lib.ListN.{length}
 use Rattle.rules.specs.History.{History}
-use Rattle.rules.specs.Reading.{Stretch}
 use Rattle.rules.specs.Outcome.{declines, Report, accepting, reported, judged}
 use Rattle.rules.specs.declared.Answer.{Answer}
-use Rattle.demand1.specs.Rows.{ReadInto}
+use Rattle.demand1.specs.Rows.{HasHistory}
 use Rattle.demand1.proofs.Lawful.{lawful-history}
-use Rattle.demand1.proofs.Readings.{one-outcome}
+use Rattle.demand1.proofs.Readings.{history-one}
 use Rattle.demand2.specs.Kinds.{AllClean}
 use Rattle.demand2.specs.Axiom.{HasOrder, SomeOrder}
 use Rattle.demand2.specs.Accepted.{CommittedCount, Accepts, AcceptsTrace}
@@ -21,7 +20,7 @@ use Rattle.demand3.proofs.Pairs.{none-listed-iff}
 use Rattle.demands.specs.Demands.{Demand2, Demand3}
 
 -- a trace that is read into the history h
-module _ {s : List ℕ} {level : ℕ} {h : History} {notes : List Stretch} (low : 1 ≤ level) (high : level ≤ 3) (reads : ReadInto s h notes) where
+module _ {s : List ℕ} {level : ℕ} {h : History} (low : 1 ≤ level) (high : level ≤ 3) (reads : HasHistory s h) where
   -- where its reads are clean, the two forms of a commit order say the same
   pub order-any : AllClean h → HasOrder h level ↔ SomeOrder h level
   order-any = any-order-iff (lawful-history reads) low high
@@ -40,12 +39,12 @@ module _ {s : List ℕ} {level : ℕ} {h : History} {notes : List Stretch} (low 
     accepts-any = (
       λ e.
           let t = is .0 e in
-          let q = one-outcome s .one-reading (t .history) h (t .notes) notes (t .reads) reads .0 in
+          let q = history-one (t .reads) reads in
           let a : Accepts h level n room = rw q at (t .accepts) in
           (a .clean, order-any (a .clean) .0 (a .ordered)),
       λ x.
           let a : Accepts h level n room = record { clean = x .0; ordered = order-any (x .0) .1 (x .1); each = each; fits = fits } in
-          is .1 (record { low = low; high = high; history = h; notes = notes; reads = reads; accepts = a }),
+          is .1 (record { low = low; high = high; history = h; reads = reads; accepts = a }),
     )
 
   -- "accepted at a level exactly if every read of a committed transaction is clean and some total order .. obeys the level's axiom"

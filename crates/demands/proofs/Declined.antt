@@ -8,7 +8,7 @@ use lib.ListN.{length}
 use Rattle.rules.specs.Outcome.{declines, Report, declining, Outcome, outcome, judged}
 use Rattle.rules.proofs.Outcome.{verdictNo, Came, came-no-level, came-refused, came-short, came-short-pairs, came-rejected, came-short-order, came-accepted, came, came-is}
 use Rattle.demand1.proofs.Lawful.{lawful-history}
-use Rattle.demand1.proofs.Readings.{refuses-iff, reads-iff}
+use Rattle.demand1.proofs.Readings.{refuses-iff, has-read, read-has}
 use Rattle.demand2.proofs.Accepted.{accepted-iff, order-number, committed-number}
 use Rattle.demand3.proofs.Traces.{fault-iff, finding-count, pair-count, findings-bytes, pairs-bytes}
 use Rattle.demands.specs.Declined.{Declines, no-level, reading-refused, findings-short, pairs-short, order-short}
@@ -18,20 +18,20 @@ module _ (s : List ℕ) (level : ℕ) (fs ps os : List ℕ) where
   pub declines-outcome : {n p : ℕ} → Declines s level (length fs) (length ps) (length os) n p → judged s level fs ps os ≡ outcome (declining n p) fs ps os
   declines-outcome (no-level d) = came-is s level fs ps os (came-no-level d)
   declines-outcome (reading-refused {n} {at} a b r) = came-is s level fs ps os (came-refused a b (refuses-iff s n at .1 r))
-  declines-outcome (findings-short {h} {notes} a b r x c l) =
+  declines-outcome (findings-short a b r x c l) =
       let ok = lawful-history r in
       let e = findings-bytes ok a b c in
-      rw (← e) (came-is s level fs ps os (came-short a b (reads-iff s h notes .1 r) (fault-iff ok a b .1 x) (omega arith)))
-  declines-outcome (pairs-short {h} {notes} a b r x c g d l) =
+      rw (← e) (came-is s level fs ps os (came-short a b (read-has r) (fault-iff ok a b .1 x) (omega arith)))
+  declines-outcome (pairs-short a b r x c g d l) =
       let ok = lawful-history r in
       let e = findings-bytes ok a b c in
       let i = pairs-bytes ok a b d in
-      rw (← i) (came-is s level fs ps os (came-short-pairs a b (reads-iff s h notes .1 r) (fault-iff ok a b .1 x) (omega arith) (omega arith)))
-  declines-outcome (order-short {h} {notes} a b r x y c l) =
+      rw (← i) (came-is s level fs ps os (came-short-pairs a b (read-has r) (fault-iff ok a b .1 x) (omega arith) (omega arith)))
+  declines-outcome (order-short a b r x y c l) =
       let ok = lawful-history r in
       let t = accepted-iff ok a b .1 (x, y) in
       let e = order-number ok a b t c in
-      rw (← e) (came-is s level fs ps os (came-short-order a b (reads-iff s h notes .1 r) t (omega arith)))
+      rw (← e) (came-is s level fs ps os (came-short-order a b (read-has r) t (omega arith)))
 
   -- an outcome that the table bears out, or one that is no refusal
   data Borne : Outcome → Type 0 where
@@ -41,22 +41,22 @@ module _ (s : List ℕ) (level : ℕ) (fs ps os : List ℕ) where
   borne : {o : Outcome} → Came s level fs ps os o → Borne o
   borne (came-no-level d) = refused (no-level d)
   borne (came-refused {n} {p} a b r) = refused (reading-refused a b (refuses-iff s n p .0 r))
-  borne (came-short {h} {notes} a b r t l) =
-      let i = reads-iff s h notes .0 r in
+  borne (came-short a b r t l) =
+      let i = has-read r in
       let ok = lawful-history i in
       let c = finding-count ok a b in
       let e = findings-bytes ok a b c in
       rw e (refused (findings-short a b i (fault-iff ok a b .0 t) c (omega arith)))
-  borne (came-short-pairs {h} {notes} a b r t g l) =
-      let i = reads-iff s h notes .0 r in
+  borne (came-short-pairs a b r t g l) =
+      let i = has-read r in
       let ok = lawful-history i in
       let c = finding-count ok a b in
       let d = pair-count ok a b in
       let e = findings-bytes ok a b c in
       let q = pairs-bytes ok a b d in
       rw q (refused (pairs-short a b i (fault-iff ok a b .0 t) c (omega arith) d (omega arith)))
-  borne (came-short-order {h} {notes} a b r t l) =
-      let i = reads-iff s h notes .0 r in
+  borne (came-short-order a b r t l) =
+      let i = has-read r in
       let ok = lawful-history i in
       let x = accepted-iff ok a b .0 t in
       let c = committed-number ok in

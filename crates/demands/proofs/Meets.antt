@@ -5,13 +5,12 @@ use mathlib.Core.List.{List}
 use mathlib.Core.Logic.{_↔_}
 use lib.ListN.{length}
 use Rattle.rules.specs.History.{History}
-use Rattle.rules.specs.Reading.{Stretch}
 use Rattle.rules.specs.Outcome.{pairs, declines, Report, Outcome, outcome, reported, judged}
 use Rattle.rules.specs.declared.Answer.{Answer}
 use Rattle.rules.proofs.Outcome.{none-empty, accepted-empty, Came, came-no-level, came-refused, came-short, came-short-pairs, came-rejected, came-short-order, came-accepted, came}
-use Rattle.demand1.specs.Rows.{ReadInto}
+use Rattle.demand1.specs.Rows.{HasHistory}
 use Rattle.demand1.proofs.Lawful.{lawful-history}
-use Rattle.demand1.proofs.Readings.{reads-iff, one-outcome}
+use Rattle.demand1.proofs.Readings.{has-read, history-one}
 use Rattle.demand2.specs.Kinds.{AllClean}
 use Rattle.demand2.specs.Axiom.{HasOrder}
 use Rattle.demand2.proofs.Accepted.{empty-pairs-iff}
@@ -21,12 +20,12 @@ use Rattle.demands.specs.Demands.{Demands}
 use Rattle.demands.proofs.Declined.{declines-iff, refusal-writes-nothing}
 
 -- the number of listed pairs is 0 exactly if there is a commit order, where all reads are clean
-counted-iff : {h : History} {notes : List Stretch} {s : List ℕ} {level : ℕ} → 1 ≤ level → level ≤ 3 → ReadInto s h notes → AllClean h
+counted-iff : {h : History} {s : List ℕ} {level : ℕ} → 1 ≤ level → level ≤ 3 → HasHistory s h → AllClean h
     → (length (pairs h level) ≡ 0) ↔ HasOrder h level
 counted-iff {h} {level = level} a b r clean =
     let e = empty-pairs-iff (lawful-history r) a b clean in (λ z. e .0 (none-empty (pairs h level) z), λ c. ap length (e .1 c))
 
-module _ (s : List ℕ) (level : ℕ) (fs ps os : List ℕ) {h : History} {notes : List Stretch} (r : ReadInto s h notes) (clean : AllClean h) where
+module _ (s : List ℕ) (level : ℕ) (fs ps os : List ℕ) {h : History} (r : HasHistory s h) (clean : AllClean h) where
   -- so is the number that is reported, unless the outcome is a refusal
   reported-iff : {o : Outcome} → Came s level fs ps os o → (o .report .verdict ≡ declines → ⊥) → (o .report .pairs ≡ 0) ↔ HasOrder h level
   reported-iff (came-no-level x) d = absurd (d refl)
@@ -34,10 +33,10 @@ module _ (s : List ℕ) (level : ℕ) (fs ps os : List ℕ) {h : History} {notes
   reported-iff (came-short a b e t l) d = absurd (d refl)
   reported-iff (came-short-pairs a b e t g l) d = absurd (d refl)
   reported-iff (came-short-order a b e t l) d = absurd (d refl)
-  reported-iff (came-rejected {h = g} {notes = m} a b e t u v) d =
-      let q = one-outcome s .one-reading h g notes m r (reads-iff s g m .0 e) .0 in rw (← q) (counted-iff a b r clean)
-  reported-iff (came-accepted {h = g} {notes = m} a b e t u) d =
-      let q = one-outcome s .one-reading h g notes m r (reads-iff s g m .0 e) .0 in
+  reported-iff (came-rejected a b e t u v) d =
+      let q = history-one r (has-read e) in rw (← q) (counted-iff a b r clean)
+  reported-iff (came-accepted {h = g} a b e t u) d =
+      let q = history-one r (has-read e) in
       let z = ap length (accepted-empty g level .0 t .1) in
       (λ _. counted-iff a b r clean .0 (rw (← q) at z), λ _. refl)
 

@@ -14,7 +14,7 @@ use Rattle.text.specs.Lines.{acceptedLine}
 use Rattle.text.specs.Answer.{findingText, pairText, blockText, readingText, answerText}
 use Rattle.demand1.specs.Lawful.{LawfulHistory}
 use Rattle.demand1.proofs.Lawful.{lawful-history}
-use Rattle.demand1.proofs.Readings.{refuses-iff, reads-iff, one-outcome}
+use Rattle.demand1.proofs.Readings.{refuses-iff, has-read, one-outcome, history-one}
 use Rattle.demand2.proofs.Accepted.{has-order-iff, accepted-iff, order-first, first-only}
 use Rattle.demand3.specs.Lists.{Finding}
 use Rattle.demand3.proofs.Findings.{kind-one, finding-kind, finding-write, findings-are, findings-one}
@@ -80,7 +80,7 @@ module _ (s : List ℕ) where
   unfolding readingText
   prints-reading (refused n p) e = on-refusal (refuses-iff s n p .0 e)
   prints-reading (read h notes) e =
-      let i = reads-iff s h notes .0 e in
+      let i = has-read e in
       let ok = lawful-history i in
       on-reading i (block-printed ok (omega arith) (omega arith)) (block-printed ok (omega arith) (omega arith)) (block-printed ok (omega arith) (omega arith))
 
@@ -91,10 +91,10 @@ module _ (s : List ℕ) where
   -- and nothing else is
   prints-one : {x y : List ℕ} → Prints s x → Prints s y → x ≡ y
   prints-one (on-refusal {n} {p} a) (on-refusal {n = m} {p = q} b) = let e = one-outcome s .one-refusal n p m q a b in rw (e .0, e .1)
-  prints-one (on-refusal {n} {p} a) (on-reading {h} {notes} r u v w) = absurd (one-outcome s .not-both n p h notes a r)
-  prints-one (on-reading {h} {notes} r u v w) (on-refusal {n} {p} a) = absurd (one-outcome s .not-both n p h notes a r)
-  prints-one (on-reading {h} {notes} r u v w) (on-reading {h = g} {notes = texts} q a b c) =
-      let e = one-outcome s .one-reading h g notes texts r q .0 in
+  prints-one (on-refusal {n} {p} a) (on-reading {h} r u v w) = absurd (one-outcome s .not-both n p h (r .notes) a (r .reads))
+  prints-one (on-reading {h} r u v w) (on-refusal {n} {p} a) = absurd (one-outcome s .not-both n p h (r .notes) a (r .reads))
+  prints-one (on-reading r u v w) (on-reading q a b c) =
+      let e = history-one r q in
       let ok = lawful-history r in
       rw (
         block-one ok (omega arith) (omega arith) u (rw (← e) at a),

@@ -10,7 +10,7 @@ use Rattle.rules.specs.Traces.{room}
 use Rattle.rules.specs.Cases.{Case, all, table, at-each}
 use Rattle.rules.specs.declared.Answer.{Answer}
 use Rattle.rules.proofs.Outcome.{verdictNo, ReportIs, says-declined, says-rejected, says-accepted, says}
-use Rattle.demand1.proofs.Readings.{one-outcome}
+use Rattle.demand1.proofs.Readings.{history-one}
 use Rattle.demand2.specs.Accepted.{AcceptsTrace}
 use Rattle.demand2.proofs.Accepted.{order-written-one}
 use Rattle.demand2.proofs.Traces.{accepted-trace, order-trace}
@@ -118,7 +118,7 @@ module _ (J : Judge) where
   pub not-inventing-counts : Meets3 J → InventsCounts J → ⊥
   not-inventing-counts m x =
       let a = m (x .bytes) (x .level) (x .fs) (x .ps) (x .os) .rejected (x .f) (x .p) .0 (x .says) in
-      let e = one-outcome (x .bytes) .one-reading (a .history) (x .history) (a .notes) (x .notes) (a .reads) (x .reads) .0 in
+      let e = history-one (a .reads) (x .reads) in
       let j : Rejects (x .history) (x .level) (x .f) (x .p) (length (x .fs)) (length (x .ps)) = rw e at (a .rejects) in
       x .wrong (number-one _<_ (λ i k u v. omega arith) (j .findings) (x .findings), number-one PairBefore before-never (j .pairs) (x .pairs))
 

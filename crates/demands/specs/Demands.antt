@@ -6,10 +6,9 @@ use mathlib.Core.List.{List}
 use mathlib.Core.Logic.{_↔_}
 use lib.ListN.{length}
 use Rattle.rules.specs.History.{History}
-use Rattle.rules.specs.Reading.{Stretch}
 use Rattle.rules.specs.Outcome.{declines, declining, rejecting, accepting, reported, outcome}
 use Rattle.rules.specs.declared.Answer.{Answer}
-use Rattle.demand1.specs.Rows.{ReadInto}
+use Rattle.demand1.specs.Rows.{HasHistory}
 use Rattle.demand2.specs.Kinds.{AllClean}
 use Rattle.demand2.specs.Axiom.{HasOrder}
 use Rattle.demand2.specs.Accepted.{AcceptsTrace, OrderWritten}
@@ -36,7 +35,7 @@ pub record Demand3 (s : List ℕ) (level : ℕ) (fs ps os : List ℕ) (r : Answe
   -- of each unclean read the list has the kind and, by document 02, the number of the write that its value came from (`FindingAt`, `WriteNumber`)
   pub listed : {f p : ℕ} (a : RejectsTrace s level f p (length fs) (length ps)) → ListsWritten (a .history) level f p fs ps os (outcome (reported r) F P O)
   -- the number of pairs that is answered is 0 exactly then
-  pub none-counted : {h : History} {notes : List Stretch} → 1 ≤ level → level ≤ 3 → ReadInto s h notes → AllClean h → (reported r .verdict ≡ declines → ⊥)
+  pub none-counted : {h : History} → 1 ≤ level → level ≤ 3 → HasHistory s h → AllClean h → (reported r .verdict ≡ declines → ⊥)
       → (reported r .pairs ≡ 0) ↔ HasOrder h level
 
 -- all three

@@ -4,10 +4,9 @@ use mathlib.Core.Path.{_≡_}
 use mathlib.Core.List.{List}
 use lib.ListN.{length}
 use Rattle.rules.specs.History.{History}
-use Rattle.rules.specs.Reading.{Stretch}
 use Rattle.rules.specs.Outcome.{Verdict, declines, rejecting, reported}
 use Rattle.rules.specs.declared.Answer.{Answer}
-use Rattle.demand1.specs.Rows.{ReadInto}
+use Rattle.demand1.specs.Rows.{HasHistory}
 use Rattle.demand3.specs.Rejected.{FindingCount, PairCount}
 use Rattle.demands.specs.Declined.{Declines}
 use Rattle.demands.specs.Demands.{Demand1, Demand2, Demand3}
@@ -69,8 +68,7 @@ module _ (J : Judge) where
     pub ps : List ℕ
     pub os : List ℕ
     pub history : History
-    pub notes : List Stretch
-    pub reads : ReadInto bytes history notes
+    pub reads : HasHistory bytes history
     pub f : ℕ
     pub p : ℕ
     pub says : reported (J bytes level fs ps os .answer) ≡ rejecting f p

@@ -5,10 +5,9 @@ use mathlib.Core.List.{List, [], _∷_, _++_}
 use lib.ListN.{length, take}
 use Rattle.rules.specs.Numbers.{over}
 use Rattle.rules.specs.History.{History, op}
-use Rattle.rules.specs.Reading.{Stretch}
 use Rattle.rules.specs.Outcome.{Pair}
 use Rattle.text.specs.Lines.{refusedLine, rejectedLine, acceptedLine, readLine, pairLine}
-use Rattle.demand1.specs.Rows.{Refuses, ReadInto}
+use Rattle.demand1.specs.Rows.{Refuses, HasHistory}
 use Rattle.demand2.specs.Kinds.{HasKind, AllClean}
 use Rattle.demand2.specs.Axiom.{FirstShown}
 use Rattle.demand3.specs.Forced.{Reasons}
@@ -37,7 +36,7 @@ pub data BlockPrinted (h : History) (level : ℕ) : List ℕ → Type 0 where
 -- "A refused trace prints only `refused NO PLACE`."
 pub data Prints (s : List ℕ) : List ℕ → Type 0 where
   on-refusal : {n p : ℕ} → Refuses s n p → Prints s (refusedLine n p)
-  on-reading : {h : History} {notes : List Stretch} {x y z : List ℕ} → ReadInto s h notes → BlockPrinted h 1 x → BlockPrinted h 2 y → BlockPrinted h 3 z
+  on-reading : {h : History} {x y z : List ℕ} → HasHistory s h → BlockPrinted h 1 x → BlockPrinted h 2 y → BlockPrinted h 3 z
       → Prints s (x ++ (y ++ z))
 
 -- of the trace s that text was put over o, as far as o reaches, which made b of it; n, which is answered, is its length

@@ -15,11 +15,10 @@ use Rattle.base.proofs.Rows.{RowsCounted, fit-append, fit-behind, fit-most, fit
 use Rattle.rules.specs.Numbers.{le}
 use Rattle.rules.specs.History.{History, current}
 use Rattle.rules.specs.Records.{lenAt, kindAt, nextAt, isSecond, eventAt, breaks, isUnknown, isMisfit, isLate, isOtherEdition, frameRows}
-use Rattle.rules.specs.Reading.{State, begin, eventIn, stepRows, isEnd, met, refusalNo, after, Stretch, Reading, refused, read, finished, walk, reading}
+use Rattle.rules.specs.Reading.{State, begin, eventIn, stepRows, isEnd, met, refusalNo, after, Reading, refused, read, finished, walk, reading}
 use Rattle.rules.specs.Outcome.{judged}
-use Rattle.rules.specs.Notes.{noted}
 use Rattle.rules.proofs.Meeting.{met-first}
-use Rattle.editions.specs.First.{firstUnknown, firstMisfit, firstEvent, firstRows, firstNo, firstAfter, firstWalk, firstReading, firstJudged, firstNoted}
+use Rattle.editions.specs.First.{firstUnknown, firstMisfit, firstEvent, firstRows, firstNo, firstAfter, firstWalk, firstReading, firstJudged}
 
 -- rows behind the same ones
 fit-front : (l rs qs : List Row) → firstFit rs ≡ firstFit qs → firstFit (l ++ rs) ≡ firstFit (l ++ qs)
@@ -244,7 +243,7 @@ module _ (s : List ℕ) (first : isSecond s ≡ false) where
       (λ l. let q : l .place ≡ p = ap placeOf (sym (l .was .0) ∙ e) in rw q at (l .is)) kept
 
   -- whatever trace is read, into whatever history and notes, was read so
-  pub read-as-before : (h : History) (notes : List Stretch) → (reading s ≡ read h notes) ↔ (firstReading s ≡ read h notes)
+  pub read-as-before : (h : History) (notes : ℕ) → (reading s ≡ read h notes) ↔ (firstReading s ≡ read h notes)
   read-as-before h notes =
       ⊎-elim (λ x. (λ e. sym (x .is) ∙ e, λ e. x .is ∙ e))
       (λ l. (
@@ -256,7 +255,3 @@ module _ (s : List ℕ) (first : isSecond s ≡ false) where
   pub judged-as-before : NoneLate → (level : ℕ) (fs ps os : List ℕ) → judged s level fs ps os ≡ firstJudged s level fs ps os
   unfolding judged firstJudged
   judged-as-before d level fs ps os = rw (as-before d)
-
-  pub noted-as-before : NoneLate → (k : ℕ) → noted s k ≡ firstNoted s k
-  unfolding noted firstNoted
-  noted-as-before d k = rw (as-before d)

@@ -2,15 +2,14 @@
 -- transaction, what an event enters.
 use Prim.Native.Nat.{ℕ, zero, suc, _+_}
 use mathlib.Core.Bool.{Bool, false}
-use mathlib.Core.List.{List, [], _∷_, _++_}
+use mathlib.Core.List.{List, [], _∷_}
 use lib.ListN.{length, getD}
 use lib.Dec.{ltb}
 use Rattle.base.specs.Base.{_or_, pick, Row, row, firstFit}
 use Rattle.rules.specs.History.{current}
 use Rattle.rules.specs.Records.{lenAt, kindAt, payloadAt, nextAt, nextSerial, eventOf, breaks}
-use Rattle.rules.specs.Reading.{State, begin, stepRows, entered, isEnd, textAt, Reading, refused, finished}
+use Rattle.rules.specs.Reading.{State, begin, stepRows, entered, isEnd, notesBehind, Reading, refused, finished}
 use Rattle.rules.specs.Outcome.{Outcome, outcome, declining, judgedRead, isLevel}
-use Rattle.rules.specs.Notes.{Noted, notedRead}
 use Rattle.rules.specs.declared.Event.{Event}
 
 -- ── the table of records ──
@@ -59,7 +58,7 @@ firstAfter s st =
       at = nextAt s (st .at);
       serial = nextSerial s (st .at);
       history = entered (st .history) (current (st .history)) (firstEvent s st);
-      notes = st .notes ++ textAt s (st .at) (firstEvent s st);
+      notes = notesBehind (st .notes) (firstEvent s st);
     }
 
 -- "record by record"; "After the end record, 11"
@@ -78,7 +77,3 @@ firstReading s = pick (ltb 32768 (length s)) (refused 2 32768) (firstWalk (lengt
 -- "Order: 1, 2, then record by record."
 unfoldable pub firstJudged : List ℕ → ℕ → List ℕ → List ℕ → List ℕ → Outcome
 firstJudged s level fs ps os = pick (isLevel level) (judgedRead (firstReading s) level fs ps os) (outcome (declining 1 0) fs ps os)
-
--- "Asking for a note has no level; it takes 2 to 11 and then 15"
-unfoldable pub firstNoted : List ℕ → ℕ → Noted
-firstNoted s k = notedRead (firstReading s) k

@@ -15,4 +15,4 @@ parts e = (ap (λ (z : Fill). z .answer) e, ap (λ (z : Fill). z .buffer) e)
 
 pub own : (s : List ℕ) → AllBytes s → (x o : List ℕ) (r : Filled) (B : List ℕ) → fillOf (said r) B ≡ rewritten s x o → OwnBytes s x o r B
 own s b x o r B e =
-    record { own = λ h f i l m. parts (e ∙ own-again s b f i x o l m); second = λ h notes t i. parts (e ∙ second-again s t i x o) }
+    record { own = λ h f i l m. parts (e ∙ own-again s b f i x o l m); second = λ h t i. parts (e ∙ second-again s t i x o) }

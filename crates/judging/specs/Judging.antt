@@ -5,7 +5,7 @@ use mathlib.Core.List.{List}
 use lib.ListN.{length}
 use Rattle.theory.specs.Leads.{via}
 use Rattle.rules.specs.History.{History, size}
-use Rattle.rules.specs.Reading.{Stretch, read}
+use Rattle.rules.specs.Reading.{read}
 use Rattle.rules.specs.Outcome.{findings, reported, outcome, acceptance, rejection, judgedRead}
 use Rattle.rules.specs.declared.Answer.{Answer}
 use Rattle.table.specs.Table.{historyOf}
@@ -46,4 +46,4 @@ pub record OnRejection (h : History) (level : ℕ) (f p f2 p2 : List ℕ) (r : A
 
 -- on either, of a trace that was read
 pub record OnReading (h : History) (level : ℕ) (f p o f2 p2 o2 : List ℕ) (r : Answer) : Type 0 where
-  pub is : (notes : List Stretch) → outcome (reported r) f2 p2 o2 ≡ judgedRead (read h notes) level f p o
+  pub is : (notes : ℕ) → outcome (reported r) f2 p2 o2 ≡ judgedRead (read h notes) level f p o

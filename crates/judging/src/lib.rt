@@ -235,10 +235,10 @@ pub fn judge(
         return Answer::Refused(1, 0);
     }
     let mut h = [0u64; WORDS];
-    let read = trace::read_trace(trace, 0, &mut h);
+    let read = trace::read_trace(trace, &mut h);
     match read {
         Out::Bad(no, place) => Answer::Refused(no, place),
-        Out::Good(_, _, _) => {
+        Out::Good(_) => {
             settling::settle(&mut h);
             judge_history(&h, level, findings, pairs, order)
         }

@@ -9,8 +9,8 @@ use borrow.Author.Tests.{ne-eqb}
 use Rattle.base.proofs.Fill.{Appended}
 use Rattle.rules.specs.History.{History, tx, txCount, opCount, isOpen}
 use Rattle.rules.specs.Records.{isSecond}
-use Rattle.rules.specs.Reading.{Stretch, read, reading}
-use Rattle.demand1.proofs.Readings.{reads-iff}
+use Rattle.rules.specs.Reading.{read, reading}
+use Rattle.demand1.proofs.Readings.{has-read}
 use Rattle.demand1.proofs.Lawful.{over-most, lawful-history}
 use Rattle.table.specs.Table.{historyOf}
 use Rattle.trace.specs.declared.Out.{Out}
@@ -53,30 +53,30 @@ module _ {h : History} (w : Listable h) {n k : ℕ} (q : k ≡ 2 * txCount h + o
 
 -- ── the trace's reading ──
 
-listable : (s : List ℕ) → isSecond s ≡ false → {h : History} {notes : List Stretch} → reading s ≡ read h notes → Listable h
+listable : (s : List ℕ) → isSecond s ≡ false → {h : History} {notes : ℕ} → reading s ≡ read h notes → Listable h
 unfolding isOpen
-listable s first {h} {notes} e =
-    let r = reads-iff s h notes .0 e in
+listable s first {h} e =
+    let r = has-read e in
     let w = lawful-history r in
     record {
       none-open = λ t a b. ne-eqb (tx h t .status) 3 (λ i. omega (arith, over-most (w .is-over t (record { from = a; to = b }))));
       many = let g = read-grown first r in omega (arith, counts (g .0) .steps, open-none h (g .1));
-      long = listing-length s first h notes e;
+      long = listing-length s first r;
     }
 
-module _ {s g g₀ : List ℕ} {r : Out} {k : ℕ} (x : TraceRead r g g₀ s k) where
+module _ {s g g₀ : List ℕ} {r : Out} (x : TraceRead r g g₀ s) where
   pub call-refused : (n p : ℕ) → r ≡ Bad n p → (out : List ℕ) → fillOf (said (Refused n p)) out ≡ stepped s out
   unfolding said
   call-refused n p q out = sym (listed-refused s out (read-bad x q))
 
   -- one that was read, whose edition is told by b
-  module _ {n a l : ℕ} (q : r ≡ Good n a l) {b : Bool} (e : b ≡ isSecond s) where
+  module _ {n : ℕ} (q : r ≡ Good n) {b : Bool} (e : b ≡ isSecond s) where
     pub call-second : b ≡ true → (out : List ℕ) → fillOf (said (Refused 6 0)) out ≡ stepped s out
     unfolding said
-    call-second t out = sym (listed-second s out (read-good x q .is) (sym e ∙ t))
+    call-second t out = sym (listed-second s out (read-good x q) (sym e ∙ t))
 
     pub call-listable : b ≡ false → Listable (historyOf g)
-    call-listable t = listable s (sym e ∙ t) (read-good x q .is)
+    call-listable t = listable s (sym e ∙ t) (read-good x q)
 
     pub call-first : b ≡ false → {v : Said} (out : List ℕ) {out2 : List ℕ} → fillOf v out2 ≡ into (content (allBytes (historyOf g))) out → fillOf v out2 ≡ stepped s out
-    call-first t out d = d ∙ sym (listed-first s out (read-good x q .is) (sym e ∙ t))
+    call-first t out d = d ∙ sym (listed-first s out (read-good x q) (sym e ∙ t))

@@ -41,10 +41,10 @@ pub fn list_steps(trace: &[u8], out: &mut [u8]) -> Filled
     ensures { λ r. ⌜ fillOf (said r) (now (out .exit)) ≡ stepped (now (trace .entry)) (now (out .entry)) ⌝ }
 {
     let mut h = [0u64; WORDS];
-    let read = trace::read_trace(trace, 0, &mut h);
+    let read = trace::read_trace(trace, &mut h);
     match read {
         Out::Bad(no, place) => Filled::Refused(no, place),
-        Out::Good(_, _, _) => {
+        Out::Good(_) => {
             if frame::is_second(trace) {
                 return Filled::Refused(6, 0);
             }

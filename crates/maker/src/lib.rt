@@ -72,7 +72,7 @@ fn number_in(next: Next) -> u8
     match next {
         Next::Refuse(no) => no,
         Next::Go => 0,
-        Next::Text => 0,
+        Next::Count => 0,
         Next::Done => 0,
     }
 }

@@ -3,4 +3,5 @@ pub mod Records
 pub mod Spelt
 pub mod Moved
 pub mod Moves
+pub mod Tally
 pub mod Back

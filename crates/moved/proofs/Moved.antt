@@ -1,5 +1,5 @@
 -- What is moved is what the request says: it is read, in the wanted edition, and is judged alike.
-use Prim.Native.Nat.{ℕ, _+_, _^_, _<_}
+use Prim.Native.Nat.{ℕ, _^_, _<_}
 use mathlib.Core.Path.{_≡_, ap, sym, _∙_}
 use mathlib.Core.Bool.{Bool, true, false}
 use mathlib.Core.List.{List, [], _∷_, _++_, map}
@@ -8,13 +8,12 @@ use lib.ListN.{length}
 use Rattle.base.proofs.Tests.{is-false}
 use Rattle.rules.specs.History.{History, txCount}
 use Rattle.rules.specs.Records.{isSecond}
-use Rattle.rules.specs.Reading.{Stretch}
 use Rattle.rules.specs.Traces.{trace}
 use Rattle.rules.specs.declared.Event.the-variants.{End}
 use Rattle.demand1.specs.Lawful.{LawfulHistory}
-use Rattle.demand1.specs.Rows.{serial, ReadInto}
+use Rattle.demand1.specs.Rows.{serial, ReadInto, HasHistory}
 use Rattle.demand1.proofs.Lawful.{lawful-history}
-use Rattle.demand1.proofs.Readings.{reads-iff}
+use Rattle.demand1.proofs.Readings.{has-history}
 use Rattle.writing.specs.Listing.{historySteps}
 use Rattle.writing.specs.Forms.{mark, itemIn, preamble, wholeOf}
 use Rattle.writing.proofs.Grown.{Grown}
@@ -36,7 +35,7 @@ use Rattle.moved.specs.Moved.{Moved, movedLength}
 use Rattle.moved.proofs.Renumbered.{renumbers}
 use Rattle.moved.proofs.Records.{records-are}
 
-module _ (second : Bool) (s : List ℕ) (b : AllBytes s) {h : History} {notes : List Stretch} (r : ReadInto s h notes) where
+module _ (second : Bool) (s : List ℕ) (b : AllBytes s) {h : History} (r : HasHistory s h) where
   lawful : LawfulHistory h
   lawful = lawful-history r
 
@@ -61,7 +60,7 @@ module _ (second : Bool) (s : List ℕ) (b : AllBytes s) {h : History} {notes : 
   unfolding movedTrace
   moved-as = rw same-whole
 
-  moved-read : ReadInto (movedTrace second (serial s 0) h) (asBlocks h) []
+  moved-read : ReadInto (movedTrace second (serial s 0) h) (asBlocks h) 0
   moved-read = rw moved-as (read-back-in second (serial s 0) low grown (blocks-over lawful) slim)
 
   pub moved-length : length (movedTrace second (serial s 0) h) ≡ movedLength second h
@@ -80,7 +79,6 @@ module _ (second : Bool) (s : List ℕ) (b : AllBytes s) {h : History} {notes : 
   is-moved d =
       record {
         history = h;
-        notes = notes;
         reads = r;
         wanted = rw moved-as (wanted-edition second (serial s 0) (asBlocks h));
         moved-history = asBlocks h;
@@ -90,7 +88,7 @@ module _ (second : Bool) (s : List ℕ) (b : AllBytes s) {h : History} {notes : 
         same-history = same-history d;
         same-case =
             record {
-              alike = traces-alike (renumbers lawful) s (movedTrace second (serial s 0) h) (reads-iff s h notes .1 r) (reads-iff _ (asBlocks h) [] .1 moved-read);
+              alike = traces-alike (renumbers lawful) s (movedTrace second (serial s 0) h) r (has-history moved-read);
               findings = same-findings lawful (renumbers lawful);
             };
       }

@@ -10,9 +10,9 @@ use Rattle.base.proofs.Tests.{clash, ifso, is-false, split}
 use Rattle.rules.specs.Numbers.{over}
 use Rattle.rules.specs.History.{History}
 use Rattle.rules.specs.Records.{isSecond}
-use Rattle.rules.specs.Reading.{Stretch, Reading, refused, read, reading}
-use Rattle.demand1.specs.Rows.{serial, ReadInto}
-use Rattle.demand1.proofs.Readings.{refuses-iff, reads-iff, one-outcome}
+use Rattle.rules.specs.Reading.{Reading, refused, read, reading}
+use Rattle.demand1.specs.Rows.{serial, HasHistory}
+use Rattle.demand1.proofs.Readings.{refuses-iff, has-read, read-has, history-one}
 use Rattle.writing.specs.Filling.{refusing, answering, said, fillOf}
 use Rattle.writing.specs.Forms.{wholeOf}
 use Rattle.writing.specs.declared.Filled.{Filled}
@@ -29,29 +29,26 @@ use Rattle.moved.proofs.Moved.{moved-length, is-moved}
 module _ (second : Bool) (s : List ℕ) (b : AllBytes s) (o : List ℕ) where
   -- ── the definition's cases ──
 
-  module _ {h : History} {notes : List Stretch} (r : ReadInto s h notes) where
-    as-read : reading s ≡ read h notes
-    as-read = reads-iff s h notes .1 r
+  same-test : isSecond s ≡ second → isSame (isSecond s) second ≡ true
+  same-test e = same-iff (isSecond s) second .1 e
 
-    same-test : isSecond s ≡ second → isSame (isSecond s) second ≡ true
-    same-test e = same-iff (isSecond s) second .1 e
+  other-test : (isSecond s ≡ second → ⊥) → isSame (isSecond s) second ≡ false
+  other-test d = is-false (isSame (isSecond s) second) (λ t. d (same-iff (isSecond s) second .0 t))
 
-    other-test : (isSecond s ≡ second → ⊥) → isSame (isSecond s) second ≡ false
-    other-test d = is-false (isSame (isSecond s) second) (λ t. d (same-iff (isSecond s) second .0 t))
-
+  module _ {h : History} (r : HasHistory s h) where
     same-fits : isSecond s ≡ second → length s ≤ length o → movedTo second s o ≡ fillOf (answering (length s)) (over s o)
-    same-fits e l = moved-same second s o as-read (same-test e) ∙ into-fits s o l
+    same-fits e l = moved-same second s o (read-has r) (same-test e) ∙ into-fits s o l
 
     pub moved-fits : (isSecond s ≡ second → ⊥) → movedLength second h ≤ length o
         → movedTo second s o ≡ fillOf (answering (length (movedTrace second (serial s 0) h))) (over (movedTrace second (serial s 0) h) o)
-    moved-fits d l = moved-other second s o as-read (other-test d) ∙ into-fits (movedTrace second (serial s 0) h) o (omega (arith, moved-length second s b r))
+    moved-fits d l = moved-other second s o (read-has r) (other-test d) ∙ into-fits (movedTrace second (serial s 0) h) o (omega (arith, moved-length second s b r))
 
   declined-is : (m p : ℕ) → MoveDeclines second s (length o) m p → movedTo second s o ≡ fillOf (refusing m p) o
   declined-is m p (trace-refused {n} {at} x) = moved-refused second s o (refuses-iff s n at .1 x)
-  declined-is m p (unchanged-short e r l) = moved-same second s o (as-read r) (same-test r e) ∙ into-short s o l
+  declined-is m p (unchanged-short e r l) = moved-same second s o (read-has r) (same-test e) ∙ into-short s o l
   declined-is m p (moved-short {h} d r l) =
       let n = moved-length second s b r in
-      moved-other second s o (as-read r) (other-test r d) ∙ into-short (movedTrace second (serial s 0) h) o (omega (arith, n)) ∙ ap (λ (x : ℕ). fillOf (refusing 16 x) o) n
+      moved-other second s o (read-has r) (other-test d) ∙ into-short (movedTrace second (serial s 0) h) o (omega (arith, n)) ∙ ap (λ (x : ℕ). fillOf (refusing 16 x) o) n
 
   -- ── the promise ──
 
@@ -64,7 +61,7 @@ module _ (second : Bool) (s : List ℕ) (b : AllBytes s) (o : List ℕ) where
       by : (x : Reading) → reading s ≡ x → Out
       by (refused n p) e = declining n p (trace-refused (refuses-iff s n p .0 e))
       by (read h notes) e =
-          let r = reads-iff s h notes .0 e in
+          let r = has-read e in
           ifso (isSame (isSecond s) second)
           (λ t.
           let q = same-iff (isSecond s) second .0 t in
@@ -87,7 +84,7 @@ module _ (second : Bool) (s : List ℕ) (b : AllBytes s) (o : List ℕ) where
 -- two traces that s was moved to: their records are those of one history
 moved-one : {second : Bool} {s : List ℕ} (x y : List ℕ) → Moved second s x → Moved second s y → x ≡ y
 moved-one {second} {s} x y a c =
-    let h : c .history ≡ a .history = one-outcome s .one-reading (c .history) (a .history) (c .notes) (a .notes) (c .reads) (a .reads) .0 in
+    let h : c .history ≡ a .history = history-one (c .reads) (a .reads) in
     let q : RecordsAre y (serial s 0) (wholeOf second (a .history)) = rw h at (c .records) in
     records-one x y (a .wanted) (c .wanted) (a .records) q
 

@@ -1,20 +1,24 @@
--- Document 02, request Five, in its own terms, apart from the functions that compute: what comes out of a move, and when it is refused.
+-- Document 02, requests Five and Six, in their own terms, apart from the functions that compute: what comes out of a move, when it is refused, and how many
+-- notes are then told.
 use Prim.Native.Nat.{ℕ, _+_, _*_, _<_, _≤_}
 use mathlib.Core.Path.{_≡_}
 use mathlib.Core.Bool.{Bool, true, false}
-use mathlib.Core.List.{List, []}
+use mathlib.Core.List.{List}
 use lib.ListN.{length}
 use Rattle.rules.specs.History.{History, op, txCount, opCount}
 use Rattle.rules.specs.Records.{isSecond}
-use Rattle.rules.specs.Reading.{Stretch}
 use Rattle.rules.specs.Outcome.{judged}
 use Rattle.demand1.specs.Lawful.{IsOp}
-use Rattle.demand1.specs.Rows.{serial, Refuses, ReadInto}
+use Rattle.demand1.specs.Rows.{serial, Refuses, ReadInto, HasHistory}
 use Rattle.writing.specs.Forms.{wholeOf}
 use Rattle.writing.specs.declared.Filled.{Filled}
 use Rattle.written.specs.Fills.{Fills}
 use Rattle.renumbering.specs.Renumbering.{Renumbers, SameFindings, JudgedAlike}
 use Rattle.moving.specs.Renumbering.{newNumber, oldNumber}
+use Rattle.moving.specs.Tally.{filledOf}
+use Rattle.moving.specs.declared.Tallied.{Tallied}
+use Rattle.moving.specs.declared.Tallied.the-variants as T
+use Rattle.noteless.specs.Texts.{NoteCount}
 use Rattle.moved.specs.Records.{RecordsAre}
 
 -- g has the transactions of h as "blocks in order of opening", each with its own operations in their order: operation i of h has become operation
@@ -31,12 +35,11 @@ pub record SameCase (s b : List ℕ) (h g : History) : Type 0 where
 -- b is the trace s, moved to edition 2 or 1
 pub record Moved (second : Bool) (s b : List ℕ) : Type 0 where
   pub history : History
-  pub notes : List Stretch
-  pub reads : ReadInto s history notes
+  pub reads : HasHistory s history
   -- it is of the wanted edition, and is read; "Notes are left out"
   pub wanted : isSecond b ≡ second
   pub moved-history : History
-  pub moved-reads : ReadInto b moved-history []
+  pub moved-reads : ReadInto b moved-history 0
   -- "The first serial is kept and the rest follow it": record by record
   pub records : RecordsAre b (serial s 0) (wholeOf second history)
   -- "Going back, transactions become blocks in order of opening"; going to edition 2 they are blocks as they were
@@ -47,7 +50,7 @@ pub record Moved (second : Bool) (s b : List ℕ) : Type 0 where
 -- what comes out of moving s
 pub data ComesOut (second : Bool) (s : List ℕ) : List ℕ → Type 0 where
   -- "A trace already in the wanted edition comes out unchanged, notes too."
-  unchanged : {h : History} {notes : List Stretch} → isSecond s ≡ second → ReadInto s h notes → ComesOut second s s
+  unchanged : {h : History} → isSecond s ≡ second → HasHistory s h → ComesOut second s s
   was-moved : {b : List ℕ} → (isSecond s ≡ second → ⊥) → Moved second s b → ComesOut second s b
 
 -- the bytes of a trace without notes: in edition 1 an open has 10, a read or a write 20, a close 9, the end 10; in edition 2 there are 10 more before them, a
@@ -59,10 +62,22 @@ movedLength true h = 21 * txCount h + 22 * opCount h + 20
 -- moving s, with a buffer of o bytes, is refused with this number and place: "Refusals: 01's for the input, then 16 for the output."
 pub data MoveDeclines (second : Bool) (s : List ℕ) (o : ℕ) : ℕ → ℕ → Type 0 where
   trace-refused : {n at : ℕ} → Refuses s n at → MoveDeclines second s o n at
-  unchanged-short : {h : History} {notes : List Stretch} → isSecond s ≡ second → ReadInto s h notes → o < length s → MoveDeclines second s o 16 (length s)
-  moved-short : {h : History} {notes : List Stretch} → (isSecond s ≡ second → ⊥) → ReadInto s h notes → o < movedLength second h
+  unchanged-short : {h : History} → isSecond s ≡ second → HasHistory s h → o < length s → MoveDeclines second s o 16 (length s)
+  moved-short : {h : History} → (isSecond s ≡ second → ⊥) → HasHistory s h → o < movedLength second h
       → MoveDeclines second s o 16 (movedLength second h)
 
 -- what is promised of moving the trace s, in a buffer that held o
 abbrev pub Moves : Bool → List ℕ → List ℕ → Filled → List ℕ → Type 0
 Moves second s o = Fills (MoveDeclines second s (length o)) (ComesOut second s) o
+
+-- "The move to edition 2 now also answers how many notes the trace had": with a length, not with a refusal
+pub data NotesTold (s : List ℕ) : Tallied → Type 0 where
+  with-refusal : (n p : ℕ) → NotesTold s (T.Refused n p)
+  with-length : (n k : ℕ) → NoteCount s k → NotesTold s (T.Length n k)
+
+-- what is promised of moving s to edition 2, in a buffer that held o
+pub record MovesToSecond (s o : List ℕ) (r : Tallied) (b : List ℕ) : Type 0 where
+  pub moves : Moves true s o (filledOf r) b
+  pub notes : NotesTold s r
+  -- a trace that is edition 2 already had none
+  pub second-none : isSecond s ≡ true → (n k : ℕ) → r ≡ T.Length n k → k ≡ 0

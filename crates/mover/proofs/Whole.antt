@@ -10,11 +10,11 @@ use Rattle.base.proofs.Fill.{Appended}
 use Rattle.rules.specs.Numbers.{le}
 use Rattle.rules.specs.History.{History, tx, txCount, opCount, isOpen}
 use Rattle.rules.specs.Records.{serialAt}
-use Rattle.rules.specs.Reading.{Stretch, read, reading}
+use Rattle.rules.specs.Reading.{read, reading}
 use Rattle.rules.specs.Traces.{trace}
 use Rattle.rules.specs.declared.Event.the-variants.{End}
 use Rattle.demand1.specs.Lawful.{LawfulHistory}
-use Rattle.demand1.proofs.Readings.{reads-iff}
+use Rattle.demand1.proofs.Readings.{has-read}
 use Rattle.demand1.proofs.Lawful.{over-most, lawful-history}
 use Rattle.writing.specs.declared.Form.{Form}
 use Rattle.writing.specs.Listing.{historySteps}
@@ -47,8 +47,8 @@ lawful-movable second {h} w =
       long = λ n k. whole-size second n k h (blocks-grown w) (blocks-over w) ∙ ap (wholeSize second (txCount h)) (blocks-count w);
     }
 
-pub movable : (second : Bool) (s : List ℕ) {h : History} {notes : List Stretch} → reading s ≡ read h notes → Movable second h
-movable second s {h} {notes} e = lawful-movable second (lawful-history (reads-iff s h notes .0 e))
+pub movable : (second : Bool) (s : List ℕ) {h : History} {notes : ℕ} → reading s ≡ read h notes → Movable second h
+movable second s e = lawful-movable second (lawful-history (has-read e))
 
 -- ── its parts, from the last to the first, where its form and its number of transactions are known from elsewhere ──
 

@@ -6,13 +6,16 @@ ghost use lib.ListN.{length};
 ghost use Rattle.rules.specs.History.{txCount, opCount};
 ghost use Rattle.rules.specs.Records.{serialAt};
 ghost use Rattle.table.specs.Table.{historyOf, Held};
-ghost use Rattle.writing.specs.Filling.{said, fillOf, Gives, content, into};
+ghost use Rattle.rules.specs.Reading.{reading, notesOf};
+ghost use Rattle.writing.specs.Filling.{Gives, content, into};
 ghost use Rattle.writing.specs.Forms.{formOf, preamble, wholeOf};
 ghost use Rattle.writing.proofs.Sizes.{wholeSize};
 ghost use Rattle.blocks.specs.Blocks.{PutBefore, RoomBefore};
 ghost use Rattle.moving.specs.Moving.{isSame, movedTrace, movedTo};
+ghost use Rattle.moving.specs.Tally.{talliedFill, filledOf, withNotes, movedToSecond, GivesTallied};
 ghost use Rattle.mover.specs.Mover.{wholeCount, Movable};
 use blocks::Place;
+use moving::Tallied;
 use rules::Event;
 use trace::Out;
 use writing::Filled;
@@ -33,15 +36,15 @@ fn is_same(is: bool, second: bool) -> bool
 }
 
 // "A trace already in the wanted edition comes out unchanged, notes too."
-fn put_same(trace: &[u8], out: &mut [u8]) -> Filled
-    ensures { λ r. ⌜ fillOf (said r) (now (out .exit)) ≡ into (content (now (trace .entry))) (now (out .entry)) ⌝ }
+fn put_same(trace: &[u8], notes: usize, out: &mut [u8]) -> Tallied
+    ensures { λ r. ⌜ talliedFill r (now (out .exit)) ≡ withNotes (into (content (now (trace .entry))) (now (out .entry))) notes ⌝ }
 {
     let n = trace.len();
     if out.len() < n {
-        return Filled::Refused(16, n);
+        return Tallied::Refused(16, n);
     }
     copying::copy(trace, n, out);
-    Filled::Length(n)
+    Tallied::Length(n, notes)
 }
 
 // ── one that is not ──
@@ -101,14 +104,14 @@ fn put_whole(h: &[u64], second: bool, first: u32, out: &mut [u8], place: Place) 
 }
 
 // "The first serial is kept and the rest follow it. Notes are left out."
-fn put_moved(trace: &[u8], h: &[u64], second: bool, out: &mut [u8]) -> Filled
+fn put_moved(trace: &[u8], h: &[u64], notes: usize, second: bool, out: &mut [u8]) -> Tallied
     requires { ⌜ Held (now h) × Movable second (historyOf (now h)) × (8 ≤ length (now trace)) ⌝ }
-    ensures { λ r. ⌜ fillOf (said r) (now (out .exit)) ≡ into (content (movedTrace second (serialAt (now (trace .entry)) 0) (historyOf (now (h .entry))))) (now (out .entry)) ⌝ }
+    ensures { λ r. ⌜ talliedFill r (now (out .exit)) ≡ withNotes (into (content (movedTrace second (serialAt (now (trace .entry)) 0) (historyOf (now (h .entry))))) (now (out .entry))) notes ⌝ }
 {
     let first = frame::u32_at(trace, 4);
     let n = moved_length(h, second);
     if out.len() < n {
-        return Filled::Refused(16, n);
+        return Tallied::Refused(16, n);
     }
     let count = moved_count(h, second);
     put_whole(
@@ -121,25 +124,35 @@ fn put_moved(trace: &[u8], h: &[u64], second: bool, out: &mut [u8]) -> Filled
             count: count,
         },
     );
-    Filled::Length(n)
+    Tallied::Length(n, notes)
 }
 
 // ── the calls ──
 
 // To edition 2 or 1: "Refusals: 01's for the input, then 16 for the output."
-fn move_to(second: bool, trace: &[u8], out: &mut [u8]) -> Filled
-    ensures { λ r. ⌜ fillOf (said r) (now (out .exit)) ≡ movedTo second (now (trace .entry)) (now (out .entry)) ⌝ }
+fn move_to(second: bool, trace: &[u8], out: &mut [u8]) -> Tallied
+    ensures { λ r. ⌜ talliedFill r (now (out .exit)) ≡ withNotes (movedTo second (now (trace .entry)) (now (out .entry))) (notesOf (reading (now (trace .entry)))) ⌝ }
 {
     let mut h = [0u64; WORDS];
-    let read = trace::read_trace(trace, 0, &mut h);
+    let read = trace::read_trace(trace, &mut h);
     match read {
-        Out::Bad(no, place) => Filled::Refused(no, place),
-        Out::Good(_, _, _) => {
+        Out::Bad(no, place) => Tallied::Refused(no, place),
+        Out::Good(notes) => {
             if is_same(frame::is_second(trace), second) {
-                return put_same(trace, out);
+                return put_same(trace, notes, out);
             }
-            put_moved(trace, &h, second, out)
+            put_moved(trace, &h, notes, second, out)
         }
+    }
+}
+
+// A move to edition 1 does not answer the notes.
+fn filled(answer: Tallied) -> Filled
+    ensures { λ r. ⌜ r ≡ filledOf answer ⌝ }
+{
+    match answer {
+        Tallied::Refused(no, place) => Filled::Refused(no, place),
+        Tallied::Length(n, _) => Filled::Length(n),
     }
 }
 
@@ -148,12 +161,12 @@ fn move_to(second: bool, trace: &[u8], out: &mut [u8]) -> Filled
 pub fn to_edition_1(trace: &[u8], out: &mut [u8]) -> Filled
     ensures { λ r. ⌜ Gives r (now (out .exit)) (movedTo false (now (trace .entry)) (now (out .entry))) ⌝ }
 {
-    move_to(false, trace, out)
+    filled(move_to(false, trace, out))
 }
 
-// .. moved to edition 2.
-pub fn to_edition_2(trace: &[u8], out: &mut [u8]) -> Filled
-    ensures { λ r. ⌜ Gives r (now (out .exit)) (movedTo true (now (trace .entry)) (now (out .entry))) ⌝ }
+// .. moved to edition 2, and answers how many notes the trace had.
+pub fn to_edition_2(trace: &[u8], out: &mut [u8]) -> Tallied
+    ensures { λ r. ⌜ GivesTallied r (now (out .exit)) (movedToSecond (now (trace .entry)) (now (out .entry))) ⌝ }
 {
     move_to(true, trace, out)
 }

@@ -5,3 +5,4 @@ pub mod Growing
 pub mod Turns
 pub mod Grown
 pub mod Moving
+pub mod Tally

@@ -7,7 +7,7 @@ use mathlib.Core.Logic.{_↔_}
 use Rattle.base.specs.Base.{pick}
 use Rattle.rules.specs.History.{History}
 use Rattle.rules.specs.Records.{serialAt, isSecond}
-use Rattle.rules.specs.Reading.{Stretch, refused, read, reading}
+use Rattle.rules.specs.Reading.{refused, read, reading}
 use Rattle.writing.specs.declared.Filled.{Filled}
 use Rattle.writing.specs.Filling.{refusing, said, content, fillOf, Gives, into}
 use Rattle.writing.proofs.Within.{filled-within}
@@ -32,7 +32,7 @@ module _ (second : Bool) (s o : List ℕ) where
   gives-moved r b e = record { is = e; within = filled-within (said r) b (movedRead second s (reading s)) o e }
 
   -- one that is read, of the wanted edition and of the other
-  module _ {h : History} {notes : List Stretch} (e : reading s ≡ read h notes) where
+  module _ {h : History} {notes : ℕ} (e : reading s ≡ read h notes) where
     pub moved-same : isSame (isSecond s) second ≡ true → movedTo second s o ≡ into (content s) o
     unfolding movedTo movedRead pick
     moved-same t = rw (e, t)

@@ -1,5 +1,5 @@
 -- Request Five's cases: both directions with their bytes, what comes out unchanged, every way of being refused, and what becomes of operation numbers, orders,
--- pairs and findings. As in document 01's tables: a table and one statement each.
+-- pairs and findings; and request Six's: how many notes there were. As in document 01's tables: a table and one statement each.
 use Prim.Native.Nat.{ℕ}
 use mathlib.Core.Path.{_≡_, refl}
 use mathlib.Core.Bool.{Bool, true, false}
@@ -13,6 +13,7 @@ use Rattle.writing.specs.Filling.{Fill}
 use Rattle.writing.specs.Forms.{itemWith, formBytes, formed, txBlock, blocksOf, preamble, wholeOf}
 use Rattle.writing.specs.Cases.{refusedIn, filledIn, as-written}
 use Rattle.moving.specs.Moving.{isSame, movedTrace, movedRead, movedTo}
+use Rattle.moving.specs.Tally.{withNotes, movedToSecond}
 use Rattle.moving.specs.Renumbering.{isOpOf, numbersOf, inBlocks, newNumber, oldNumber, asBlocks}
 
 -- ── traces ──
@@ -108,6 +109,43 @@ nowMoved c = moveCase (c .second) (c .bytes) (c .room) (movedTo (c .second) (c .
 unfoldable pub as-moved : map nowMoved moveTable ≡ moveTable
 unfolding as-written itemWith formBytes formed txBlock blocksOf preamble wholeOf isSame movedTrace movedRead movedTo place isOpOf numbersOf inBlocks newNumber oldNumber asBlocks
 as-moved = refl
+
+-- ── the notes ──
+
+-- a trace, the length of the buffer, and how many notes a move to edition 2 then answers
+pub record TallyCase : Type 0 where
+  pub bytes : List ℕ
+  pub room : ℕ
+  pub notes : ℕ
+
+abbrev tallyCase : List ℕ → ℕ → ℕ → TallyCase
+tallyCase s o n = record { bytes = s; room = o; notes = n }
+
+-- T1 w1=5 with a note before it, two inside and one behind it
+abbrev noteful : List ℕ
+noteful = trace 5 (note (7 ∷ []) ∷ opens 1 ∷ note [] ∷ w 1 5 ∷ note (1 ∷ 2 ∷ 3 ∷ []) ∷ closes 1 ∷ note [] ∷ ends 1 ∷ [])
+
+abbrev pub tallyTable : List TallyCase
+tallyTable =
+    tallyCase (P12 0) 250 0
+    ∷ tallyCase noteful 250 4
+    -- the longest text and the shortest
+    ∷ tallyCase (trace 0 (note (room 64) ∷ ends 0 ∷ [])) 250 1
+    ∷ tallyCase (trace 0 (note [] ∷ ends 0 ∷ [])) 250 1
+    -- a trace that is edition 2 already
+    ∷ tallyCase (P12overlapping 3) 250 0
+    -- refused, for its own sake and for the buffer's, which would have needed 63 bytes: none is told
+    ∷ tallyCase (noteful ++ (7 ∷ [])) 250 0
+    ∷ tallyCase noteful 62 0
+    ∷ tallyCase noteful 63 4
+    ∷ []
+
+abbrev pub nowTallied : TallyCase → TallyCase
+nowTallied c = tallyCase (c .bytes) (c .room) (movedToSecond (c .bytes) (room (c .room)) .notes)
+
+pub as-tallied : map nowTallied tallyTable ≡ tallyTable
+unfolding as-moved withNotes movedToSecond
+as-tallied = refl
 
 -- ── the numbers ──
 

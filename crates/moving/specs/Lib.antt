@@ -1,3 +1,4 @@
 pub mod Moving
+pub mod Tally
 pub mod Renumbering
 pub mod Cases

@@ -7,7 +7,7 @@ use native.Mathlib.Omega.{arith}
 use lib.ListN.{length, replicate, length-replicate}
 use Rattle.rules.specs.Numbers.{over}
 use Rattle.rules.specs.History.{History}
-use Rattle.rules.specs.Reading.{Reading, refused, read, reading, Stretch}
+use Rattle.rules.specs.Reading.{Reading, refused, read, reading}
 use Rattle.rules.specs.Outcome.{findings, findingList, pairs, pairList, order, declining, rejecting, accepting, Outcome, outcome, reported, isAccepted, judged}
 use Rattle.rules.specs.declared.Answer.{Answer}
 use Rattle.rules.specs.declared.Answer.the-variants.{Refused, Rejected, Accepted}
@@ -35,7 +35,7 @@ one-verdict e = ap (λ (o : Outcome). verdictNo (o .report .verdict)) e
 -- the reading q was accepted with an order of n bytes, which stand in O
 pub record AcceptedBy (q : Reading) (level n : ℕ) (O : List ℕ) : Type 0 where
   pub history : History
-  pub notes : List Stretch
+  pub notes : ℕ
   pub reads : q ≡ read history notes
   pub accepted : isAccepted history level ≡ true
   pub long : n ≡ length (order history level)
@@ -44,7 +44,7 @@ pub record AcceptedBy (q : Reading) (level n : ℕ) (O : List ℕ) : Type 0 wher
 -- the reading q was rejected with n findings and m pairs, which stand in F and P
 pub record RejectedBy (q : Reading) (level n m : ℕ) (F P : List ℕ) : Type 0 where
   pub history : History
-  pub notes : List Stretch
+  pub notes : ℕ
   pub reads : q ≡ read history notes
   pub rejected : isAccepted history level ≡ false
   pub found : n ≡ length (findings history)
@@ -57,9 +57,9 @@ module _ (s : List ℕ) (level : ℕ) (low : 1 ≤ level) (high : level ≤ 3) w
 
   data Comes : Outcome → Type 0 where
     comes-refused : {n at : ℕ} → reading s ≡ refused n at → Comes (outcome (declining n at) newFindings newPairs newOrder)
-    comes-accepted : {h : History} {notes : List Stretch} → reading s ≡ read h notes → isAccepted h level ≡ true
+    comes-accepted : {h : History} {notes : ℕ} → reading s ≡ read h notes → isAccepted h level ≡ true
         → Comes (outcome (accepting (length (order h level))) newFindings newPairs (over (order h level) newOrder))
-    comes-rejected : {h : History} {notes : List Stretch} → reading s ≡ read h notes → isAccepted h level ≡ false
+    comes-rejected : {h : History} {notes : ℕ} → reading s ≡ read h notes → isAccepted h level ≡ false
         → Comes (outcome (rejecting (length (findings h)) (length (pairs h level))) (over (findingList h) newFindings) (over (pairList h level) newPairs) newOrder)
 
   -- of the ways to an outcome: all that was worked out fits into the buffers

@@ -10,7 +10,7 @@ use Rattle.base.proofs.Searches.{listed-most, count-most, joined-one, joined-no
 use Rattle.theory.specs.Leads.{isListed}
 use Rattle.theory.proofs.Order.{unplaced-all, rest-bound, rest-below}
 use Rattle.rules.specs.History.{History, op, opCount, size, originOf, committed}
-use Rattle.rules.specs.Reading.{Reading, refused, read, reading, Stretch}
+use Rattle.rules.specs.Reading.{Reading, refused, read, reading}
 use Rattle.rules.specs.Reads.{kindOf, isFinding}
 use Rattle.rules.proofs.Kind.{kind-le}
 use Rattle.rules.proofs.Origin.{origin-less}
@@ -20,7 +20,7 @@ use Rattle.demand1.specs.Lawful.{LawfulHistory}
 use Rattle.demand1.specs.Rows.{Refuses, too-long, at-record, bytes-behind}
 use Rattle.demand1.proofs.Lawful.{lawful-history}
 use Rattle.demand1.proofs.Refusals.{number-most}
-use Rattle.demand1.proofs.Readings.{reached-within, refuses-iff, reads-iff}
+use Rattle.demand1.proofs.Readings.{reached-within, refuses-iff, has-read}
 use Rattle.text.specs.Lines.{rejectedLine, acceptedLine}
 use Rattle.text.specs.Answer.{findingText, pairText, blockText, readingText, answerText}
 use Rattle.text.proofs.Lines.{refused-length, rejected-length, accepted-length, read-length, pair-length}
@@ -141,8 +141,8 @@ refused-small (at-record {c = c} l r f) = (omega (arith, number-most c), omega (
 refused-small (bytes-behind l r p k b) = (omega arith, omega arith)
 
 -- what is read is lawful
-pub lawful-reading : (s : List ℕ) {h : History} {notes : List Stretch} → reading s ≡ read h notes → LawfulHistory h
-lawful-reading s {h} {notes} e = lawful-history (reads-iff s h notes .0 e)
+pub lawful-reading : (s : List ℕ) {h : History} {notes : ℕ} → reading s ≡ read h notes → LawfulHistory h
+lawful-reading s e = lawful-history (has-read e)
 
 reading-short : (s : List ℕ) (q : Reading) → reading s ≡ q → length (readingText q) ≤ 1048576
 unfolding readingText

@@ -4,11 +4,12 @@ use mathlib.Core.Path.{_≡_, refl}
 use mathlib.Core.List.{List}
 use Rattle.base.proofs.Tests.{pick-alike}
 use Rattle.rules.specs.History.{History}
-use Rattle.rules.specs.Reading.{read, reading, Stretch}
+use Rattle.rules.specs.Reading.{read}
 use Rattle.rules.specs.Outcome.{Outcome, acceptance, rejection, judgedRead, judged}
 use Rattle.demand1.specs.Lawful.{LawfulHistory}
+use Rattle.demand1.specs.Rows.{HasHistory}
 use Rattle.demand1.proofs.Lawful.{lawful-history}
-use Rattle.demand1.proofs.Readings.{reads-iff}
+use Rattle.demand1.proofs.Readings.{read-has}
 use Rattle.demand3.proofs.Findings.{findings-are}
 use Rattle.demand3.proofs.Bytes.{findings-spelt}
 use Rattle.renumbering.specs.Renumbering.{Renumbers, put, kept, JudgedAlike}
@@ -36,15 +37,15 @@ module _ {to back : ℕ → ℕ} {h g : History} (ok : LawfulHistory h) (r : Ren
       (pick-alike Alike _ (alike-kept _ refl)
       (record { same-report = refl; same-pairs = refl; same-order = refl; findings-put = put (findings-are ok) (findings-spelt ok) (findings-are too) (findings-spelt too) refl refl })))
 
-  pub judged-alike : (notes texts : List Stretch)
-      → JudgedAlike h g fs (judgedRead (read h notes) level fs ps os) (judgedRead (read g texts) level fs ps os)
+  pub judged-alike : (n m : ℕ)
+      → JudgedAlike h g fs (judgedRead (read h n) level fs ps os) (judgedRead (read g m) level fs ps os)
   unfolding judgedRead
-  judged-alike notes texts = rw (same-accepted ok r level) (pick-alike Alike _ accepted-alike rejected-alike)
+  judged-alike n m = rw (same-accepted ok r level) (pick-alike Alike _ accepted-alike rejected-alike)
 
 -- two traces that are read into such histories; a level that is none is refused before either is read
-pub traces-alike : {to back : ℕ → ℕ} {h g : History} → Renumbers to back h g → (s m : List ℕ) {notes texts : List Stretch} → reading s ≡ read h notes
-    → reading m ≡ read g texts → (level : ℕ) (fs ps os : List ℕ) → JudgedAlike h g fs (judged s level fs ps os) (judged m level fs ps os)
+pub traces-alike : {to back : ℕ → ℕ} {h g : History} → Renumbers to back h g → (s m : List ℕ) → HasHistory s h → HasHistory m g → (level : ℕ) (fs ps os : List ℕ)
+    → JudgedAlike h g fs (judged s level fs ps os) (judged m level fs ps os)
 unfolding judged
-traces-alike {h = h} {g} r s m {notes} {texts} a b level fs ps os =
-    let ok = lawful-history (reads-iff s h notes .0 a) in
-    rw (a, b) (pick-alike (JudgedAlike h g fs) _ (judged-alike ok r level fs ps os notes texts) (alike-kept _ refl))
+traces-alike {h = h} {g} r s m a b level fs ps os =
+    rw (read-has a, read-has b)
+    (pick-alike (JudgedAlike h g fs) _ (judged-alike (lawful-history a) r level fs ps os (a .notes) (b .notes)) (alike-kept _ refl))

@@ -6,9 +6,9 @@ use mathlib.Core.List.{List}
 use lib.ListN.{length, take}
 use Rattle.base.specs.Base.{pick}
 use Rattle.rules.specs.Records.{serialAt, isSecond}
-use Rattle.rules.specs.Reading.{Reading, refused, read, reading, Stretch}
+use Rattle.rules.specs.Reading.{Reading, refused, read, reading}
 use Rattle.rules.specs.History.{History}
-use Rattle.demand1.proofs.Readings.{has-record, reads-iff}
+use Rattle.demand1.proofs.Readings.{has-record, has-read}
 use Rattle.writing.specs.declared.Filled.{Filled}
 use Rattle.writing.specs.declared.Filled.the-variants.{Refused, Length}
 use Rattle.writing.specs.Filling.{refusing, answering, said, Fill, fillOf, into}
@@ -26,7 +26,7 @@ no-refusal e = false≢true (ap (λ (x : Fill). x .answer .isRefused) e)
 
 -- the trace was read
 pub data IsRead (x : Reading) : Type 0 where
-  is-read : (h : History) (notes : List Stretch) → x ≡ read h notes → IsRead x
+  is-read : (h : History) (notes : ℕ) → x ≡ read h notes → IsRead x
 
 was-read : (second : Bool) (x : Reading) (o : List ℕ) {n : ℕ} {b : List ℕ} → fillOf (answering n) b ≡ into (stepsRead second x) o → IsRead x
 unfolding stepsRead into
@@ -35,7 +35,7 @@ was-read second (read h notes) o e = is-read h notes refl
 
 -- so it has a record
 read-record : (s : List ℕ) → IsRead (reading s) → 8 ≤ length s
-read-record s (is-read h notes e) = has-record (reads-iff s h notes .0 e)
+read-record s (is-read h notes e) = has-record (has-read e)
 
 -- ── steps f are written with the serial k, the first of the trace s ──
 

@@ -13,10 +13,10 @@ use Rattle.base.proofs.Tests.{ifso, pick-on, pick-off}
 use Rattle.rules.specs.Numbers.{le, over}
 use Rattle.rules.specs.History.{History}
 use Rattle.rules.specs.Records.{isSecond}
-use Rattle.rules.specs.Reading.{Reading, Stretch, refused, read, reading}
+use Rattle.rules.specs.Reading.{Reading, refused, read, reading}
 use Rattle.demand1.proofs.Lawful.{lawful-history}
 use Rattle.rules.proofs.Numbers.{over-front}
-use Rattle.demand1.proofs.Readings.{reads-iff}
+use Rattle.demand1.proofs.Readings.{has-read}
 use Rattle.writing.specs.Filling.{refusing, answering, said, fillOf, Gives}
 use Rattle.writing.specs.Steps.{stepBytes}
 use Rattle.writing.specs.Writing.{written, writtenGiven}
@@ -31,11 +31,12 @@ use Rattle.writing.proofs.Within.{written-within, rewritten-within}
 use Rattle.rewriting.specs.Rewriting.{Rewrote}
 
 -- 16 bytes a step, of at most 2 * 127 + 1,024
-listed-whole : (s x : List ℕ) (h : History) (notes : List Stretch) → reading s ≡ read h notes → isSecond s ≡ false → 20448 ≤ length x
+listed-whole : (s x : List ℕ) (h : History) (notes : ℕ) → reading s ≡ read h notes → isSecond s ≡ false → 20448 ≤ length x
     → stepped s x ≡ fillOf (answering (length (joined stepBytes (historySteps h)))) (over (joined stepBytes (historySteps h)) x)
 listed-whole s x h notes e f l =
-    let few = lawful-history (reads-iff s h notes .0 e) in
-    listed-first s x e f ∙ into-fits (joined stepBytes (historySteps h)) x (omega (arith, listing-length s f h notes e, few .few-txs, few .few-ops))
+    let r = has-read e in
+    let few = lawful-history r in
+    listed-first s x e f ∙ into-fits (joined stepBytes (historySteps h)) x (omega (arith, listing-length s f r, few .few-txs, few .few-ops))
 
 whole : (s x out : List ℕ) → 20448 ≤ length x → rewritten s x out ≡ rewrittenWhole s out
 unfolding rewritten again rewrittenWhole rewrittenRead pick

@@ -11,7 +11,7 @@ use Rattle.base.proofs.Empty.{not-empty}
 use Rattle.base.proofs.Tests.{clash, is-false, both, and-left, and-right, and-no-left, and-no-right, ifso, split, pick-on, pick-off}
 use Rattle.rules.specs.Numbers.{over}
 use Rattle.rules.specs.History.{History}
-use Rattle.rules.specs.Reading.{Reading, refused, read, reading, Stretch}
+use Rattle.rules.specs.Reading.{Reading, refused, read, reading}
 use Rattle.rules.specs.Outcome.{findings, pairs, findingList, pairList, order, Verdict, declines, rejects, accepts, Report, declining, rejecting, accepting, reported, Outcome, outcome, isEmpty, isAccepted, acceptance, rejection, judgedRead, isLevel, judged}
 use Rattle.rules.specs.declared.Answer.{Answer}
 use Rattle.rules.specs.declared.Answer.the-variants.{Refused, Rejected, Accepted}
@@ -96,11 +96,11 @@ module _ (level : ℕ) (fs ps os : List ℕ) where
   judged-refused n p = refl
 
   module _ (h : History) where
-    pub judged-accepted : (notes : List Stretch) → isAccepted h level ≡ true → judgedRead (read h notes) level fs ps os ≡ acceptance h level fs ps os
+    pub judged-accepted : (notes : ℕ) → isAccepted h level ≡ true → judgedRead (read h notes) level fs ps os ≡ acceptance h level fs ps os
     unfolding judgedRead
     judged-accepted notes t = pick-on (isAccepted h level) _ _ t
 
-    pub judged-rejected : (notes : List Stretch) → isAccepted h level ≡ false → judgedRead (read h notes) level fs ps os ≡ rejection h level fs ps os
+    pub judged-rejected : (notes : ℕ) → isAccepted h level ≡ false → judgedRead (read h notes) level fs ps os ≡ rejection h level fs ps os
     unfolding judgedRead
     judged-rejected notes t = pick-off (isAccepted h level) _ _ t
 
@@ -155,26 +155,26 @@ module _ (s : List ℕ) (level : ℕ) (fs ps os : List ℕ) where
     came-no-level : ((1 ≤ level) × (level ≤ 3) → ⊥) → Came (outcome (declining 1 0) fs ps os)
     came-refused : {n p : ℕ} → 1 ≤ level → level ≤ 3 → reading s ≡ refused n p → Came (outcome (declining n p) fs ps os)
     -- rows 12 and 13, and a rejection
-    came-short : {h : History} {notes : List Stretch} → 1 ≤ level → level ≤ 3 → reading s ≡ read h notes → isAccepted h level ≡ false
+    came-short : {h : History} {notes : ℕ} → 1 ≤ level → level ≤ 3 → reading s ≡ read h notes → isAccepted h level ≡ false
         → length fs < length (findingList h) → Came (outcome (declining 12 (length (findingList h))) fs ps os)
-    came-short-pairs : {h : History} {notes : List Stretch} → 1 ≤ level → level ≤ 3 → reading s ≡ read h notes → isAccepted h level ≡ false
+    came-short-pairs : {h : History} {notes : ℕ} → 1 ≤ level → level ≤ 3 → reading s ≡ read h notes → isAccepted h level ≡ false
         → length (findingList h) ≤ length fs → length ps < length (pairList h level) → Came (outcome (declining 13 (length (pairList h level))) fs ps os)
-    came-rejected : {h : History} {notes : List Stretch} → 1 ≤ level → level ≤ 3 → reading s ≡ read h notes → isAccepted h level ≡ false
+    came-rejected : {h : History} {notes : ℕ} → 1 ≤ level → level ≤ 3 → reading s ≡ read h notes → isAccepted h level ≡ false
         → length (findingList h) ≤ length fs → length (pairList h level) ≤ length ps
         → Came (outcome (rejecting (length (findings h)) (length (pairs h level))) (over (findingList h) fs) (over (pairList h level) ps) os)
     -- row 14, and an acceptance
-    came-short-order : {h : History} {notes : List Stretch} → 1 ≤ level → level ≤ 3 → reading s ≡ read h notes → isAccepted h level ≡ true
+    came-short-order : {h : History} {notes : ℕ} → 1 ≤ level → level ≤ 3 → reading s ≡ read h notes → isAccepted h level ≡ true
         → length os < length (order h level) → Came (outcome (declining 14 (length (order h level))) fs ps os)
-    came-accepted : {h : History} {notes : List Stretch} → 1 ≤ level → level ≤ 3 → reading s ≡ read h notes → isAccepted h level ≡ true
+    came-accepted : {h : History} {notes : ℕ} → 1 ≤ level → level ≤ 3 → reading s ≡ read h notes → isAccepted h level ≡ true
         → length (order h level) ≤ length os → Came (outcome (accepting (length (order h level))) fs ps (over (order h level) os))
 
   module _ (a : 1 ≤ level) (b : level ≤ 3) where
-    by-acceptance : {h : History} {notes : List Stretch} → reading s ≡ read h notes → isAccepted h level ≡ true → Came (acceptance h level fs ps os)
+    by-acceptance : {h : History} {notes : ℕ} → reading s ≡ read h notes → isAccepted h level ≡ true → Came (acceptance h level fs ps os)
     by-acceptance {h} e t =
         ⊎-elim (λ l. rw (acceptance-short level fs ps os h l) (came-short-order a b e t l))
         (λ g. rw (acceptance-fits level fs ps os h g) (came-accepted a b e t g)) (split (length os) (length (order h level)))
 
-    by-rejection : {h : History} {notes : List Stretch} → reading s ≡ read h notes → isAccepted h level ≡ false → Came (rejection h level fs ps os)
+    by-rejection : {h : History} {notes : ℕ} → reading s ≡ read h notes → isAccepted h level ≡ false → Came (rejection h level fs ps os)
     by-rejection {h} e t =
         ⊎-elim (λ l. rw (rejection-short level fs ps os h l) (came-short a b e t l))
         (λ g.

@@ -4,19 +4,18 @@ use Prim.Native.Nat.{ℕ, _+_}
 use mathlib.Core.Path.{_≡_, refl}
 use mathlib.Core.Bool.{true, false}
 use mathlib.Core.List.{List, [], _∷_, _++_, map}
-use Rattle.base.specs.Base.{_and_, _or_, pick, someOf, firstOf, countOf, listOf, some, first, count, listed, those, last, joined, numbered, nth, firstFit}
+use Rattle.base.specs.Base.{_and_, _or_, pick, someOf, firstOf, countOf, listOf, some, first, count, listed, those, last, joined, numbered, firstFit}
 use Rattle.theory.specs.Leads.{via, isListed}
 use Rattle.theory.specs.Reached.{reach}
 use Rattle.theory.specs.Order.{mem, misses, ready, isUnplaced, unplaced, next, fill, rest}
 use Rattle.rules.specs.Numbers.{le, bytes, over}
 use Rattle.rules.specs.History.{History, tx, op, isOpen, current, isOpenOf, openOf, anyOpen, writesValue, writeOf, originOf, sourceOf, saysCommitted, isUnanswered, takesFrom, vouches, committed, opened, closed, withOp}
 use Rattle.rules.specs.Records.{isSecond, eventOf, eventAt, breaks, isUnknown, isMisfit, isLate, isOtherEdition, frameRows}
-use Rattle.rules.specs.Reading.{State, misplaced, unlawful, excess, repeats, stepRows, entered, isEnd, textAt, metBy, metIn, met, refusalNo, after, finished, walk, reading}
+use Rattle.rules.specs.Reading.{State, misplaced, unlawful, excess, repeats, stepRows, entered, isEnd, notesBehind, metBy, metIn, met, refusalNo, after, notesOf, finished, walk, reading}
 use Rattle.rules.specs.Reads.{writesAt, wroteBetween, kindBy, kindOf, isJudged, isFinding, isExternal, readsFrom}
 use Rattle.rules.specs.Levels.{isStart, isSession, isRead, basic, leads, writesKey, sees, settles, isRival, forced, reasons}
 use Rattle.rules.specs.Outcome.{Outcome, findings, findingBytes, pairsOf, pairs, pairBytes, order, findingList, pairList, isEmpty, isAccepted, acceptance, rejection, judgedRead, isLevel, judged}
-use Rattle.rules.specs.Traces.{Item, raw, recordOf, trace, opens, closes, ends, note, whole, block, T, r, w, read, pair, room, refusesIn, acceptsIn, rejectsIn}
-use Rattle.rules.specs.Notes.{Noted, declined, handed, isNote, notedRead, noted}
+use Rattle.rules.specs.Traces.{Item, raw, recordOf, trace, opens, closes, closesOf, ends, note, whole, overlapping, block, T, r, w, read, pair, room, refusesIn, acceptsIn, rejectsIn}
 
 -- a trace, a level, the lengths of the three buffers, and the outcome
 pub record Edge : Type 0 where
@@ -160,37 +159,39 @@ edgeTable =
 abbrev pub edgeFound : Edge → Edge
 edgeFound c = edge (c .bytes) (c .level) (c .f) (c .p) (c .o) (judged (c .bytes) (c .level) (room (c .f)) (room (c .p)) (room (c .o)))
 
--- The line names all that an outcome or a note is computed with. To unfold this statement is to unfold them: the other statements, here and in Cases, do so
+-- The line names all that an outcome or a number of notes is computed with. To unfold this statement is to unfold them: the other statements, here and in Cases, do so
 unfoldable pub as-they-should : map edgeFound edgeTable ≡ edgeTable
-unfolding le bytes over raw recordOf trace tx op isOpen current isOpenOf openOf anyOpen writesValue writeOf saysCommitted isUnanswered takesFrom vouches committed opened closed withOp isSecond eventOf eventAt breaks isUnknown isMisfit isLate isOtherEdition frameRows misplaced unlawful excess repeats stepRows entered isEnd textAt metBy metIn met refusalNo after finished walk reading writesAt wroteBetween originOf sourceOf kindBy kindOf isJudged isFinding isExternal readsFrom isStart isSession isRead basic leads writesKey sees settles isRival forced reasons findings findingBytes pairsOf pairs pairBytes order findingList pairList isEmpty isAccepted acceptance rejection judgedRead isLevel judged via isListed reach mem misses ready isUnplaced unplaced next fill rest _and_ _or_ pick someOf firstOf countOf listOf some first count listed those last joined numbered nth firstFit isNote notedRead noted
+unfolding le bytes over raw recordOf trace tx op isOpen current isOpenOf openOf anyOpen writesValue writeOf saysCommitted isUnanswered takesFrom vouches committed opened closed withOp isSecond eventOf eventAt breaks isUnknown isMisfit isLate isOtherEdition frameRows misplaced unlawful excess repeats stepRows entered isEnd notesBehind metBy metIn met refusalNo after notesOf finished walk reading writesAt wroteBetween originOf sourceOf kindBy kindOf isJudged isFinding isExternal readsFrom isStart isSession isRead basic leads writesKey sees settles isRival forced reasons findings findingBytes pairsOf pairs pairBytes order findingList pairList isEmpty isAccepted acceptance rejection judgedRead isLevel judged via isListed reach mem misses ready isUnplaced unplaced next fill rest _and_ _or_ pick someOf firstOf countOf listOf some first count listed those last joined numbered firstFit
 as-they-should = refl
 
 -- ── notes ──
 
-pub record Asked : Type 0 where
+-- a trace, and how many notes it had
+pub record NoteCase : Type 0 where
   pub bytes : List ℕ
-  pub k : ℕ
-  pub out : Noted
+  pub number : ℕ
 
-abbrev asked : List ℕ → ℕ → Noted → Asked
-asked b k x = record { bytes = b; k = k; out = x }
+abbrev noteCase : List ℕ → ℕ → NoteCase
+noteCase b n = record { bytes = b; number = n }
 
-abbrev pub notes : List Asked
-notes =
-    -- 15 at 0 and one too many; the two notes between
-    asked noteful 0 (declined 15 0)
-    ∷ asked noteful 1 (handed (record { start = 8; length = 2 }))
-    ∷ asked noteful 2 (handed (record { start = 28; length = 0 }))
-    ∷ asked noteful 3 (declined 15 0)
-    -- 2 to 11, then 15
-    ∷ asked [] 0 (declined 3 0)
-    ∷ asked (noteful ++ (7 ∷ [])) 1 (declined 11 47)
+abbrev pub noteTable : List NoteCase
+noteTable =
+    -- none; outside and inside a transaction; two in a row, the first record and the last but one; the longest
+    noteCase (whole 1 (T 1 (w 1 5 ∷ []))) 0
+    ∷ noteCase noteful 2
+    ∷ noteCase (trace 9 (note [] ∷ note (6 ∷ []) ∷ opens 1 ∷ w 1 5 ∷ note [] ∷ closes 1 ∷ note [] ∷ ends 1 ∷ [])) 4
+    ∷ noteCase (trace 0 (note (room 64) ∷ ends 0 ∷ [])) 1
+    -- edition 2 has none: the record that it begins with is no note
+    ∷ noteCase (overlapping 1 (opens 1 ∷ closesOf 1 1 ∷ [])) 0
+    -- a trace that is refused, also behind its notes
+    ∷ noteCase [] 0
+    ∷ noteCase (noteful ++ (7 ∷ [])) 0
     ∷ []
 
-abbrev pub notesAnswered : Asked → Asked
-notesAnswered c = asked (c .bytes) (c .k) (noted (c .bytes) (c .k))
+abbrev pub notesFound : NoteCase → NoteCase
+notesFound c = noteCase (c .bytes) (notesOf (reading (c .bytes)))
 
-pub notes-as-they-should : map notesAnswered notes ≡ notes
+pub notes-as-they-should : map notesFound noteTable ≡ noteTable
 unfolding as-they-should
 notes-as-they-should = refl
 
@@ -203,7 +204,7 @@ closedState n =
       at = 0;
       serial = 0;
       history = record { txs = listed 1 (n + 1) (λ i. record { session = i; status = 1 } ∷ []); ops = [] };
-      notes = [];
+      notes = 0;
     }
 
 abbrev pub openState : ℕ → State
@@ -215,7 +216,7 @@ openState n =
         txs = record { session = 1; status = 3 } ∷ [];
         ops = listed 1 (n + 1) (λ i. record { tx = 1; isWrite = true; key = 1; value = i } ∷ []);
       };
-      notes = [];
+      notes = 0;
     }
 
 -- a state, the event that comes, and the number of the row that refuses it, 0 for none

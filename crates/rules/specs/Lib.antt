@@ -5,7 +5,6 @@ pub mod Reading
 pub mod Reads
 pub mod Levels
 pub mod Outcome
-pub mod Notes
 pub mod Traces
 pub mod Edges
 pub mod Overlaps

@@ -27,7 +27,7 @@ refusesRaw l b n at = overlap (trace 0 l ++ b) (refused n at)
 
 -- n transactions, and what they are read into
 abbrev reads : ℕ → List Item → List Tx → List Op → Overlap
-reads n l txs ops = overlap (overlapping n l) (read (record { txs = txs; ops = ops }) [])
+reads n l txs ops = overlap (overlapping n l) (read (record { txs = txs; ops = ops }) 0)
 
 abbrev a : ℕ → ℕ → Tx
 a s c = record { session = s; status = c }
@@ -90,7 +90,7 @@ overlapTable =
     (a 65535 1 ∷ a 0 1 ∷ a 0 0 ∷ []) (wrote 2 1 5 ∷ took 1 1 5 ∷ took 3 1 5 ∷ [])
     -- no transaction; "after 4,294,967,295 comes 0", kind 16 being a record like any other
     ∷ reads 0 [] [] []
-    ∷ overlap (trace 4294967295 (edition 2 ∷ ends 0 ∷ [])) (read (record { txs = []; ops = [] }) [])
+    ∷ overlap (trace 4294967295 (edition 2 ∷ ends 0 ∷ [])) (read (record { txs = []; ops = [] }) 0)
     ∷ []
 
 abbrev pub overlapRead : Overlap → Overlap
@@ -110,10 +110,10 @@ pub record SecondLimit : Type 0 where
 
 -- 127 transactions, the latest of which is open, in session 1
 abbrev lastOpen : State
-lastOpen = record { at = 0; serial = 0; history = record { txs = closedState 126 .history .txs ++ (a 1 3 ∷ []); ops = [] }; notes = [] }
+lastOpen = record { at = 0; serial = 0; history = record { txs = closedState 126 .history .txs ++ (a 1 3 ∷ []); ops = [] }; notes = 0 }
 
 abbrev second : State → Item → ℕ → SecondLimit
-second st i n = record { state = record { at = 10; serial = 1; history = st .history; notes = [] }; item = i; no = n }
+second st i n = record { state = record { at = 10; serial = 1; history = st .history; notes = 0 }; item = i; no = n }
 
 abbrev pub secondLimits : List SecondLimit
 secondLimits =

@@ -1,13 +1,13 @@
--- Document 01, "When the judge declines", rows 2 to 11: how a trace is read, record by record, into a history and its notes. Document 02, "overlapping
--- transactions": in either edition.
-use Prim.Native.Nat.{ℕ, zero, suc, _+_, _-_}
+-- Document 01, "When the judge declines", rows 2 to 11: how a trace is read, record by record, into a history. Document 02, "overlapping transactions": in
+-- either edition; "notes go": of the notes only their number is kept.
+use Prim.Native.Nat.{ℕ, zero, suc, _+_}
 use mathlib.Core.Bool.{Bool, true, false, not}
 use mathlib.Core.List.{List, [], _∷_, _++_}
 use lib.ListN.{length}
 use lib.Dec.{ltb, leb, eqb}
 use Rattle.base.specs.Base.{pick, Row, row, firstFit}
 use Rattle.rules.specs.History.{History, txCount, opCount, empty, opened, closed, withOp, current, openOf, anyOpen, writeOf}
-use Rattle.rules.specs.Records.{lenAt, nextAt, nextSerial, isSecond, sessionAt, eventAt, frameRows}
+use Rattle.rules.specs.Records.{nextAt, nextSerial, isSecond, sessionAt, eventAt, frameRows}
 use Rattle.rules.specs.declared.Event.{Event}
 use Rattle.rules.specs.declared.Event.the-variants.{Open, Read, Write, Close, End, Note, Other}
 
@@ -78,30 +78,25 @@ isEnd Other = false
 
 -- ── reading ──
 
--- a stretch of the trace: its first byte's offset and its length
-pub record Stretch : Type 0 where
-  pub start : ℕ
-  pub length : ℕ
+-- the number of notes behind an event, where there were n before it
+unfoldable pub notesBehind : ℕ → Event → ℕ
+notesBehind n (Open s) = n
+notesBehind n (Read x v) = n
+notesBehind n (Write x v) = n
+notesBehind n (Close c) = n
+notesBehind n (End m) = n
+notesBehind n Note = n + 1
+notesBehind n Other = n
 
--- the text of a note that is the record at `at`
-unfoldable pub textAt : List ℕ → ℕ → Event → List Stretch
-textAt s at (Open n) = []
-textAt s at (Read x v) = []
-textAt s at (Write x v) = []
-textAt s at (Close c) = []
-textAt s at (End n) = []
-textAt s at Note = record { start = at + 8; length = lenAt s at - 6 } ∷ []
-textAt s at Other = []
-
--- what is known between two records: where the next one starts, the serial that has to come, the history and the notes so far
+-- what is known between two records: where the next one starts, the serial that has to come, the history and the number of notes so far
 pub record State : Type 0 where
   pub at : ℕ
   pub serial : ℕ
   pub history : History
-  pub notes : List Stretch
+  pub notes : ℕ
 
 abbrev pub begin : State
-begin = record { at = 0; serial = 0; history = empty; notes = [] }
+begin = record { at = 0; serial = 0; history = empty; notes = 0 }
 
 -- the event of the record that a state has come to
 abbrev pub eventIn : List ℕ → State → Event
@@ -132,13 +127,18 @@ after s st =
       at = nextAt s (st .at);
       serial = nextSerial s (st .at);
       history = entered (st .history) (met s st) (eventIn s st);
-      notes = st .notes ++ textAt s (st .at) (eventIn s st);
+      notes = notesBehind (st .notes) (eventIn s st);
     }
 
--- a trace is refused, with a number and a place, or it has a history and notes
+-- a trace is refused, with a number and a place, or it has a history and a number of notes
 pub data Reading : Type 0 where
   refused : ℕ → ℕ → Reading
-  read : History → List Stretch → Reading
+  read : History → ℕ → Reading
+
+-- "how many notes the trace had"; 0 of one that is refused
+unfoldable pub notesOf : Reading → ℕ
+notesOf (refused n p) = 0
+notesOf (read h notes) = notes
 
 -- "After the end record, 11": bytes follow it, place the first such byte
 unfoldable pub finished : List ℕ → State → Reading

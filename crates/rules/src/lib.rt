@@ -19,9 +19,3 @@ pub enum Answer {
     Rejected(usize, usize),
     Accepted(usize),
 }
-
-// The answer to asking for a note: refused, with the refusal's number and place; or its text's first byte and its length.
-pub enum NoteAnswer {
-    Refused(u8, usize),
-    Text(usize, usize),
-}

@@ -1,5 +1,6 @@
 // Answers many requests in one run. Standard input has items: what is asked, 1 byte (`s`, `l`, `r`, `1` or `2`); the room for the answer and the length of what is
-// given, 2 bytes little-endian each; and what is given. Each answer, or the line of a refusal, stands behind its length, 2 bytes little-endian.
+// given, 2 bytes little-endian each; and what is given. Each answer, or the line of a refusal, stands behind its length, 2 bytes little-endian; behind an answer to
+// `2` stands the number of notes, 2 bytes little-endian, 0 with a refusal.
 ghost use Prim.Native.Nat.{_≤_};
 ghost use lib.ListN.{length};
 ghost use Rattle.writing.specs.Filling.{said};
@@ -63,8 +64,8 @@ fn answer(asked: u8, given: &[u8], out: &mut [u8]) -> bool {
             telling::print_answer(Head::Length, filled, out)
         }
         b'2' => {
-            let filled = mover::to_edition_2(given, out);
-            telling::print_answer(Head::Length, filled, out)
+            let tallied = mover::to_edition_2(given, out);
+            telling::print_tallied(Head::Length, tallied, out)
         }
         _ => false,
     }

@@ -1,8 +1,8 @@
-// The lines that `judge` prints, put into a lent buffer. Each function puts its text at `at`, as far as the buffer reaches, and answers where the text
+// The lines that the programs print, put into a lent buffer. Each function puts its text at `at`, as far as the buffer reaches, and answers where the text
 // ends. Every other byte stays as it was.
 ghost use mathlib.Core.List.{[], _∷_, _++_};
 ghost use Prim.Native.Nat.{_+_, _<_};
-ghost use Rattle.text.specs.Lines.{decimal, field, fields, levelWord, refusedLine, rejectedLine, acceptedLine, readLine, pairLine};
+ghost use Rattle.text.specs.Lines.{decimal, field, fields, levelWord, refusedLine, rejectedLine, acceptedLine, readLine, pairLine, notesLine};
 ghost use Rattle.show.specs.Laid.{Put, Short};
 
 fn put_byte(out: &mut [u8], at: usize, b: u8) -> usize
@@ -55,14 +55,22 @@ fn put_field(out: &mut [u8], at: usize, n: usize) -> usize
     put_number(out, to, n)
 }
 
+// A line's last number and its end.
+fn put_one(out: &mut [u8], at: usize, a: usize) -> usize
+    requires { ⌜ Short at (fields (a ∷ [])) ⌝ }
+    ensures { λ r. ⌜ Put (now (out .entry)) at (now (out .exit)) r (fields (a ∷ [])) ⌝ }
+{
+    let to = put_field(out, at, a);
+    put_byte(out, to, b'\n')
+}
+
 // A line's last two numbers and its end.
 fn put_two(out: &mut [u8], at: usize, a: usize, b: usize) -> usize
     requires { ⌜ Short at (fields (a ∷ b ∷ [])) ⌝ }
     ensures { λ r. ⌜ Put (now (out .entry)) at (now (out .exit)) r (fields (a ∷ b ∷ [])) ⌝ }
 {
     let to = put_field(out, at, a);
-    let to = put_field(out, to, b);
-    put_byte(out, to, b'\n')
+    put_one(out, to, b)
 }
 
 // A line's last three numbers and its end.
@@ -153,4 +161,13 @@ pub fn put_pair(out: &mut [u8], at: usize, a: usize, b: usize, reasons: usize) -
 {
     let to = put_word(out, at, b"pair");
     put_three(out, to, a, b, reasons)
+}
+
+// `notes N`
+pub fn put_notes(out: &mut [u8], at: usize, notes: usize) -> usize
+    requires { ⌜ Short at (notesLine notes) ⌝ }
+    ensures { λ r. ⌜ Put (now (out .entry)) at (now (out .exit)) r (notesLine notes) ⌝ }
+{
+    let to = put_word(out, at, b"notes");
+    put_one(out, to, notes)
 }

@@ -14,7 +14,7 @@ use Rattle.rules.specs.declared.Event.the-variants.{Note, Other}
 use Rattle.table.specs.Table.{historyOf, Held, Becomes}
 use Rattle.steps.specs.Steps.{put, goes, stepNo, Took}
 use Rattle.steps.specs.declared.Next.{Next}
-use Rattle.steps.specs.declared.Next.the-variants.{Go, Text, Refuse}
+use Rattle.steps.specs.declared.Next.the-variants.{Go, Count, Refuse}
 
 module _ (g : List ℕ) (t : ℕ) (e : Event) (h : Held g) where
   -- the row with the number n refuses
@@ -58,7 +58,7 @@ module _ (g : List ℕ) (t : ℕ) (e : Event) (a : misplaced t e ≡ false) (b :
   stays is h p x = enters is (record { is = p; holds = record { held = h; is = x } })
 
 -- a note "has no part in judging"
-pub idle-note : (g : List ℕ) (t : ℕ) → Held g → Took Text g g t Note
+pub idle-note : (g : List ℕ) (t : ℕ) → Held g → Took Count g g t Note
 unfolding misplaced unlawful excess repeats goes put entered
 idle-note g t h = stays g t Note refl refl refl refl refl h refl refl
 

@@ -11,7 +11,7 @@ use Rattle.rules.specs.declared.Event.{Event}
 use Rattle.rules.specs.declared.Event.the-variants.{Open, Read, Write, Close, End, Note, Other}
 use Rattle.table.specs.Table.{historyOf, Held, putTx, closeTx, putOp}
 use Rattle.steps.specs.declared.Next.{Next}
-use Rattle.steps.specs.declared.Next.the-variants.{Go, Text, Done, Refuse}
+use Rattle.steps.specs.declared.Next.the-variants.{Go, Count, Done, Refuse}
 
 -- what a lawful event writes into the table g, where t is the open transaction
 unfoldable pub put : List ℕ → ℕ → Event → List ℕ
@@ -30,7 +30,7 @@ goes (Read x v) = Go
 goes (Write x v) = Go
 goes (Close c) = Go
 goes (End n) = Done
-goes Note = Text
+goes Note = Count
 goes Other = Go
 
 -- the number of the first row, 7 to 10, that refuses the event e; 0 where none does

@@ -10,7 +10,7 @@ use rules::Event;
 // How the reading goes on behind an event: with the next record; the same, behind a note; not at all, the end has come; refused.
 pub enum Next {
     Go,
-    Text,
+    Count,
     Done,
     Refuse(u8),
 }
@@ -129,7 +129,7 @@ pub fn take_in(event: Event, t: usize, h: &mut [u64]) -> Next
         Event::Write(x, v) => take_write(h, t, x, v),
         Event::Close(status) => take_close(h, t, status),
         Event::End(n) => take_end(h, t, n),
-        Event::Note => Next::Text,
+        Event::Note => Next::Count,
         Event::Other => Next::Go,
     }
 }

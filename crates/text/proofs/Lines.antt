@@ -11,7 +11,7 @@ use lib.Dec.{eqb}
 use borrow.Author.Tests.{lt-ltb, le-ltb, ne-eqb}
 use Rattle.base.specs.Base.{pick}
 use Rattle.base.proofs.Tests.{ifso, split}
-use Rattle.text.specs.Lines.{text, decimalBy, decimal, field, fields, line, levelWord, refusedLine, rejectedLine, acceptedLine, readLine, pairLine}
+use Rattle.text.specs.Lines.{text, decimalBy, decimal, field, fields, line, levelWord, refusedLine, rejectedLine, acceptedLine, readLine, pairLine, notesLine}
 
 -- ── numbers ──
 
@@ -93,6 +93,10 @@ module _ (a b : ℕ) (s : a < 2 ^ 64) (t : b < 2 ^ 64) where
   pub rejected-length : (level : ℕ) → length (rejectedLine level a b) ≤ 64
   unfolding rejectedLine line
   rejected-length level = omega (arith, verdict-length level " rejected" (fields (a ∷ b ∷ [])), two-length)
+
+pub notes-length : (n : ℕ) → n < 10 ^ 20 → length (notesLine n) ≤ 64
+unfolding notesLine line
+notes-length n l = omega (arith, fields-length 19 (n ∷ []) (l, tt))
 
 -- an order's numbers are below 1,000
 pub accepted-length : (level : ℕ) (l : List ℕ) → ((i : ℕ) → i < length l → getD l i 0 < 1000) → length (acceptedLine level l) ≤ 4 * length l + 13

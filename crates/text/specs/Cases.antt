@@ -8,7 +8,7 @@ use lib.ListN.{getD}
 use Rattle.rules.specs.Edges.{as-they-should}
 use Rattle.rules.specs.Traces.{whole, T, r, w}
 use Rattle.rules.specs.Cases.{table}
-use Rattle.text.specs.Lines.{text, decimalBy, decimal, field, fields, line, levelWord, refusedLine, rejectedLine, acceptedLine, readLine, pairLine}
+use Rattle.text.specs.Lines.{text, decimalBy, decimal, field, fields, line, levelWord, refusedLine, rejectedLine, acceptedLine, readLine, pairLine, notesLine}
 use Rattle.text.specs.Answer.{findingText, pairText, blockText, readingText, answerText}
 
 -- a trace and its text
@@ -83,8 +83,10 @@ lineTable =
     ∷ acceptedLine 1 (0 ∷ 127 ∷ [])
     ∷ rejectedLine 3 10 16256
     ∷ readLine 127 1024 6 1023
+    ∷ notesLine 0
+    ∷ notesLine 4094
     ∷ []
 
-pub as-spelt : lineTable ≡ map text ("0" ∷ "9" ∷ "10" ∷ "1024" ∷ "refused 2 32768\n" ∷ "rc accepted 0 127\n" ∷ "tcc rejected 10 16256\n" ∷ "read 127 1024 6 1023\n" ∷ [])
-unfolding as-printed
+pub as-spelt : lineTable ≡ map text ("0" ∷ "9" ∷ "10" ∷ "1024" ∷ "refused 2 32768\n" ∷ "rc accepted 0 127\n" ∷ "tcc rejected 10 16256\n" ∷ "read 127 1024 6 1023\n" ∷ "notes 0\n" ∷ "notes 4094\n" ∷ [])
+unfolding as-printed notesLine
 as-spelt = refl

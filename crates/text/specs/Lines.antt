@@ -36,7 +36,7 @@ line word ns = word ++ fields ns
 unfoldable pub levelWord : ℕ → List ℕ
 levelWord level = pick (eqb level 1) (text "rc") (pick (eqb level 2) (text "ra") (text "tcc"))
 
--- the five lines
+-- the five lines of `judge`
 unfoldable pub refusedLine : ℕ → ℕ → List ℕ
 refusedLine number place = line (text "refused") (number ∷ place ∷ [])
 
@@ -51,3 +51,7 @@ readLine tx op kind write = line (text "read") (tx ∷ op ∷ kind ∷ write ∷
 
 unfoldable pub pairLine : ℕ → ℕ → ℕ → List ℕ
 pairLine first second reasons = line (text "pair") (first ∷ second ∷ reasons ∷ [])
+
+-- how many notes a trace had, as `to_edition_2` tells it
+unfoldable pub notesLine : ℕ → List ℕ
+notesLine notes = line (text "notes") (notes ∷ [])

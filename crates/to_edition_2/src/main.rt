@@ -1,4 +1,4 @@
-// Reads a trace from standard input and prints it, moved to edition 2.
+// Reads a trace from standard input and prints it, moved to edition 2; on standard error, how many notes it had.
 use telling::Head;
 
 fn main() {
@@ -7,5 +7,5 @@ fn main() {
     let n = io::read_full(0, &mut bytes);
     let mut out = [0u8; 32768];
     let answer = mover::to_edition_2(&bytes[..n], &mut out);
-    telling::print_answer(Head::None, answer, &out);
+    telling::print_tallied(Head::None, answer, &out);
 }

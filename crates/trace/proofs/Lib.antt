@@ -1,4 +1,3 @@
-pub mod Tallies
 pub mod Turning
 pub mod Going
 pub mod Answers

@@ -1,17 +1,17 @@
 -- One record: from the framing and the step to the turn, and what a turn says.
-use Prim.Native.Nat.{ℕ, _+_, _-_, _≤_, _<_}
+use Prim.Native.Nat.{ℕ, _+_, _≤_, _<_}
 use mathlib.Core.Path.{_≡_, refl, sym, _∙_, subst}
 use mathlib.Core.Bool.{Bool, true, false}
 use mathlib.Core.Logic.{_⊎_, inl, inr}
-use mathlib.Core.List.{List, [], _∷_}
+use mathlib.Core.List.{List}
 use native.Mathlib.Omega.{arith}
 use lib.Dec.{ltb}
 use borrow.Author.Tests.{ltb-true, ltb-false, lt-ltb}
 use Rattle.base.specs.Base.{pick}
 use Rattle.base.proofs.Tests.{ifso, pick-on, pick-off}
 use Rattle.rules.specs.History.{History}
-use Rattle.rules.specs.Records.{lenAt, nextAt, nextSerial, isSecond, sessionAt, eventAt}
-use Rattle.rules.specs.Reading.{isEnd, textAt, stepRows, metIn, met, refusalNo}
+use Rattle.rules.specs.Records.{nextAt, nextSerial, isSecond, sessionAt, eventAt}
+use Rattle.rules.specs.Reading.{isEnd, notesBehind, stepRows, metIn, met, refusalNo}
 use Rattle.rules.specs.declared.Event.{Event}
 use Rattle.rules.specs.declared.Event.the-variants as E
 use Rattle.frame.specs.Framing.{Fit, framing}
@@ -23,30 +23,29 @@ use Rattle.table.specs.Table.{historyOf, Held}
 use Rattle.steps.specs.Steps.{goes, stepNo, Took}
 use Rattle.steps.specs.declared.Next.{Next}
 use Rattle.steps.specs.declared.Next.the-variants as N
-use Rattle.trace.specs.declared.Tally.{Tally}
 use Rattle.trace.specs.declared.Out.{Out}
 use Rattle.trace.specs.declared.Out.the-variants.{Bad}
 use Rattle.trace.specs.declared.Turn.{Turn}
 use Rattle.trace.specs.declared.Turn.the-variants.{More, Stop}
-use Rattle.trace.specs.Turns.{counted, countedAll, noAt, metAt, finish, turn, putAt, enteredAt, sessionIn, Turned}
+use Rattle.trace.specs.Turns.{noAt, metAt, finish, turn, putAt, enteredAt, sessionIn, Turned}
 
 -- ── what a step's answer says of its event e, where m is the number of the row that refuses it ──
 
 unfoldable Says : ℕ → Event → Next → Type 0
-Says m e N.Go = (m ≡ 0) × (isEnd e ≡ false) × ((s : List ℕ) (at : ℕ) → textAt s at e ≡ [])
-Says m e N.Text = (m ≡ 0) × (isEnd e ≡ false) × ((s : List ℕ) (at : ℕ) → textAt s at e ≡ record { start = at + 8; length = lenAt s at - 6 } ∷ [])
+Says m e N.Go = (m ≡ 0) × (isEnd e ≡ false) × ((n : ℕ) → notesBehind n e ≡ n)
+Says m e N.Count = (m ≡ 0) × (isEnd e ≡ false) × ((n : ℕ) → notesBehind n e ≡ n + 1)
 Says m e N.Done = (m ≡ 0) × (isEnd e ≡ true)
 Says m e (N.Refuse n) = (m ≡ n) × (0 < n)
 
 passes : (m : ℕ) (e : Event) → m ≡ 0 → Says m e (goes e)
-unfolding Says goes isEnd textAt
-passes m (E.Open n) z = (z, refl, λ s at. refl)
-passes m (E.Read x v) z = (z, refl, λ s at. refl)
-passes m (E.Write x v) z = (z, refl, λ s at. refl)
-passes m (E.Close x) z = (z, refl, λ s at. refl)
+unfolding Says goes isEnd notesBehind
+passes m (E.Open n) z = (z, refl, λ n. refl)
+passes m (E.Read x v) z = (z, refl, λ n. refl)
+passes m (E.Write x v) z = (z, refl, λ n. refl)
+passes m (E.Close x) z = (z, refl, λ n. refl)
 passes m (E.End n) z = (z, refl)
-passes m E.Note z = (z, refl, λ s at. refl)
-passes m E.Other z = (z, refl, λ s at. refl)
+passes m E.Note z = (z, refl, λ n. refl)
+passes m E.Other z = (z, refl, λ n. refl)
 
 says : (m : ℕ) (e : Event) (r : Next) → r ≡ pick (ltb 0 m) (N.Refuse m) (goes e) → Says m e r
 unfolding Says
@@ -84,18 +83,18 @@ module _ (s : List ℕ) (at serial : ℕ) (h : History) {second : Bool} (own : s
         rw (same, ← own) b
 
 -- the framing refuses
-pub turned-bad : (s g : List ℕ) (k at serial : ℕ) (c : Tally) {second : Bool} {n : ℕ} → second ≡ isSecond s → framing second s at serial ≡ F.Bad n → Held g
-    → Turned (Stop (Bad n at)) g g s k at serial c
+pub turned-bad : (s g : List ℕ) (at serial notes : ℕ) {second : Bool} {n : ℕ} → second ≡ isSecond s → framing second s at serial ≡ F.Bad n → Held g
+    → Turned (Stop (Bad n at)) g g s at serial notes
 unfolding turn putAt enteredAt pick
-turned-bad s g k at serial c own q h =
+turned-bad s g at serial notes own q h =
     let b = no-bad s at serial (historyOf g) own q in
     let t = lt-ltb _ _ (b .1) in
     record { is = rw (b .0, t); words = rw (b .0, t); history = rw (b .0, t); held = h }
 
 -- the framing passes, and the step answers
-module _ (s g g2 : List ℕ) (k at serial : ℕ) (c : Tally) (e : Event) (next : Next) {second : Bool} (own : second ≡ isSecond s)
+module _ (s g g2 : List ℕ) (at serial notes : ℕ) (e : Event) (next : Next) {second : Bool} (own : second ≡ isSecond s)
     (fr : framing second s at serial ≡ F.Good e) (took : Took next g2 g (metIn second (historyOf g) (sessionAt s at) e) e) where
-  turned : {r : Turn} → r ≡ turn s k at serial c (historyOf g) → Turned r g2 g s k at serial c
+  turned : {r : Turn} → r ≡ turn s at serial notes (historyOf g) → Turned r g2 g s at serial notes
   unfolding putAt enteredAt
   turned q =
       let n = number s at serial (historyOf g) own fr in
@@ -106,30 +105,30 @@ module _ (s g g2 : List ℕ) (k at serial : ℕ) (c : Tally) (e : Event) (next :
   told : (r : Next) → next ≡ r → Says (noAt s at serial (historyOf g)) e r
   told r q = rw (number s at serial (historyOf g) own fr) (says (stepNo (historyOf g) (metIn second (historyOf g) (sessionAt s at) e) e) e r (sym q ∙ took .is))
 
-  pub turned-refuse : {n : ℕ} → next ≡ N.Refuse n → Turned (Stop (Bad n at)) g2 g s k at serial c
+  pub turned-refuse : {n : ℕ} → next ≡ N.Refuse n → Turned (Stop (Bad n at)) g2 g s at serial notes
   unfolding turn pick Says
   turned-refuse {n} q =
       let a = told (N.Refuse n) q in
       turned (rw (a .0, lt-ltb _ _ (a .1)))
 
-  pub turned-done : {o : Out} → next ≡ N.Done → o ≡ finish s (nextAt s at) c → Turned (Stop o) g2 g s k at serial c
+  pub turned-done : {o : Out} → next ≡ N.Done → o ≡ finish s (nextAt s at) notes → Turned (Stop o) g2 g s at serial notes
   unfolding turn pick Says
   turned-done q p =
       let a = told N.Done q in
       turned (rw (a .0, same s at serial (historyOf g) own fr, a .1, p))
 
-  pub turned-go : {after follow : ℕ} → next ≡ N.Go → after ≡ nextAt s at → follow ≡ nextSerial s at → Turned (More after follow c) g2 g s k at serial c
-  unfolding turn pick Says countedAll
+  pub turned-go : {after follow : ℕ} → next ≡ N.Go → after ≡ nextAt s at → follow ≡ nextSerial s at → Turned (More after follow notes) g2 g s at serial notes
+  unfolding turn pick Says
   turned-go q p f =
       let a = told N.Go q in
-      turned (rw (a .0, same s at serial (historyOf g) own fr, a .1, a .2 s at, p, f))
+      turned (rw (a .0, same s at serial (historyOf g) own fr, a .1, a .2 notes, p, f))
 
-  pub turned-text : {after follow : ℕ} {d : Tally} → next ≡ N.Text → after ≡ nextAt s at → follow ≡ nextSerial s at
-      → d ≡ counted k c (record { start = at + 8; length = lenAt s at - 6 }) → Turned (More after follow d) g2 g s k at serial c
-  unfolding turn pick Says countedAll
-  turned-text q p f n =
-      let a = told N.Text q in
-      turned (rw (a .0, same s at serial (historyOf g) own fr, a .1, a .2 s at, p, f, n))
+  pub turned-count : {after follow count : ℕ} → next ≡ N.Count → after ≡ nextAt s at → follow ≡ nextSerial s at → count ≡ notes + 1
+      → Turned (More after follow count) g2 g s at serial notes
+  unfolding turn pick Says
+  turned-count q p f n =
+      let a = told N.Count q in
+      turned (rw (a .0, same s at serial (historyOf g) own fr, a .1, a .2 notes, p, f, n))
 
 -- ── what a turn says ──
 
@@ -141,43 +140,43 @@ fit-at s at serial h t = go (framing (isSecond s) s at serial) refl
     go (F.Bad n) q = let b = no-bad s at serial h refl q in let z : noAt s at serial h ≤ 0 = ltb-false _ _ t in absurd (omega (arith, b .0, b .1))
     go (F.Good e) q = good-fit (isSecond s) s at serial q
 
-pub record Onward (s : List ℕ) (k at serial : ℕ) (c : Tally) (h : History) (after follow : ℕ) (d : Tally) : Type 0 where
+pub record Onward (s : List ℕ) (at serial notes : ℕ) (h : History) (after follow count : ℕ) : Type 0 where
   pub passes : ltb 0 (noAt s at serial h) ≡ false
   pub goes : isEnd (eventAt s at) ≡ false
   pub after-is : after ≡ nextAt s at
   pub follow-is : follow ≡ nextSerial s at
-  pub tally-is : d ≡ countedAll k c (textAt s at (eventAt s at))
+  pub count-is : count ≡ notesBehind notes (eventAt s at)
 
 pub record Refused (s : List ℕ) (at serial : ℕ) (h : History) (o : Out) : Type 0 where
   pub refuses : ltb 0 (noAt s at serial h) ≡ true
   pub is : o ≡ Bad (noAt s at serial h) at
 
-pub record Ended (s : List ℕ) (at serial : ℕ) (c : Tally) (h : History) (o : Out) : Type 0 where
+pub record Ended (s : List ℕ) (at serial notes : ℕ) (h : History) (o : Out) : Type 0 where
   pub passes : ltb 0 (noAt s at serial h) ≡ false
   pub ends : isEnd (eventAt s at) ≡ true
-  pub is : o ≡ finish s (nextAt s at) c
+  pub is : o ≡ finish s (nextAt s at) notes
 
-module _ (s : List ℕ) (k at serial : ℕ) (c : Tally) (h : History) where
-  pub more-says : {after follow : ℕ} {d : Tally} → turn s k at serial c h ≡ More after follow d → Onward s k at serial c h after follow d
+module _ (s : List ℕ) (at serial notes : ℕ) (h : History) where
+  pub more-says : {after follow count : ℕ} → turn s at serial notes h ≡ More after follow count → Onward s at serial notes h after follow count
   unfolding turn
-  more-says {after} {follow} {d} q =
+  more-says {after} {follow} {count} q =
       ifso (ltb 0 (noAt s at serial h))
       (λ t.
-      let w : Stop (Bad (noAt s at serial h) at) ≡ More after follow d = sym (pick-on _ _ _ t) ∙ q in
+      let w : Stop (Bad (noAt s at serial h) at) ≡ More after follow count = sym (pick-on _ _ _ t) ∙ q in
       let z : _≡_ {A = ℕ} 0 1 = cc in
       absurd (omega arith))
       (λ t.
       let p = sym (pick-off _ _ _ t) ∙ q in
       ifso (isEnd (eventAt s at))
       (λ u.
-      let w : Stop (finish s (nextAt s at) c) ≡ More after follow d = sym (pick-on _ _ _ u) ∙ p in
+      let w : Stop (finish s (nextAt s at) notes) ≡ More after follow count = sym (pick-on _ _ _ u) ∙ p in
       let z : _≡_ {A = ℕ} 0 1 = cc in
       absurd (omega arith))
       (λ u.
-      let w : More (nextAt s at) (nextSerial s at) (countedAll k c (textAt s at (eventAt s at))) ≡ More after follow d = sym (pick-off _ _ _ u) ∙ p in
-      record { passes = t; goes = u; after-is = cc; follow-is = cc; tally-is = cc }))
+      let w : More (nextAt s at) (nextSerial s at) (notesBehind notes (eventAt s at)) ≡ More after follow count = sym (pick-off _ _ _ u) ∙ p in
+      record { passes = t; goes = u; after-is = cc; follow-is = cc; count-is = cc }))
 
-  pub stop-says : {o : Out} → turn s k at serial c h ≡ Stop o → Refused s at serial h o ⊎ Ended s at serial c h o
+  pub stop-says : {o : Out} → turn s at serial notes h ≡ Stop o → Refused s at serial h o ⊎ Ended s at serial notes h o
   unfolding turn
   stop-says {o} q =
       ifso (ltb 0 (noAt s at serial h))
@@ -188,9 +187,9 @@ module _ (s : List ℕ) (k at serial : ℕ) (c : Tally) (h : History) where
       let p = sym (pick-off _ _ _ t) ∙ q in
       ifso (isEnd (eventAt s at))
       (λ u.
-      let w : Stop (finish s (nextAt s at) c) ≡ Stop o = sym (pick-on _ _ _ u) ∙ p in
+      let w : Stop (finish s (nextAt s at) notes) ≡ Stop o = sym (pick-on _ _ _ u) ∙ p in
       inr (record { passes = t; ends = u; is = cc }))
       (λ u.
-      let w : More (nextAt s at) (nextSerial s at) (countedAll k c (textAt s at (eventAt s at))) ≡ Stop o = sym (pick-off _ _ _ u) ∙ p in
+      let w : More (nextAt s at) (nextSerial s at) (notesBehind notes (eventAt s at)) ≡ Stop o = sym (pick-off _ _ _ u) ∙ p in
       let z : _≡_ {A = ℕ} 0 1 = cc in
       absurd (omega arith)))

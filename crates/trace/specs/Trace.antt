@@ -6,21 +6,16 @@ use lib.ListN.{length}
 use lib.Dec.{ltb}
 use Rattle.base.specs.Base.{pick}
 use Rattle.rules.specs.History.{History}
-use Rattle.rules.specs.Reading.{State, Stretch, Reading, refused, read, begin, eventIn, isEnd, met, refusalNo, after, reading}
+use Rattle.rules.specs.Reading.{State, Reading, refused, read, begin, eventIn, isEnd, met, refusalNo, after, reading}
 use Rattle.table.specs.Table.{historyOf, Held, cleared}
 use Rattle.steps.specs.Steps.{put}
-use Rattle.trace.specs.Turns.{tally}
-use Rattle.trace.specs.declared.Tally.{Tally}
 use Rattle.trace.specs.declared.Out.{Out}
 use Rattle.trace.specs.declared.Out.the-variants.{Good, Bad}
 
--- a reading as an answer, where note k is asked for
-unfoldable pub good : Tally → Out
-good c = Good (c .notes) (c .start) (c .length)
-
-unfoldable pub answered : ℕ → Reading → Out
-answered k (refused n p) = Bad n p
-answered k (read h notes) = good (tally k notes)
+-- a reading as an answer
+unfoldable pub answered : Reading → Out
+answered (refused n p) = Bad n p
+answered (read h notes) = Good notes
 
 -- the table g behind the records from the state st on: each that no row refuses is entered, up to the end record
 unfoldable pub recordFrom : ℕ → List ℕ → State → List ℕ → List ℕ
@@ -35,9 +30,9 @@ unfoldable pub recorded : List ℕ → List ℕ → List ℕ
 recorded s g = pick (ltb 32768 (length s)) (cleared g) (recordFrom (length s + 1) s begin (cleared g))
 
 -- the answer r to the trace s, of which the table g was made out of g₀
-pub record TraceRead (r : Out) (g g₀ s : List ℕ) (k : ℕ) : Type 0 where
-  pub is : r ≡ answered k (reading s)
+pub record TraceRead (r : Out) (g g₀ s : List ℕ) : Type 0 where
+  pub is : r ≡ answered (reading s)
   pub words : g ≡ recorded s g₀
   pub held : Held g
   -- where the trace was read, the table holds its history
-  pub history : (h : History) (notes : List Stretch) → reading s ≡ read h notes → historyOf g ≡ h
+  pub history : (h : History) (notes : ℕ) → reading s ≡ read h notes → historyOf g ≡ h

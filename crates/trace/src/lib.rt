@@ -1,4 +1,4 @@
-// The whole reading of a trace: its history goes into the table h, and one note, number k, is remembered by its place.
+// The whole reading of a trace: its history goes into the table h, and its notes are counted.
 ghost use Prim.Native.Nat.{_+_, _≤_, _<_};
 ghost use mathlib.Core.Path.{_≡_};
 ghost use mathlib.Core.Bool.{true};
@@ -6,59 +6,32 @@ ghost use lib.ListN.{length};
 ghost use Rattle.rules.specs.Records.{isSecond, sessionAt};
 ghost use Rattle.table.specs.Table.{tableWords, historyOf, Held};
 ghost use Rattle.sessions.specs.Open.{Beside, TookOf};
-ghost use Rattle.trace.specs.Turns.{counted, finish as finishing, sessionIn, Turned};
+ghost use Rattle.trace.specs.Turns.{finish as finishing, sessionIn, Turned};
 ghost use Rattle.trace.specs.Trace.{TraceRead};
 use frame::Framed;
 use rules::Event;
 use steps::Next;
 
-// The notes so far: how many, and the first byte and the length of note number k's text, 0 and 0 while it has not come.
-pub struct Tally {
-    pub notes: usize,
-    pub start: usize,
-    pub length: usize,
-}
-
-// The trace was read, with its number of notes and the stretch of note k; or it was refused, with the number of the row and the place.
+// The trace was read, with its number of notes; or it was refused, with the number of the row and the place.
 pub enum Out {
-    Good(usize, usize, usize),
+    Good(usize),
     Bad(u8, usize),
 }
 
-// Behind a record: where the next one starts, the serial that has to come, and the notes so far; or the reading is over.
+// Behind a record: where the next one starts, the serial that has to come, and the number of notes so far; or the reading is over.
 pub enum Turn {
-    More(usize, u32, Tally),
+    More(usize, u32, usize),
     Stop(Out),
 }
 
-// One note more.
-fn count(c: Tally, k: usize, start: usize, length: usize) -> Tally
-    requires { ⌜ c .notes < start ⌝ }
-    ensures { λ r. ⌜ r ≡ counted k c (record { start = start; length = length }) ⌝ }
-{
-    let n = c.notes + 1;
-    if n == k {
-        return Tally {
-            notes: n,
-            start: start,
-            length: length,
-        };
-    }
-    Tally {
-        notes: n,
-        start: c.start,
-        length: c.length,
-    }
-}
-
 // "After the end record, 11": bytes follow it, place the first such byte.
-fn finish(s: &[u8], at: usize, c: Tally) -> Out
-    ensures { λ r. ⌜ r ≡ finishing (now (s .entry)) at c ⌝ }
+fn finish(s: &[u8], at: usize, notes: usize) -> Out
+    ensures { λ r. ⌜ r ≡ finishing (now (s .entry)) at notes ⌝ }
 {
     if at < s.len() {
         return Out::Bad(11, at);
     }
-    Out::Good(c.notes, c.start, c.length)
+    Out::Good(notes)
 }
 
 // The session of the record at `at`, where its edition has one.
@@ -84,16 +57,15 @@ fn take(event: Event, s: &[u8], at: usize, second: bool, h: &mut [u64], o: &mut 
 // One record, at `at`, where `serial` has to come.
 fn turn_at(
     s: &[u8],
-    k: usize,
     at: usize,
     serial: u32,
-    c: Tally,
+    notes: usize,
     second: bool,
     h: &mut [u64],
     o: &mut [u8],
 ) -> Turn
-    requires { ⌜ Held (now h) × (at ≤ length (now s)) × (c .notes ≤ at) × (second ≡ isSecond (now s)) × Beside second (now o) (historyOf (now h)) ⌝ }
-    ensures { λ r. ⌜ Turned r (now (h .exit)) (now (h .entry)) (now (s .entry)) k at serial c × Beside second (now (o .exit)) (historyOf (now (h .exit))) ⌝ }
+    requires { ⌜ Held (now h) × (at ≤ length (now s)) × (notes ≤ at) × (second ≡ isSecond (now s)) × Beside second (now o) (historyOf (now h)) ⌝ }
+    ensures { λ r. ⌜ Turned r (now (h .exit)) (now (h .entry)) (now (s .entry)) at serial notes × Beside second (now (o .exit)) (historyOf (now (h .exit))) ⌝ }
 {
     let framed = frame::frame_at(s, at, serial, second);
     match framed {
@@ -106,18 +78,18 @@ fn turn_at(
             let follow = std::num::wrapping_add_u32(frame::u32_at(s, at + 4), 1);
             match next {
                 Next::Refuse(no) => Turn::Stop(Out::Bad(no, at)),
-                Next::Done => Turn::Stop(finish(s, after, c)),
-                Next::Go => Turn::More(after, follow, c),
-                Next::Text => Turn::More(after, follow, count(c, k, at + 8, len - 6)),
+                Next::Done => Turn::Stop(finish(s, after, notes)),
+                Next::Go => Turn::More(after, follow, notes),
+                Next::Count => Turn::More(after, follow, notes + 1),
             }
         }
     }
 }
 
 // The whole trace: row 2, then record by record.
-pub fn read_trace(s: &[u8], k: usize, h: &mut [u64]) -> Out
+pub fn read_trace(s: &[u8], h: &mut [u64]) -> Out
     requires { ⌜ length (now h) ≡ tableWords ⌝ }
-    ensures { λ r. ⌜ TraceRead r (now (h .exit)) (now (h .entry)) (now (s .entry)) k ⌝ }
+    ensures { λ r. ⌜ TraceRead r (now (h .exit)) (now (h .entry)) (now (s .entry)) ⌝ }
 {
     table::clear(h);
     if 32768 < s.len() {
@@ -127,19 +99,15 @@ pub fn read_trace(s: &[u8], k: usize, h: &mut [u64]) -> Out
     let mut o = [0u8; 256];
     let mut at = 0;
     let mut serial = 0;
-    let mut c = Tally {
-        notes: 0,
-        start: 0,
-        length: 0,
-    };
+    let mut notes = 0;
     loop {
-        let turn = turn_at(s, k, at, serial, c, second, h, &mut o);
+        let turn = turn_at(s, at, serial, notes, second, h, &mut o);
         match turn {
             Turn::Stop(out) => return out,
-            Turn::More(after, follow, counted) => {
+            Turn::More(after, follow, count) => {
                 at = after;
                 serial = follow;
-                c = counted;
+                notes = count;
             }
         }
     }

@@ -11,16 +11,15 @@ use Rattle.base.proofs.Tests.{clash, split}
 use Rattle.base.proofs.Searches.{joined-append, joined-one, joined-none}
 use Rattle.rules.specs.History.{History, txCount, opCount, current, writeOf}
 use Rattle.rules.specs.Records.{isSecond, eventAt}
-use Rattle.rules.specs.Reading.{State, Stretch, entered, reading, read}
+use Rattle.rules.specs.Reading.{State, entered}
 use Rattle.rules.specs.declared.Event.{Event}
 use Rattle.rules.specs.declared.Event.the-variants.{Open, Read, Write, Close}
-use Rattle.demand1.specs.Rows.{kind, session, key, value, status, noteText, Passes, editionFirst, inPlace, in-first, valueLawful, withinLimit, newWrite, open-inside, read-outside, write-outside, close-outside, end-inside, written-0, status-above-2, open-128th, read-1025th, write-1025th, the-latest, of-its-session, Next, after-open, after-read, after-write, after-close, after-note, after-edition, Reaches, start, on, ReadInto, to-the-end}
+use Rattle.demand1.specs.Rows.{kind, session, key, value, status, Passes, editionFirst, inPlace, in-first, valueLawful, withinLimit, newWrite, open-inside, read-outside, write-outside, close-outside, end-inside, written-0, status-above-2, open-128th, read-1025th, write-1025th, the-latest, of-its-session, Next, after-open, after-read, after-write, after-close, after-note, after-edition, Reaches, start, on, ReadInto, to-the-end, HasHistory}
 use Rattle.demand1.proofs.Histories.{inside-current, outside-current}
 use Rattle.demand1.proofs.Events.{Framed, passes-framed, open-event, read-event, write-event, close-event, at-least, below}
 use Rattle.demand1.proofs.Steps.{inside}
 use Rattle.demand1.proofs.Sessions.{second-iff}
 use Rattle.demand1.proofs.Checks.{write-found}
-use Rattle.demand1.proofs.Readings.{reads-iff}
 use Rattle.writing.specs.Steps.{stepBytes}
 use Rattle.writing.specs.Listing.{historySteps}
 use Rattle.writing.proofs.Steps.{step-length}
@@ -60,7 +59,7 @@ module _ (s : List ℕ) (first : isSecond s ≡ false) (st : State) (p : Passes 
   -- each is a step that is taken, or a note
   pub data Stepped (x : State) : Type 0 where
     by-step : (e : Event) → Taken h e → eventAt s (st .at) ≡ e → x .history ≡ entered h (current h) e → x .notes ≡ st .notes → Stepped x
-    by-note : x .history ≡ h → (x .notes ≡ [] → ⊥) → Stepped x
+    by-note : kind s (st .at) ≡ 6 → x .history ≡ h → x .notes ≡ st .notes + 1 → Stepped x
 
   pub stepped : {x : State} → Next s st x → Stepped x
   unfolding entered
@@ -86,7 +85,7 @@ module _ (s : List ℕ) (first : isSecond s ≡ false) (st : State) (p : Passes 
       let c = inside-current h i in
       by-step (Close (status s (st .at))) (close-taken (omega (arith, c, i .0)) (at-least (status s (st .at)) 2 (λ l. p valueLawful (status-above-2 k l)))) (close-event f k) (rw c) refl
   stepped (after-close k (of-its-session e _)) = absurd (clash e first)
-  stepped (after-note k) = by-note refl (λ e. omega (arith, ap length e, length-append (st .notes) (noteText s (st .at) ∷ [])))
+  stepped (after-note k) = by-note k refl refl
   stepped (after-edition k) = absurd (no-edition k)
 
 -- the history of a state that reading comes to
@@ -96,11 +95,14 @@ reached {s} first (on {st} {next} r p n) = by (reached first r) (stepped s first
   where
     by : GrownSo (st .history) → Stepped s first st p next → GrownSo (next .history)
     by g (by-step e t _ i _) = rw i (so (grown-step e g t))
-    by g (by-note i _) = rw i g
+    by g (by-note _ i _) = rw i g
 
 -- .. and of a trace that is read, which ends outside a transaction
-pub read-grown : {s : List ℕ} → isSecond s ≡ false → {h : History} {notes : List Stretch} → ReadInto s h notes → GrownSo h × (current h ≡ 0)
-read-grown first (to-the-end {st} l r p k e) = (reached first r, outside-current (st .history) (λ i. p inPlace (in-first first (end-inside k i))))
+pub read-grown : {s : List ℕ} → isSecond s ≡ false → {h : History} → HasHistory s h → GrownSo h × (current h ≡ 0)
+read-grown {s} first x = of (x .reads)
+  where
+    of : {h : History} {notes : ℕ} → ReadInto s h notes → GrownSo h × (current h ≡ 0)
+    of (to-the-end {st} l r p k e) = (reached first r, outside-current (st .history) (λ i. p inPlace (in-first first (end-inside k i))))
 
 -- ── how long the steps are ──
 
@@ -111,8 +113,8 @@ grown-bytes (grown-step {es} e g t) =
     ∙ rw (joined-one stepBytes e) (omega (arith, step-length e (taken-step t), grown-bytes g, length-append es (e ∷ [])))
 
 -- two for a transaction and one for an operation
-pub listing-length : (s : List ℕ) → isSecond s ≡ false → (h : History) (notes : List Stretch) → reading s ≡ read h notes
+pub listing-length : (s : List ℕ) → isSecond s ≡ false → {h : History} → HasHistory s h
     → length (joined stepBytes (historySteps h)) ≡ 16 * (2 * txCount h + opCount h)
-listing-length s first h notes e =
-    let r = read-grown first (reads-iff s h notes .0 e) in
+listing-length s first {h} x =
+    let r = read-grown first x in
     omega (arith, grown-bytes (r .0), counts (r .0) .steps, open-none h (r .1))

@@ -6,7 +6,7 @@ use mathlib.Core.List.{List}
 use Rattle.base.specs.Base.{pick, joined}
 use Rattle.rules.specs.History.{History}
 use Rattle.rules.specs.Records.{isSecond}
-use Rattle.rules.specs.Reading.{Stretch, refused, read, reading}
+use Rattle.rules.specs.Reading.{refused, read, reading}
 use Rattle.writing.specs.Filling.{refusing, content, fillOf, into}
 use Rattle.writing.specs.Steps.{stepBytes}
 use Rattle.writing.specs.Listing.{historySteps, stepsRead, stepped}
@@ -17,7 +17,7 @@ module _ (s o : List ℕ) where
   listed-refused e = rw e
 
   -- one that is read, of edition 2 and of edition 1
-  module _ {h : History} {notes : List Stretch} (e : reading s ≡ read h notes) where
+  module _ {h : History} {notes : ℕ} (e : reading s ≡ read h notes) where
     pub listed-second : isSecond s ≡ true → stepped s o ≡ fillOf (refusing 6 0) o
     unfolding stepped stepsRead into pick
     listed-second t = rw (e, t)

@@ -11,10 +11,10 @@ use Rattle.base.proofs.Tests.{ifso, split}
 use Rattle.rules.specs.Numbers.{over}
 use Rattle.rules.specs.History.{History, txCount, opCount, current, empty}
 use Rattle.rules.specs.Records.{isSecond}
-use Rattle.rules.specs.Reading.{Stretch, Reading, refused, read, reading}
-use Rattle.demand1.specs.Rows.{serial, ReadInto}
+use Rattle.rules.specs.Reading.{Reading, refused, read, reading}
+use Rattle.demand1.specs.Rows.{serial, ReadInto, HasHistory}
 use Rattle.rules.proofs.Numbers.{over-front}
-use Rattle.demand1.proofs.Readings.{refuses-iff, reads-iff, one-outcome}
+use Rattle.demand1.proofs.Readings.{refuses-iff, has-history, has-read, read-has, history-one}
 use Rattle.writing.specs.Filling.{refusing, answering, said, content, fillOf, into}
 use Rattle.writing.specs.Steps.{stepsIn, stepBytes}
 use Rattle.writing.specs.Writing.{Followed, good, follow, traceOf, written}
@@ -46,7 +46,7 @@ listing h = joined stepBytes (historySteps h)
 
 -- ── what the steps of a trace come to ──
 
-module _ (s : List ℕ) (b : AllBytes s) (first : isSecond s ≡ false) {h : History} {notes : List Stretch} (r : ReadInto s h notes) where
+module _ (s : List ℕ) (b : AllBytes s) (first : isSecond s ≡ false) {h : History} (r : HasHistory s h) where
   -- they are read back
   listing-back : stepsIn (listing h) ≡ historySteps h
   listing-back = steps-back (read-grown first r .0) (slim-read s b r)
@@ -57,7 +57,7 @@ module _ (s : List ℕ) (b : AllBytes s) (first : isSecond s ≡ false) {h : His
       ap (follow empty 1) (listing-back ∙ sym (append-nil (historySteps h))) ∙ grown-follow (read-grown first r .0) [] ∙ follow-end h (1 + length (historySteps h)) (read-grown first r .1)
 
   long : length (listing h) ≡ stepsLength h
-  long = listing-length s first h notes (reads-iff s h notes .1 r)
+  long = listing-length s first r
 
   -- no more steps than sixteen bytes each
   comes-within : {x : List ℕ} {k : ℕ} {g : History} → Comes x k g → 16 * k < length x + 16
@@ -70,7 +70,6 @@ module _ (s : List ℕ) (b : AllBytes s) (first : isSecond s ≡ false) {h : His
         first-edition = first;
         is-bytes = steps-bytes (historySteps h);
         history = h;
-        notes = notes;
         reads = r;
         comes = by (ends (listing h)) listing-good;
         unused = unused-steps (read-grown first r .0) (slim-read s b r);
@@ -108,28 +107,26 @@ known {s} x a =
 -- the steps of a trace are one
 steps-one : {s : List ℕ} (x y : List ℕ) → StepsOf s x → StepsOf s y → x ≡ y
 steps-one {s} x y a b =
-    let h : a .history ≡ b .history = one-outcome s .one-reading (a .history) (b .history) (a .notes) (b .notes) (a .reads) (b .reads) .0 in
+    let h : a .history ≡ b .history = history-one (a .reads) (b .reads) in
     known x a ∙ ap listing h ∙ sym (known y b)
 
 -- ── the definition's cases ──
 
 module _ (s o : List ℕ) where
-  listed-short : isSecond s ≡ false → {h : History} {notes : List Stretch} → ReadInto s h notes → length o < stepsLength h → stepped s o ≡ fillOf (refusing 16 (stepsLength h)) o
-  listed-short first {h} {notes} r l =
-      let e = reads-iff s h notes .1 r in
-      let n = listing-length s first h notes e in
-      listed-first s o e first ∙ into-short (listing h) o (omega arith) ∙ ap (λ (x : ℕ). fillOf (refusing 16 x) o) n
+  listed-short : isSecond s ≡ false → {h : History} → HasHistory s h → length o < stepsLength h → stepped s o ≡ fillOf (refusing 16 (stepsLength h)) o
+  listed-short first {h} r l =
+      let n = listing-length s first r in
+      listed-first s o (read-has r) first ∙ into-short (listing h) o (omega arith) ∙ ap (λ (x : ℕ). fillOf (refusing 16 x) o) n
 
-  listed-fits : isSecond s ≡ false → {h : History} {notes : List Stretch} → ReadInto s h notes → stepsLength h ≤ length o
+  listed-fits : isSecond s ≡ false → {h : History} → HasHistory s h → stepsLength h ≤ length o
       → stepped s o ≡ fillOf (answering (length (listing h))) (over (listing h) o)
-  listed-fits first {h} {notes} r l =
-      let e = reads-iff s h notes .1 r in
-      let n = listing-length s first h notes e in
-      listed-first s o e first ∙ into-fits (listing h) o (omega arith)
+  listed-fits first {h} r l =
+      let n = listing-length s first r in
+      listed-first s o (read-has r) first ∙ into-fits (listing h) o (omega arith)
 
   declined-is : (m p : ℕ) → ListDeclines s (length o) m p → stepped s o ≡ fillOf (refusing m p) o
   declined-is m p (trace-refused {n} {at} x) = listed-refused s o (refuses-iff s n at .1 x)
-  declined-is m p (second-edition {h} {notes} t r) = listed-second s o (reads-iff s h notes .1 r) t
+  declined-is m p (second-edition t r) = listed-second s o (read-has r) t
   declined-is m p (steps-short first r l) = listed-short first r l
 
   module _ (b : AllBytes s) where
@@ -142,7 +139,7 @@ module _ (s o : List ℕ) where
         by : (r : Reading) → reading s ≡ r → Out
         by (refused n p) e = declining n p (trace-refused (refuses-iff s n p .0 e))
         by (read h notes) e =
-            let r = reads-iff s h notes .0 e in
+            let r = has-read e in
             ifso (isSecond s) (λ t. declining 6 0 (second-edition t r))
             (λ first.
             ⊎-elim (λ m. declining 16 (stepsLength h) (steps-short first r m)) (λ g. putting (listing h) (steps-of s b first r) (listed-fits first r g))
@@ -163,19 +160,19 @@ lists-one x y = fills-one steps-one x y
 -- ── written again ──
 
 -- the steps of an edition 1 trace without notes are written as its own bytes
-written-again : (s : List ℕ) → AllBytes s → isSecond s ≡ false → {h : History} → ReadInto s h [] → (o : List ℕ) → written (listing h) (serial s 0) o ≡ into (content s) o
+written-again : (s : List ℕ) → AllBytes s → isSecond s ≡ false → {h : History} → ReadInto s h 0 → (o : List ℕ) → written (listing h) (serial s 0) o ≡ into (content s) o
 written-again s b first {h} r o =
-    written-good (listing h) (serial s 0) o (listing-good s b first r)
-    ∙ ap (λ (x : List ℕ). into (content x) o) (ap (λ es. traceOf (serial s 0) es h) (listing-back s b first r) ∙ own-bytes s b first r)
+    written-good (listing h) (serial s 0) o (listing-good s b first (has-history r))
+    ∙ ap (λ (x : List ℕ). into (content x) o) (ap (λ es. traceOf (serial s 0) es h) (listing-back s b first (has-history r)) ∙ own-bytes s b first r)
 
 -- "a trace without notes, read and written again, gives its own bytes": one of edition 1, where both buffers have room
-pub own-again : (s : List ℕ) → AllBytes s → isSecond s ≡ false → {h : History} → ReadInto s h [] → (x o : List ℕ) → stepsLength h ≤ length x → length s ≤ length o
+pub own-again : (s : List ℕ) → AllBytes s → isSecond s ≡ false → {h : History} → ReadInto s h 0 → (x o : List ℕ) → stepsLength h ≤ length x → length s ≤ length o
     → rewritten s x o ≡ fillOf (answering (length s)) (over s o)
 unfolding rewritten again pick
 own-again s b first {h} r x o l m =
-    rw (listed-fits s x first r l, over-front (listing h) x) (written-again s b first r o ∙ into-fits s o m)
+    rw (listed-fits s x first (has-history r) l, over-front (listing h) x) (written-again s b first r o ∙ into-fits s o m)
 
 -- one of edition 2 is refused, for the record that it begins with
-pub second-again : (s : List ℕ) → isSecond s ≡ true → {h : History} {notes : List Stretch} → ReadInto s h notes → (x o : List ℕ) → rewritten s x o ≡ fillOf (refusing 6 0) o
+pub second-again : (s : List ℕ) → isSecond s ≡ true → {h : History} → HasHistory s h → (x o : List ℕ) → rewritten s x o ≡ fillOf (refusing 6 0) o
 unfolding rewritten again pick
-second-again s t {h} {notes} r x o = rw (listed-second s x (reads-iff s h notes .1 r) t)
+second-again s t r x o = rw (listed-second s x (read-has r) t)

@@ -6,17 +6,15 @@ use mathlib.Core.List.{List, [], _∷_, _++_, map, append-assoc, append-nil}
 use native.Mathlib.Omega.{arith}
 use lib.ListN.{length, length-append}
 use Rattle.base.specs.Base.{firstFit}
-use Rattle.base.proofs.Rows.{RowsCounted, fit-behind}
 use Rattle.rules.specs.History.{History, tx, txCount, current, empty}
-use Rattle.rules.specs.Records.{isSecond, frameRows, eventAt}
-use Rattle.rules.specs.Reading.{State, stepRows, misplaced, unlawful, excess, repeats, entered, textAt, met, after, refusalNo}
+use Rattle.rules.specs.Records.{isSecond}
+use Rattle.rules.specs.Reading.{State, stepRows, misplaced, unlawful, excess, repeats, entered, notesBehind, met, after}
 use Rattle.rules.specs.Traces.{recordOf, trace}
 use Rattle.rules.specs.declared.Event.{Event}
 use Rattle.rules.specs.declared.Event.the-variants.{Open, Read, Write, Close, End, Other}
 use Rattle.rules.proofs.Traces.{record-length, serialFrom, serial-below, serial-next}
 use Rattle.demand1.specs.Rows.{behind, Passes, Reaches, start, on, ReadInto, to-the-end}
 use Rattle.demand1.proofs.Steps.{next-after}
-use Rattle.demand1.proofs.Refusals.{refusal-none}
 use Rattle.writing.specs.Writing.{itemOf, traceOf, good, follow, endNo}
 use Rattle.writing.specs.Listing.{historySteps}
 use Rattle.writing.specs.Forms.{Marked, mark, itemWith, itemIn, preamble, wholeOf}
@@ -29,30 +27,24 @@ use Rattle.written.proofs.Records.{Narrow, narrow-end, FitsRecord, fits
 use Rattle.writing.proofs.Lengths.{items-split, items-more}
 use Rattle.writing.proofs.Sizes.{whole-length}
 use Rattle.written.proofs.Whole.{lead, lead-none, lead-more, whole-lead, first-whole, wanted-edition}
-use Rattle.written.proofs.Framed.{framed-none}
+use Rattle.written.proofs.Framed.{framed-passes}
 use Rattle.written.proofs.Meets.{Lone, lone, latest-session, met-current}
 use Rattle.written.proofs.Slim.{EachSlim, slim-front, slim-at, slim-session, slim-sessions, narrow}
 
--- the framing's rows have numbers
-frame-counted : (second : Bool) (s : List ℕ) (at e : ℕ) → RowsCounted (frameRows second s at e)
-unfolding frameRows RowsCounted
-frame-counted second s at e =
-    (omega arith, (omega arith, (omega arith, (omega arith, (omega arith, (omega arith, (omega arith, (omega arith, tt))))))))
-
 -- a step that is taken is no end and no note
-not-end : {h : History} (e : Event) → Taken h e → itemOf e .kind < 5
+pub not-end : {h : History} (e : Event) → Taken h e → itemOf e .kind < 5
 unfolding itemOf
 not-end (Open s) t = omega arith
 not-end (Read x v) t = omega arith
 not-end (Write x v) t = omega arith
 not-end (Close c) t = omega arith
 
-no-text : {h : History} (b : List ℕ) (at : ℕ) (e : Event) → Taken h e → textAt b at e ≡ []
-unfolding textAt
-no-text b at (Open s) t = refl
-no-text b at (Read x v) t = refl
-no-text b at (Write x v) t = refl
-no-text b at (Close c) t = refl
+no-note : {h : History} (n : ℕ) (e : Event) → Taken h e → notesBehind n e ≡ n
+unfolding notesBehind
+no-note n (Open s) t = refl
+no-note n (Read x v) t = refl
+no-note n (Write x v) t = refl
+no-note n (Close c) t = refl
 
 -- inside a transaction it is of the open one, and of its session
 taken-owned : {h : History} {e : Event} → Taken h e → 0 < current h → Owned e
@@ -77,7 +69,7 @@ edition-rows h t = refl
 module _ (second : Bool) (n : ℕ) (low : n < 2 ^ 32) (b : List ℕ) (own : isSecond b ≡ second) where
   -- behind these bytes: where the next record starts, the serial that has to come, the history so far
   abbrev stateBehind : List ℕ → ℕ → History → State
-  stateBehind front next h = record { at = length front; serial = next; history = h; notes = [] }
+  stateBehind front next h = record { at = length front; serial = next; history = h; notes = 0 }
 
   -- reading comes there, behind k records
   record Behind (front : List ℕ) (k : ℕ) (h : History) : Type 0 where
@@ -96,23 +88,19 @@ module _ (second : Bool) (n : ℕ) (low : n < 2 ^ 32) (b : List ℕ) (own : isSe
     -- no row refuses it where rows 7 to 10 do not
     passes : (next : ℕ) (h : History) (t : ℕ) → (0 < length front → next ≡ serialFrom n k) → (itemIn second x .kind ≡ 16 → length front ≡ 0) → met b (stateBehind front next h) ≡ t
         → firstFit (stepRows h t (x .event)) ≡ 0 → Passes b (stateBehind front next h)
-    unfolding refusalNo
     passes next h t f g m z =
-        let st = stateBehind front next h in
-        refusal-none b st .0
-        (fit-behind (frameRows (isSecond b) b (length front) next) (stepRows h (met b st) (eventAt b (length front))) (frame-counted (isSecond b) b (length front) next)
-        (framed-none b st (is-here .framed) (λ l. is-here .serial-is ∙ sym (f l)) (λ q. (g (sym (is-here .kind-is) ∙ q), is-here .edition-is q)))
-        ∙ rw (m, is-here .event-is) z)
+        framed-passes b (stateBehind front next h) (is-here .framed) (λ l. is-here .serial-is ∙ sym (f l))
+        (λ q. (g (sym (is-here .kind-is) ∙ q), is-here .edition-is q)) (rw (m, is-here .event-is) z)
 
     -- the state behind it
-    after-is : (next : ℕ) (h : History) (t : ℕ) → met b (stateBehind front next h) ≡ t → textAt b (length front) (x .event) ≡ []
+    after-is : (next : ℕ) (h : History) (t : ℕ) → met b (stateBehind front next h) ≡ t → notesBehind 0 (x .event) ≡ 0
         → after b (stateBehind front next h) ≡ stateBehind (front ++ recordOf (serialFrom n k) (itemIn second x)) ((serialFrom n k + 1) % 2 ^ 32) (entered h t (x .event))
     unfolding after
     after-is next h t m e = rw (m, is-here .event-is, is-here .serial-is, ends-here, e)
 
     -- a record that is not the end
     on-record : {h : History} (r : Behind front k h) (t : ℕ) → (itemIn second x .kind ≡ 16 → length front ≡ 0) → met b (stateBehind front (r .next) h) ≡ t
-        → firstFit (stepRows h t (x .event)) ≡ 0 → textAt b (length front) (x .event) ≡ [] → (itemIn second x .kind ≡ 5 → ⊥)
+        → firstFit (stepRows h t (x .event)) ≡ 0 → notesBehind 0 (x .event) ≡ 0 → (itemIn second x .kind ≡ 5 → ⊥)
         → Behind (front ++ recordOf (serialFrom n k) (itemIn second x)) (k + 1) (entered h t (x .event))
     on-record {h} r t g m z e d =
         let p = passes (r .next) h t (r .follows) g m z in
@@ -131,7 +119,7 @@ module _ (second : Bool) (n : ℕ) (low : n < 2 ^ 32) (b : List ℕ) (own : isSe
       let x = mark (sessionAfter m e) e in
       on-record front k x back (fits-event l w) is r (current h) (λ q. absurd (no-edition second (x .session) w q))
       (met-current b (stateBehind front (r .next) h) only (λ y c. s c ∙ sym (is-here front k x back (fits-event l w) is .session-is (sym own ∙ y) (taken-owned t c) ∙ owned-keeps m (taken-owned t c)))) (taken-rows h e t)
-      (no-text b (length front) e t) (λ q. omega (arith, q, same-kind second (x .session) w, not-end e t))
+      (no-note 0 e t) (λ q. omega (arith, q, same-kind second (x .session) w, not-end e t))
 
 -- ── all of them ──
 
@@ -142,7 +130,7 @@ leading second n es = trace n (map (itemIn second) (lead second es))
 -- "Edition 2 of the trace begins with a kind 16 record", which enters nothing
 behind-preamble : (second : Bool) (n : ℕ) (low : n < 2 ^ 32) (b : List ℕ) (own : isSecond b ≡ second) (rest : List Marked) → b ≡ trace n (map (itemIn second) (preamble second ++ rest))
     → Behind second n low b own (trace n (map (itemIn second) (preamble second))) (length (preamble second)) empty
-unfolding preamble trace serialFrom itemWith entered textAt
+unfolding preamble trace serialFrom itemWith entered notesBehind
 behind-preamble false n low b own rest is = record { next = 0; follows = λ l. absurd (omega arith); reaches = start }
 behind-preamble true n low b own rest is =
     let r = recordOf n (itemWith 0 Other) in
@@ -168,7 +156,7 @@ behind-all second n low b own (grown-step {es} {h} e g t) rest is s =
 
 -- a history that has grown, as blocks in either edition, is read back, without notes
 pub read-back-in : (second : Bool) (n : ℕ) → n < 2 ^ 32 → {g : History} → Grown (historySteps g) g → current g ≡ 0 → EachSlim (historySteps g)
-    → ReadInto (trace n (map (itemIn second) (wholeOf second g))) g []
+    → ReadInto (trace n (map (itemIn second) (wholeOf second g))) g 0
 unfolding endNo
 read-back-in second n low {g} x z s =
     let es = historySteps g in
@@ -193,7 +181,7 @@ read-back-in second n low {g} x z s =
     few true = omega (arith, whole-length true n low g x z, counts x .few-txs, counts x .few-ops)
 
 -- a good sequence is read back
-pub read-back : (n : ℕ) → n < 2 ^ 32 → (es : List Event) (g : History) → follow empty 1 es ≡ good g → EachSlim es → ReadInto (traceOf n es g) g []
+pub read-back : (n : ℕ) → n < 2 ^ 32 → (es : List Event) (g : History) → follow empty 1 es ≡ good g → EachSlim es → ReadInto (traceOf n es g) g 0
 read-back n low es g f s =
     let r = followed empty 1 es grown-none f in
     let t = told (r .0) in

@@ -1,16 +1,17 @@
 -- A record that was written is read back, in either edition.
-use Prim.Native.Nat.{ℕ, _+_, _%_, _^_, _<_, _≤_}
+use Prim.Native.Nat.{ℕ, _+_, _-_, _%_, _^_, _<_, _≤_}
 use mathlib.Core.Path.{_≡_, refl, ap, sym, _∙_}
 use mathlib.Core.Bool.{Bool, true, false}
 use mathlib.Core.List.{List, [], _∷_, _++_, map, append-assoc}
 use native.Mathlib.Omega.{arith}
 use lib.Dec.{leb, eqb}
 use lib.ListN.{length, length-append}
+use lib.Seq.{take-append-seam, drop-append-add}
 use borrow.Author.Tests.{le-leb, ne-eqb}
 use Rattle.base.specs.Base.{_or_, pick}
 use Rattle.base.proofs.Tests.{clash, and-on, and-no-left}
 use Rattle.rules.specs.Numbers.{le, bytes}
-use Rattle.rules.specs.Records.{isSecond, fieldsFrom, fieldsAt, isMisfit, eventAt}
+use Rattle.rules.specs.Records.{isSecond, fieldsFrom, fieldsAt, payloadAt, isMisfit, eventAt}
 use Rattle.rules.specs.Traces.{Item, item, opens, ends, raw, recordOf, trace}
 use Rattle.rules.specs.declared.Event.{Event}
 use Rattle.rules.specs.declared.Event.the-variants.{Open, Read, Write, Close, End, Note, Other}
@@ -165,17 +166,24 @@ module _ (front : List ℕ) (m : ℕ) (i : Item) (back : List ℕ) where
   at-start : (w : ℕ) → le w between (length front) ≡ le w (recordOf m i ++ back) 0
   at-start w = let e : length front ≡ length front + 0 = omega arith in ap (le w between) e ∙ le-behind w front (recordOf m i ++ back) 0
 
-  record-len : length (i .payload) < 65530 → len between (length front) ≡ 6 + length (i .payload)
+  pub record-len : length (i .payload) < 65530 → len between (length front) ≡ 6 + length (i .payload)
   unfolding recordOf raw bytes le
   record-len l = at-start 2 ∙ omega arith
 
-  record-kind : i .kind < 65536 → kind between (length front) ≡ i .kind
+  pub record-kind : i .kind < 65536 → kind between (length front) ≡ i .kind
   unfolding recordOf raw bytes le
   record-kind l = le-behind 2 front (recordOf m i ++ back) 2 ∙ omega arith
 
-  record-serial : m < 4294967296 → serial between (length front) ≡ m
+  pub record-serial : m < 4294967296 → serial between (length front) ≡ m
   unfolding recordOf raw bytes le
   record-serial l = le-behind 4 front (recordOf m i ++ back) 4 ∙ omega arith
+
+  -- its payload
+  pub record-payload : length (i .payload) < 65530 → payloadAt between (length front) ≡ i .payload
+  unfolding recordOf raw bytes
+  record-payload l =
+      let e : length front + 2 + len between (length front) - (length front + 8) ≡ length (i .payload) = omega (arith, record-len l) in
+      rw (e, drop-append-add front (recordOf m i ++ back) 8) (take-append-seam (i .payload) back)
 
   -- a number in its payload
   record-field : (w j : ℕ) → le w between (length front + (8 + j)) ≡ le w (i .payload ++ back) j
@@ -209,7 +217,7 @@ module _ (front : List ℕ) (m : ℕ) (i : Item) (back : List ℕ) where
   record-status {second} n c own p l = behind-session second n (bytes 1 c) p 1 0 (fieldsAt between (length front)) (rw own (omega arith)) ∙ le-bytes 1 c back l
 
   -- it ends within
-  record-within : length front + (8 + length (i .payload)) ≤ length between
+  pub record-within : length front + (8 + length (i .payload)) ≤ length between
   record-within =
       omega (arith, length-append front (recordOf m i ++ back), length-append (recordOf m i) back, record-length m i)
 
@@ -299,12 +307,15 @@ module _ (second : Bool) (front : List ℕ) (m : ℕ) (back : List ℕ) where
 -- ── which edition is written ──
 
 -- the first record's kind decides
+pub first-record : (n : ℕ) (i : Item) (back : List ℕ) → i .kind < 65536 → isSecond (recordOf n i ++ back) ≡ eqb (i .kind) 16
+unfolding isSecond
+first-record n i back l =
+    let b = recordOf n i ++ back in
+    and-on (leb 4 (length b)) (eqb (kind b 0) 16) (le-leb 4 (length b) (omega (arith, record-within [] n i back))) ∙ ap (λ (k : ℕ). eqb k 16) (record-kind [] n i back l)
+
 pub first-kind : (n : ℕ) (i : Item) (is : List Item) → i .kind < 65536 → isSecond (trace n (i ∷ is)) ≡ eqb (i .kind) 16
-unfolding isSecond trace
-first-kind n i is l =
-    let r = trace ((n + 1) % 2 ^ 32) is in
-    let b = recordOf n i ++ r in
-    and-on (leb 4 (length b)) (eqb (kind b 0) 16) (le-leb 4 (length b) (omega (arith, record-within [] n i r))) ∙ ap (λ (k : ℕ). eqb k 16) (record-kind [] n i r l)
+unfolding trace
+first-kind n i is l = first-record n i (trace ((n + 1) % 2 ^ 32) is) l
 
 -- the first of edition 1
 pub first-edition : (n : ℕ) (es : List Event) → isSecond (recordsOf n es) ≡ false

@@ -8,12 +8,12 @@ use lib.ListN.{length, take, length-append}
 use lib.Seq.{take-length}
 use Rattle.rules.specs.History.{History, txCount, current}
 use Rattle.rules.specs.Records.{isSecond, eventAt}
-use Rattle.rules.specs.Reading.{State, Stretch, entered}
+use Rattle.rules.specs.Reading.{State, entered}
 use Rattle.rules.specs.Traces.{recordOf, trace}
 use Rattle.rules.specs.declared.Event.{Event}
 use Rattle.rules.specs.declared.Event.the-variants.{End}
 use Rattle.rules.proofs.Traces.{serialFrom, serial-next}
-use Rattle.demand1.specs.Rows.{serial, endNumber, behind, Passes, serialFollows, valueLawful, end-wrong, Next, after-open, after-read, after-write, after-close, after-note, after-edition, Reaches, start, on, ReadInto, to-the-end}
+use Rattle.demand1.specs.Rows.{kind, serial, endNumber, behind, Passes, serialFollows, valueLawful, end-wrong, Next, after-open, after-read, after-write, after-close, after-note, after-edition, Reaches, start, on, ReadInto, to-the-end}
 use Rattle.demand1.proofs.Events.{Framed, passes-framed, exactly, same-or}
 use Rattle.writing.specs.Writing.{itemOf, recordsOf, traceOf}
 use Rattle.writing.specs.Listing.{historySteps}
@@ -25,6 +25,31 @@ use Rattle.writing.proofs.Listed.{Stepped, by-step, by-note, stepped, reached}
 use Rattle.written.specs.Writes.{AllBytes}
 use Rattle.written.proofs.Slim.{le-below}
 use Rattle.written.proofs.Spelt.{step-spelt, last-spelt}
+
+-- ── one record more ──
+
+-- the state behind the record
+pub behind-it : {s : List ℕ} {st x : State} → Next s st x → (x .at ≡ behind s (st .at)) × (x .serial ≡ (serial s (st .at) + 1) % 2 ^ 32)
+behind-it (after-open k) = (refl, refl)
+behind-it (after-read k _) = (refl, refl)
+behind-it (after-write k _) = (refl, refl)
+behind-it (after-close k _) = (refl, refl)
+behind-it (after-note k) = (refl, refl)
+behind-it (after-edition k) = (refl, refl)
+
+-- a step that is taken is the last of the history's
+pub steps-more : {s : List ℕ} → isSecond s ≡ false → {st : State} → Reaches s st → (e : Event) → Taken (st .history) e → {h : History}
+    → h ≡ entered (st .history) (current (st .history)) e → historySteps h ≡ historySteps (st .history) ++ (e ∷ [])
+steps-more first rs e t i = ap historySteps i ∙ told (grown-step e (reached first rs) t)
+
+-- the end, which says how many transactions there are, is the last
+pub last-bytes : {s : List ℕ} → AllBytes s → isSecond s ≡ false → (st : State) → Passes s st → kind s (st .at) ≡ 5 → behind s (st .at) ≡ length s
+    → take (st .at) s ++ recordOf (serial s (st .at)) (itemOf (End (txCount (st .history)))) ≡ s
+last-bytes {s} b first st p k e =
+    let n = exactly (endNumber s (st .at)) (txCount (st .history)) (λ d. p valueLawful (end-wrong k d)) in
+    rw (← n) (sym (last-spelt b first (passes-framed p) k) ∙ rw e (take-length s))
+
+-- ── all of them ──
 
 -- the records before a state are those of its history's steps
 record Retold (s : List ℕ) (st : State) : Type 0 where
@@ -42,15 +67,6 @@ module _ (s : List ℕ) (b : AllBytes s) (first : isSecond s ≡ false) where
   serial-here {st} p r =
       same-or (st .at) 0 (λ z. rw (z, r .none z) refl)
       (λ d. exactly (serial s (st .at)) (st .serial) (λ e. p serialFollows (omega arith, e)) ∙ r .follows (omega arith))
-
-  -- the state behind the record
-  behind-it : {st x : State} → Next s st x → (x .at ≡ behind s (st .at)) × (x .serial ≡ (serial s (st .at) + 1) % 2 ^ 32)
-  behind-it (after-open k) = (refl, refl)
-  behind-it (after-read k _) = (refl, refl)
-  behind-it (after-write k _) = (refl, refl)
-  behind-it (after-close k _) = (refl, refl)
-  behind-it (after-note k) = (refl, refl)
-  behind-it (after-edition k) = (refl, refl)
 
   -- a step more
   retold-step : {st x : State} → Passes s st → Reaches s st → (e : Event) → Taken (st .history) e → eventAt s (st .at) ≡ e → x .history ≡ entered (st .history) (current (st .history)) e
@@ -78,34 +94,24 @@ module _ (s : List ℕ) (b : AllBytes s) (first : isSecond s ≡ false) where
       here = serial-here p r
 
       steps : historySteps (x .history) ≡ es ++ (e ∷ [])
-      steps = ap historySteps i ∙ told (grown-step e (reached first rs) t)
+      steps = steps-more first rs e t i
 
-  retold : {st : State} → Reaches s st → st .notes ≡ [] → Retold s st
+  retold : {st : State} → Reaches s st → st .notes ≡ 0 → Retold s st
   unfolding recordsOf trace
   retold start z =
       let e = told grown-none in
       record { front = rw e refl; follows = λ l. absurd (omega arith); none = λ _. e }
   retold (on {st} {next} rs p nx) z = by (stepped s first st p nx) (λ m. retold rs m)
     where
-      by : Stepped s first st p next → (st .notes ≡ [] → Retold s st) → Retold s next
+      by : Stepped s first st p next → (st .notes ≡ 0 → Retold s st) → Retold s next
       by (by-step e t q i m) r = retold-step p rs e t q i nx (r (sym m ∙ z))
-      by (by-note _ d) r = absurd (d z)
+      by (by-note _ _ m) r = absurd (omega (arith, m, z))
 
   -- "a trace without notes, read and written again, gives its own bytes"
-  own : {h : History} {notes : List Stretch} → ReadInto s h notes → notes ≡ [] → traceOf n (historySteps h) h ≡ s
-  own (to-the-end {st} l rs p k e) z = records-more n es (End (txCount (st .history))) ∙ sym (sym (take-length s) ∙ whole)
-    where
-      r : Retold s st
-      r = retold rs z
+  own : {h : History} {notes : ℕ} → ReadInto s h notes → notes ≡ 0 → traceOf n (historySteps h) h ≡ s
+  own (to-the-end {st} l rs p k e) z =
+      let r = retold rs z in
+      records-more n (historySteps (st .history)) (End (txCount (st .history))) ∙ rw (← r .front, ← serial-here p r) (last-bytes b first st p k e)
 
-      es : List Event
-      es = historySteps (st .history)
-
-      number : endNumber s (st .at) ≡ txCount (st .history)
-      number = exactly (endNumber s (st .at)) (txCount (st .history)) (λ d. p valueLawful (end-wrong k d))
-
-      whole : take (length s) s ≡ recordsOf n es ++ recordOf (serialFrom n (length es)) (itemOf (End (txCount (st .history))))
-      whole = rw (← e) (last-spelt b first (passes-framed p) k ∙ rw (r .front, serial-here p r, number))
-
-  pub own-bytes : {h : History} → ReadInto s h [] → traceOf n (historySteps h) h ≡ s
+  pub own-bytes : {h : History} → ReadInto s h 0 → traceOf n (historySteps h) h ≡ s
   own-bytes r = own r refl

@@ -13,12 +13,12 @@ use Rattle.theory.specs.Entries.{In, here, there}
 use Rattle.theory.proofs.Entries.{in-none, entry-in, in-either, among-iff}
 use Rattle.rules.specs.History.{History, Op, tx, op, txCount, opCount, size, isOpen, empty, opened, closed, withOp}
 use Rattle.rules.specs.Records.{fieldsAt}
-use Rattle.rules.specs.Reading.{State, Stretch}
+use Rattle.rules.specs.Reading.{State}
 use Rattle.rules.specs.declared.Event.{Event}
 use Rattle.rules.specs.declared.Event.the-variants.{Read, Write, Close, Other}
 use Rattle.rules.proofs.History.{with-op-count, with-op-txs, with-op-tx, with-op-old, with-op-new, open-count, open-ops, open-old, open-new, close-count, close-ops, close-whole, close-other}
 use Rattle.demand1.specs.Lawful.{IsOp, IsTx}
-use Rattle.demand1.specs.Rows.{Next, after-open, after-read, after-write, after-close, after-note, after-edition, Reaches, start, on, ReadInto, to-the-end}
+use Rattle.demand1.specs.Rows.{Next, after-open, after-read, after-write, after-close, after-note, after-edition, Reaches, start, on, ReadInto, to-the-end, HasHistory}
 use Rattle.demand1.proofs.Events.{same-or}
 use Rattle.writing.specs.Listing.{opStep, opStepOf, closeStep, txSteps, historySteps}
 use Rattle.written.specs.Writes.{AllBytes}
@@ -137,5 +137,8 @@ slim-steps-of h s =
     let m = among-iff (txSteps h) (size h) 1 e .0 i in
     slim-tx h s (m .at) (record { from = m .from; to = omega (arith, m .to) }) e (m .is))
 
-pub slim-read : (s : List ℕ) → AllBytes s → {h : History} {notes : List Stretch} → ReadInto s h notes → EachSlim (historySteps h)
-slim-read s b (to-the-end {st} l r p k e) = slim-steps-of (st .history) (small-reached s b r)
+pub slim-read : (s : List ℕ) → AllBytes s → {h : History} → HasHistory s h → EachSlim (historySteps h)
+slim-read s b x = of (x .reads)
+  where
+    of : {h : History} {notes : ℕ} → ReadInto s h notes → EachSlim (historySteps h)
+    of (to-the-end {st} l r p k e) = slim-steps-of (st .history) (small-reached s b r)

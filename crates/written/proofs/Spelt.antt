@@ -1,15 +1,16 @@
 -- The bytes of a record that is read are those that its event is written as, in either edition.
-use Prim.Native.Nat.{ℕ, _+_, _≤_}
+use Prim.Native.Nat.{ℕ, _+_, _-_, _≤_}
 use mathlib.Core.Path.{_≡_, refl, sym, _∙_}
 use mathlib.Core.Bool.{Bool, true, false, true≢false}
 use mathlib.Core.List.{List, _++_, append-assoc, append-nil}
 use native.Mathlib.Omega.{arith}
-use lib.ListN.{length, take, length-append}
+use lib.ListN.{length, take, drop, length-append, length-drop}
+use lib.Seq.{length-take-le, take-add}
 use Rattle.base.proofs.Tests.{clash}
 use Rattle.rules.specs.Numbers.{le, bytes}
 use Rattle.rules.specs.History.{History}
-use Rattle.rules.specs.Records.{isSecond, fieldsFrom, fieldsAt, eventAt}
-use Rattle.rules.specs.Traces.{Item, item, raw, recordOf, edition as says}
+use Rattle.rules.specs.Records.{isSecond, fieldsFrom, fieldsAt, payloadAt, eventAt}
+use Rattle.rules.specs.Traces.{Item, item, note, raw, recordOf, edition as says}
 use Rattle.rules.specs.declared.Event.{Event}
 use Rattle.rules.specs.declared.Event.the-variants.{Open, Read, Write, Close, End, Note, Other}
 use Rattle.rules.proofs.Numbers.{spelt, spelt-on, bytes-length}
@@ -47,6 +48,14 @@ module _ (s : List ℕ) (at : ℕ) (b : AllBytes s) (there : behind s at ≤ len
 
   pub edition-spelt : kind s at ≡ 16 → len s at ≡ 8 → edition s at ≡ 2 → take (behind s at) s ≡ take at s ++ recordOf (serial s at) (says 2)
   edition-spelt k l e = rw e at (number-spelt 16 k l)
+
+  -- a note's payload is any bytes
+  pub note-spelt : 6 ≤ len s at → kind s at ≡ 6 → take (behind s at) s ≡ take at s ++ recordOf (serial s at) (note (payloadAt s at))
+  note-spelt l k =
+      let p = payloadAt s at in
+      let c : behind s at - (at + 8) ≡ length p = sym (length-take-le _ (drop (at + 8) s) (omega (arith, length-drop (at + 8) s, there))) in
+      let e : at + (8 + length p) ≡ at + 8 + (behind s at - (at + 8)) = omega (arith, c) in
+      whole (note p) k (omega (arith, c)) (rw e (take-add (at + 8) _ s ∙ rw (header-spelt l) (append-assoc (take at s) header p)))
 
   -- the session of edition 2
   session-spelt : (second : Bool) (n : ℕ) → (second ≡ true → session s at ≡ n) → 6 + fieldsFrom second ≤ len s at

@@ -5,8 +5,7 @@ use mathlib.Core.Bool.{true, false}
 use mathlib.Core.List.{List}
 use Rattle.rules.specs.History.{History, txCount, opCount}
 use Rattle.rules.specs.Records.{isSecond}
-use Rattle.rules.specs.Reading.{Stretch}
-use Rattle.demand1.specs.Rows.{Check, numberOf, FirstFailing, Inside, Refuses, ReadInto}
+use Rattle.demand1.specs.Rows.{Check, numberOf, FirstFailing, Inside, Refuses, HasHistory}
 use Rattle.written.specs.Steps.{HasStep, NoStep, StepFails, Comes}
 
 -- the bytes of a trace without notes: an open has 10, a read or a write 20, a close 9, the end 10
@@ -30,5 +29,5 @@ stepsLength h = 16 * (2 * txCount h + opCount h)
 pub data ListDeclines (s : List ℕ) (o : ℕ) : ℕ → ℕ → Type 0 where
   trace-refused : {n at : ℕ} → Refuses s n at → ListDeclines s o n at
   -- "request One's writer and its promises stay with that edition", the first: of edition 2 the record that it begins with is no step
-  second-edition : {h : History} {notes : List Stretch} → isSecond s ≡ true → ReadInto s h notes → ListDeclines s o 6 0
-  steps-short : {h : History} {notes : List Stretch} → isSecond s ≡ false → ReadInto s h notes → o < stepsLength h → ListDeclines s o 16 (stepsLength h)
+  second-edition : {h : History} → isSecond s ≡ true → HasHistory s h → ListDeclines s o 6 0
+  steps-short : {h : History} → isSecond s ≡ false → HasHistory s h → o < stepsLength h → ListDeclines s o 16 (stepsLength h)

@@ -6,8 +6,7 @@ use mathlib.Core.List.{List}
 use lib.ListN.{length}
 use Rattle.rules.specs.History.{History, txCount, opCount}
 use Rattle.rules.specs.Records.{isSecond}
-use Rattle.rules.specs.Reading.{Stretch}
-use Rattle.demand1.specs.Rows.{ReadInto}
+use Rattle.demand1.specs.Rows.{HasHistory}
 use Rattle.writing.specs.declared.Filled.{Filled}
 use Rattle.written.specs.Steps.{HasStep, kindBehind, sessionBehind, keyBehind, valueBehind, Comes}
 use Rattle.written.specs.Declined.{stepsLength, ListDeclines}
@@ -26,8 +25,7 @@ pub record StepsOf (s : List ℕ) (x : List ℕ) : Type 0 where
   pub first-edition : isSecond s ≡ false
   pub is-bytes : AllBytes x
   pub history : History
-  pub notes : List Stretch
-  pub reads : ReadInto s history notes
+  pub reads : HasHistory s history
   pub comes : Comes x (2 * txCount history + opCount history) history
   pub unused : (k : ℕ) → HasStep x k → UnusedZero x k
   pub long : length x ≡ stepsLength history

@@ -2,7 +2,7 @@
 use Prim.Native.Nat.{ℕ, zero, suc, _+_, _%_, _^_, _<_, _≤_}
 use mathlib.Core.Path.{_≡_}
 use mathlib.Core.Bool.{false}
-use mathlib.Core.List.{List, []}
+use mathlib.Core.List.{List}
 use lib.ListN.{length, getD}
 use Rattle.rules.specs.History.{History, txCount}
 use Rattle.rules.specs.Records.{isSecond}
@@ -42,7 +42,7 @@ pub record TraceOf (s : List ℕ) (n : ℕ) (b : List ℕ) : Type 0 where
   pub first-edition : isSecond b ≡ false
   -- "What it writes reads back as the same transactions, operations ..": it is read, and has no notes
   pub history : History
-  pub reads : ReadInto b history []
+  pub reads : ReadInto b history 0
   pub says : Says (stepsIn s) history
   -- ".. and serials": the starting one and its successors, with the wrap
   pub serials : (k : ℕ) → k ≤ stepCount s → serial b (recordAt b k) ≡ (n + k) % 2 ^ 32

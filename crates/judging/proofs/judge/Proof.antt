@@ -33,7 +33,7 @@ returns-4 c =
     let r = e .before .before .before in
     let i = r .before .before in
     let ifx = i .before in
-    call-read (r .read-trace .ensures) (ifx .if1 .left) (i .if2 .left) _ _ _ (s .settle .ensures .same) _ _ _ (e .enum-told .given .1) (j .judge-history .ensures)
+    call-read (r .read-trace .ensures) (ifx .if1 .left) (i .if2 .left) _ _ _ (s .settle .ensures .same) _ (e .enum-told .given .1) (j .judge-history .ensures)
 
 pub judge-spec : {M : Type 1} → statement M
 judge-spec =

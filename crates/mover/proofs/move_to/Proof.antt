@@ -10,14 +10,14 @@ returns c =
     let test = put .before .before in
     let same = test .before in
     let second = same .before in
-    let told = second .before in
-    call-same (told .before .before .before .read-trace .ensures) _ (told .enum-told .given .1) (second .is-second .ensures) (same .is-same .ensures) (test .if1 .taken) _ (put .put-same .ensures)
+    let told = second .before .before in
+    call-same (told .before .before .before .read-trace .ensures) _ (told .read2 .given .1) (second .is-second .ensures) (same .is-same .ensures) (test .if1 .taken) _ _ _ (put .put-same .ensures)
 
 put-moved-requires : tie.Need-put-moved-requires
 put-moved-requires c κs =
-    let told = c .before .before .before .before .before in
+    let told = c .before .before .before .before .before .before in
     let t = told .before .before .before .read-trace .ensures in
-    let m = call-movable t (told .before .before .before .before .before .before .before .args .second) (told .enum-told .given .1) in
+    let m = call-movable t (told .before .before .before .before .before .before .before .args .second) (told .read2 .given .1) in
     (t .held, m .0, m .1)
 
 -- refused
@@ -33,8 +33,8 @@ returns-3 c =
     let test = put .before .before .before in
     let same = test .before in
     let second = same .before in
-    let told = second .before in
-    call-moved (told .before .before .before .read-trace .ensures) _ (told .enum-told .given .1) (second .is-second .ensures) (same .is-same .ensures) (test .if1 .left) _ (put .put-moved .ensures)
+    let told = second .before .before in
+    call-moved (told .before .before .before .read-trace .ensures) _ (told .read2 .given .1) (second .is-second .ensures) (same .is-same .ensures) (test .if1 .left) _ _ _ (put .put-moved .ensures)
 
 pub move-to-spec : {M : Type 1} → statement M
 move-to-spec =

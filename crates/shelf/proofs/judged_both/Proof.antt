@@ -1,5 +1,5 @@
 use borrow.Author.Needs.{needs}
-use Rattle.shelf.proofs.Shelf.{alike}
+use Rattle.shelf.proofs.Shelf.{judged-both}
 use Rattle.shelf.proofs.judged_both.Statement.{statement}
 use Rattle.shelf.proofs.judged_both.Tie as tie
 
@@ -8,7 +8,7 @@ returns : tie.Need-returns
 returns c =
     let after = c .before .before .before .before .before .before in
     let before = after .before .before .before .before .before .before .before .before .before .before in
-    alike _ _ _ _ _ _ _ _ _ _ (before .judge .ensures) (after .judge2 .ensures)
+    judged-both _ _ _ _ _ _ _ _ _ _ (before .judge .ensures) (after .judge2 .ensures)
 
 pub judged-both-spec : {M : Type 1} → statement M
 judged-both-spec =

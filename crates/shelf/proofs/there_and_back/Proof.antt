@@ -17,7 +17,7 @@ returns c =
     let there = told .before .before .before .before in
     let start = there .before .before .before .before in
     let bytes : AllBytes (start .before .args .trace .now) = λ i. omega (arith, start .shared-slice-known .given i) in
-    back-refused (start .before .args .trace .now) bytes _ _ _ (there .to-edition-2 .ensures .is) _ _ (told .there .given .1)
+    back-refused (start .before .args .trace .now) bytes _ _ _ _ (there .to-edition-2 .ensures .is) _ _ (told .there .given .1)
 
 returns-2 : tie.Need-returns-2
 returns-2 c =
@@ -26,7 +26,7 @@ returns-2 c =
     let there = told .before .before .before .before in
     let start = there .before .before .before .before in
     let bytes : AllBytes (start .before .args .trace .now) = λ i. omega (arith, start .shared-slice-known .given i) in
-    back-moved (start .before .args .trace .now) bytes _ _ _ (there .to-edition-2 .ensures .is) _ (told .there2 .given .1) (front .move-front .ensures .is)
+    back-moved (start .before .args .trace .now) bytes _ _ _ _ (there .to-edition-2 .ensures .is) _ _ (told .there2 .given .1) _ _ (front .move-front .ensures .is)
 
 pub there-and-back-spec : {M : Type 1} → statement M
 there-and-back-spec =

@@ -1,9 +1,9 @@
-use Prim.Native.Nat.{_%_, _+_, _-_, _^_, ℕ}
-use mathlib.Core.Path.{_∙_, ap, sym}
+use Prim.Native.Nat.{_%_, _+_, _^_, ℕ}
+use mathlib.Core.Path.{_∙_, refl, ap, sym}
 use native.Mathlib.Omega.{arith}
 use Rattle.frame.proofs.Frames.{good-fit, good-session}
-use Rattle.trace.proofs.Turning.{turned-bad, turned-done, turned-go, turned-refuse, turned-text}
-use Rattle.trace.specs.Turns.{counted, finish}
+use Rattle.trace.proofs.Turning.{turned-bad, turned-count, turned-done, turned-go, turned-refuse}
+use Rattle.trace.specs.Turns.{finish}
 use borrow.Author.Needs.{needs}
 use Rattle.trace.proofs.turn_at.Statement.{statement}
 use Rattle.trace.proofs.turn_at.Tie as tie
@@ -26,24 +26,18 @@ u32-at-requires c κs =
     let f = good-fit _ _ _ _ (sym (m .before .before .frame-at .ensures) ∙ m .framed2 .given .1) in
     omega (arith, f .six, f .room)
 
-sub-count : tie.Need-sub-count
-sub-count c =
-    let m = c .before .before .before .before .before .before .before .before .before .before .before .before .before in
-    let f = good-fit _ _ _ _ (sym (m .before .before .frame-at .ensures) ∙ m .framed2 .given .1) in
-    omega (arith, f .six, f .room)
-
 returns : tie.Need-returns
 returns c =
     let m = c .before in
     let p = m .before .before .before .before .before .before .pre in
-    (turned-bad _ _ _ _ _ _ (p .3) (sym (m .before .before .frame-at .ensures) ∙ m .framed .given .1) (p .0), p .4)
+    (turned-bad _ _ _ _ _ (p .3) (sym (m .before .before .frame-at .ensures) ∙ m .framed .given .1) (p .0), p .4)
 
 returns-2 : tie.Need-returns-2
 returns-2 c =
     let t = c .before .before .before .before .before .before .before .before .before .before in
     let m = t .before .before .before .before in
     let p = m .before .before .before .before .before .before .pre in
-    (turned-refuse _ _ _ _ _ _ _ _ _ (p .3) (sym (m .before .before .frame-at .ensures) ∙ m .framed2 .given .1) (t .take .ensures .took) (c .before .next .given .1), t .take .ensures .beside)
+    (turned-refuse _ _ _ _ _ _ _ _ (p .3) (sym (m .before .before .frame-at .ensures) ∙ m .framed2 .given .1) (t .take .ensures .took) (c .before .next .given .1), t .take .ensures .beside)
 
 returns-3 : tie.Need-returns-3
 returns-3 c =
@@ -52,8 +46,8 @@ returns-3 c =
     let m = t .before .before .before .before in
     let f = m .before .before .before .before .before .before in
     let a = f .args in (
-      turned-done _ _ _ _ _ _ _ _ _ (f .pre .3) (sym (m .before .before .frame-at .ensures) ∙ m .framed2 .given .1) (t .take .ensures .took) (c .before .enum-told .given .1)
-          (c .finish .ensures ∙ ap (λ (n : ℕ). finish (a .s .now) (a .at + 2 + n) (a .c)) (l .u16-at .ensures)),
+      turned-done _ _ _ _ _ _ _ _ (f .pre .3) (sym (m .before .before .frame-at .ensures) ∙ m .framed2 .given .1) (t .take .ensures .took) (c .before .enum-told .given .1)
+          (c .finish .ensures ∙ ap (λ (n : ℕ). finish (a .s .now) (a .at + 2 + n) (a .notes)) (l .u16-at .ensures)),
       t .take .ensures .beside,
     )
 
@@ -64,24 +58,27 @@ returns-4 c =
     let m = t .before .before .before .before in
     let f = m .before .before .before .before .before .before in
     let a = f .args in (
-      turned-go _ _ _ _ _ _ _ _ _ (f .pre .3) (sym (m .before .before .frame-at .ensures) ∙ m .framed2 .given .1) (t .take .ensures .took) (c .enum-told2 .given .1)
+      turned-go _ _ _ _ _ _ _ _ (f .pre .3) (sym (m .before .before .frame-at .ensures) ∙ m .framed2 .given .1) (t .take .ensures .took) (c .enum-told2 .given .1)
           (ap (λ (n : ℕ). a .at + 2 + n) (l .u16-at .ensures)) (c .before .before .wrapping-add-u32 .ensures ∙ ap (λ (n : ℕ). (n + 1) % 2 ^ 32) (c .before .before .before .u32-at .ensures)),
       t .take .ensures .beside,
     )
 
 returns-5 : tie.Need-returns-5
 returns-5 c =
-    let u = c .before .before .before .before in
-    let l = u .before in
+    let l = c .before .before .before .before in
     let t = l .before .before .before .before .before in
     let m = t .before .before .before .before in
     let f = m .before .before .before .before .before .before in
     let a = f .args in (
-      turned-text _ _ _ _ _ _ _ _ _ (f .pre .3) (sym (m .before .before .frame-at .ensures) ∙ m .framed2 .given .1) (t .take .ensures .took) (c .before .enum-told3 .given .1)
-          (ap (λ (n : ℕ). a .at + 2 + n) (l .u16-at .ensures)) (c .before .before .before .wrapping-add-u32 .ensures ∙ ap (λ (n : ℕ). (n + 1) % 2 ^ 32) (u .u32-at .ensures))
-          (c .count .ensures ∙ ap (λ (n : ℕ). counted (a .k) (a .c) (record { start = a .at + 8; length = n - 6 })) (l .u16-at .ensures)),
+      turned-count _ _ _ _ _ _ _ _ (f .pre .3) (sym (m .before .before .frame-at .ensures) ∙ m .framed2 .given .1) (t .take .ensures .took) (c .enum-told3 .given .1)
+          (ap (λ (n : ℕ). a .at + 2 + n) (l .u16-at .ensures)) (c .before .before .wrapping-add-u32 .ensures ∙ ap (λ (n : ℕ). (n + 1) % 2 ^ 32) (c .before .before .before .u32-at .ensures)) refl,
       t .take .ensures .beside,
     )
 
 pub turn-at-spec : {M : Type 1} → statement M
-turn-at-spec = tie.close (tie.spec (λ c κs. search needs) (λ c. search needs) (λ c. search needs) take-requires u16-at-requires (λ c. search needs) (λ c. search needs) (λ c. search needs) (λ c. search needs) u32-at-requires (λ c κs. search needs) (λ c. search needs) (λ c. search needs) (λ c κs. search needs) (λ c. search needs) (λ c. search needs) (λ c. search needs) sub-count (λ c κs. search needs) returns (λ c. search needs) (λ c. search needs) returns-2 (λ c. search needs) (λ c. search needs) returns-3 (λ c. search needs) (λ c. search needs) returns-4 (λ c. search needs) (λ c. search needs) returns-5)
+turn-at-spec =
+    tie.close
+    (tie.spec (λ c κs. search needs) (λ c. search needs) (λ c. search needs) take-requires u16-at-requires (λ c. search needs) (λ c. search needs)
+    (λ c. search needs) (λ c. search needs) u32-at-requires (λ c κs. search needs) (λ c. search needs) (λ c. search needs) (λ c κs. search needs)
+    (λ c. search needs) (λ c. search needs) (λ c. search needs) returns (λ c. search needs) (λ c. search needs) returns-2 (λ c. search needs)
+    (λ c. search needs) returns-3 (λ c. search needs) (λ c. search needs) returns-4 (λ c. search needs) (λ c. search needs) returns-5)

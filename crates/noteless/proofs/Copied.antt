@@ -1,0 +1,107 @@
+-- A record that stands in another trace of the same edition, but for its serial: it passes where it passed, and does there what it did.
+use Prim.Native.Nat.{ℕ, _+_, _<_, _≤_}
+use mathlib.Core.Path.{_≡_, ap, sym, _∙_}
+use mathlib.Core.Bool.{true}
+use mathlib.Core.List.{List}
+use native.Mathlib.Omega.{arith}
+use lib.ListN.{length}
+use Rattle.base.proofs.Tests.{ifso}
+use Rattle.rules.specs.Numbers.{le}
+use Rattle.rules.specs.Records.{nextSerial, isSecond, payloadAt, eventAt}
+use Rattle.rules.specs.Reading.{State, notesBehind, met, after}
+use Rattle.rules.proofs.Meeting.{met-first, met-second}
+use Rattle.demand1.specs.Rows.{len, kind, serial, edition, behind, open-not-8, read-not-20, write-not-20, close-not-9, end-not-8, edition-not-8, editionFirst, editionIs2, Passes}
+use Rattle.demand1.proofs.Events.{KindKnown, is-open, is-read, is-write, is-close, is-end, is-note, is-edition, Framed, exactly, payload-begins, passes-framed, Shape, open-record, read-record, write-record, close-record, end-record, note-record, edition-record, shape}
+use Rattle.written.proofs.Framed.{passes-steps, framed-passes}
+
+-- in edition 2 a record has two bytes of payload or more
+two-bytes : {s : List ℕ} {a : ℕ} → Framed s a → isSecond s ≡ true → 8 ≤ len s a
+two-bytes {s} {a} f t = by (f .sized .known)
+  where
+    by : KindKnown (kind s a) → 8 ≤ len s a
+    by (is-open k) = omega (arith, exactly (len s a) 8 (λ d. f .fits (open-not-8 k d)))
+    by (is-read k) = omega (arith, exactly (len s a) 20 (λ d. f .fits (read-not-20 t k d)))
+    by (is-write k) = omega (arith, exactly (len s a) 20 (λ d. f .fits (write-not-20 t k d)))
+    by (is-close k) = omega (arith, exactly (len s a) 9 (λ d. f .fits (close-not-9 t k d)))
+    by (is-end k) = omega (arith, exactly (len s a) 8 (λ d. f .fits (end-not-8 k d)))
+    by (is-note k) = absurd (f .sized .no-note t k)
+    by (is-edition k) = omega (arith, exactly (len s a) 8 (λ d. f .fits (edition-not-8 k d)))
+
+-- a record of another kind is not counted among the notes
+no-note : {s : List ℕ} {a : ℕ} → Framed s a → (kind s a ≡ 6 → ⊥) → (n : ℕ) → notesBehind n (eventAt s a) ≡ n
+unfolding notesBehind
+no-note {s} {a} f d n = by (shape f)
+  where
+    by : Shape s a → notesBehind n (eventAt s a) ≡ n
+    by (open-record k e) = rw e
+    by (read-record k e) = rw e
+    by (write-record k e) = rw e
+    by (close-record k e) = rw e
+    by (end-record k e) = rw e
+    by (note-record k e) = absurd (d k)
+    by (edition-record k e) = rw e
+
+-- the record at c of b is the one at a of s, but for its serial, and the traces are of the same edition
+pub record Copied (s : List ℕ) (a : ℕ) (b : List ℕ) (c : ℕ) : Type 0 where
+  pub second-is : isSecond b ≡ isSecond s
+  pub kind-is : kind b c ≡ kind s a
+  pub len-is : len b c ≡ len s a
+  pub payload-is : payloadAt b c ≡ payloadAt s a
+  pub there : behind b c ≤ length b
+
+module _ {s : List ℕ} {a : ℕ} {b : List ℕ} {c : ℕ} (x : Copied s a b c) where
+  -- it is framed as the other
+  copied-framed : Framed s a → Framed b c
+  copied-framed f =
+      record {
+        sized = record {
+          low = rw (x .len-is) (f .sized .low);
+          there = x .there;
+          known = rw (x .kind-is) (f .sized .known);
+          no-note = λ t k. f .sized .no-note (sym (x .second-is) ∙ t) (sym (x .kind-is) ∙ k);
+        };
+        fits = λ w. f .fits (rw (x .second-is, x .kind-is, x .len-is) at w);
+      }
+
+  -- it has the same event
+  copied-event : eventAt b c ≡ eventAt s a
+  unfolding eventAt
+  copied-event = rw (x .second-is, x .kind-is, x .payload-is)
+
+  -- .. and, where its payload has two bytes, begins it with the same number
+  copied-number : 8 ≤ len s a → le 2 b (c + 8) ≡ le 2 s (a + 8)
+  copied-number l =
+      let n = x .len-is in
+      sym (payload-begins b c (omega arith)) ∙ ap (λ p. le 2 p 0) (x .payload-is) ∙ payload-begins s a l
+
+-- reading has come to c, into the history that st has, without notes
+abbrev pub cameTo : ℕ → ℕ → State → State
+cameTo c next st = record { at = c; serial = next; history = st .history; notes = 0 }
+
+module _ {s b : List ℕ} {st : State} {c : ℕ} (x : Copied s (st .at) b c) (next : ℕ) (p : Passes s st) where
+  -- it meets the same transaction
+  copied-met : met b (cameTo c next st) ≡ met s st
+  copied-met =
+      let q = cameTo c next st in
+      ifso (isSecond s)
+      (λ t. met-second b q (x .second-is ∙ t) ∙ rw (copied-number x (two-bytes (passes-framed p) t), copied-event x) (sym (met-second s st t)))
+      (λ t. met-first b q (x .second-is ∙ t) ∙ sym (met-first s st t))
+
+  -- it passes, where its serial follows and a first record stays the first
+  pub copied-passes : (0 < c → serial b c ≡ next) → (st .at ≡ 0 → c ≡ 0) → Passes b (cameTo c next st)
+  copied-passes follows first =
+      framed-passes b (cameTo c next st) (copied-framed x (passes-framed p)) follows says (rw (copied-met, copied-event x) (passes-steps s st p))
+    where
+      -- the record that says the edition stands first in s, too, and says the same
+      says : kind b c ≡ 16 → (c ≡ 0) × (edition b c ≡ 2)
+      says e =
+          let k : kind s (st .at) ≡ 16 = sym (x .kind-is) ∙ e in (
+            first (exactly (st .at) 0 (λ d. p editionFirst (k, omega arith))),
+            copied-number x (omega (arith, exactly (len s (st .at)) 8 (λ d. passes-framed p .fits (edition-not-8 k d))))
+                ∙ exactly (edition s (st .at)) 2 (λ d. p editionIs2 (k, d)),
+          )
+
+  -- it leaves the same history
+  pub copied-after : (kind s (st .at) ≡ 6 → ⊥) → after b (cameTo c next st) ≡ cameTo (behind b c) (nextSerial b c) (after s st)
+  unfolding after
+  copied-after d = rw (copied-met, copied-event x, no-note (passes-framed p) d 0)

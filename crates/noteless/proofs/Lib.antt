@@ -1,0 +1,6 @@
+pub mod Counted
+pub mod Texts
+pub mod Ahead
+pub mod Copied
+pub mod Without
+pub mod Back

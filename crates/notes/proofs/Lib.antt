@@ -1,2 +1,0 @@
-pub mod Within
-pub mod Asked

@@ -21,7 +21,7 @@ use Rattle.demand1.proofs.Events.{same-or, note-event}
 use Rattle.demand1.proofs.Agree.{Agree, agree-le, agree-kind, agree-serial, agree-second, SameHead, agree-len, agree-frame, agree-event}
 use Rattle.demand1.proofs.Readings.{has-read}
 use Rattle.writing.specs.Listing.{stepped}
-use Rattle.writing.specs.Rewriting.{again, rewritten}
+use Rattle.writing.specs.Rewriting.{again, rewritten, rewrittenRead, rewrittenWhole}
 use Rattle.written.specs.Writes.{recordAt}
 use Rattle.moving.specs.Moving.{isSame, movedRead, movedTo}
 use Rattle.moving.specs.Tally.{movedToSecond}
@@ -156,6 +156,16 @@ module _ {s b : List ℕ} (x : OtherTexts s b) where
   pub texts-rewritten : (x o : List ℕ) → rewritten b x o ≡ rewritten s x o
   unfolding rewritten again
   texts-rewritten x o = rw (texts-stepped x, same-first)
+
+  -- .. in one call too
+  same-again : (r : Reading) (o : List ℕ) → rewrittenRead b r o ≡ rewrittenRead s r o
+  unfolding rewrittenRead
+  same-again (refused n p) o = refl
+  same-again (read h n) o = rw (same-second, same-first)
+
+  pub texts-rewritten-whole : (o : List ℕ) → rewrittenWhole b o ≡ rewrittenWhole s o
+  unfolding rewrittenWhole
+  texts-rewritten-whole o = rw texts-reading (same-again (reading s) o)
 
   -- ── moving ──
 

@@ -1,11 +1,12 @@
-//! An independent judge, writer and mover of transaction traces.
+//! An independent judge, writer and mover of transaction traces, with the
+//! decisions of the index.
 //!
 //! It is written from the specification alone, `01-scope.md` and the requests
 //! for a writer, for unanswered commits, for the writes of unclean reads, for
-//! overlapping transactions, for moves between the editions and for notes that
-//! are only counted, to be compared with the proved judge, writer and mover: the
-//! two sides share no code, so a mistake would have to be made twice, in the same
-//! way, to stay unseen.
+//! overlapping transactions, for moves between the editions, for notes that are
+//! only counted and for the calls of the index, to be compared with the proved
+//! judge, writer, mover and upper library: the two sides share no code, so a
+//! mistake would have to be made twice, in the same way, to stay unseen.
 //!
 //! * [`trace`] reads the bytes of a trace, or says why they are refused;
 //! * [`graph`] decides by forced pairs, for any trace, and is meant to be fast;
@@ -14,15 +15,21 @@
 //!   outcomes; it is meant to be obviously right;
 //! * [`report`] holds the answers, prints them as the program `judge` does and
 //!   reads what is printed so;
+//! * [`deciding`] decides for the index, at any level and with buffers of any
+//!   size, and finds the strongest level;
 //! * [`writing`] writes traces from steps and turns traces into steps;
 //! * [`moving`] moves traces between the editions;
 //! * [`encode`], [`text`], [`weave`], [`notes`], [`generate`], [`cases`],
 //!   [`overlap_cases`] and [`note_cases`] make traces, [`sequences`] and
 //!   [`sequence_cases`] sequences of steps;
-//! * [`process`], [`workers`], [`scribes`] and [`moves`] compare.
+//! * [`process`], [`workers`], [`scribes`], [`moves`], [`calls`] and [`daemon`]
+//!   compare.
 
 pub mod brute;
+pub mod calls;
 pub mod cases;
+pub mod daemon;
+pub mod deciding;
 pub mod encode;
 pub mod generate;
 pub mod graph;

@@ -381,7 +381,7 @@ fn judged(
 ) -> Result<Vec<String>, Box<Difference>> {
     let input: Vec<u8> = traces.iter().flat_map(|t| behind_length(t)).collect();
     let asked = traces.len();
-    stream_answers(&programs.stream, &input, asked).map_err(|message| {
+    process::stream_answers(&programs.stream, &input, asked).map_err(|message| {
         let first = subjects.first().map_or("", |subject| &subject.name);
         Box::new(Difference {
             name: format!("a run of traces, moved and not, from {first} on"),
@@ -393,18 +393,6 @@ fn judged(
             ],
         })
     })
-}
-
-/// One run of the program `stream` over so many traces. Whether it answers each
-/// at once or all at the end does not matter.
-fn stream_answers(command: &str, traces: &[u8], asked: usize) -> Result<Vec<String>, String> {
-    let output = process::run_once(command, traces)?;
-    let text = String::from_utf8(output).map_err(|_| "its answer is no text")?;
-    let texts: Vec<String> = text.split_terminator("--\n").map(String::from).collect();
-    match texts.len() == asked && text.ends_with("--\n") {
-        true => Ok(texts),
-        false => Err(format!("{} answers", texts.len())),
-    }
 }
 
 /// How the findings of a moved trace differ from those before.

@@ -1,6 +1,7 @@
 //! Running the programs under comparison.
 
 use crate::trace::MAX_BYTES;
+use std::ffi::OsStr;
 use std::io::{self, Write};
 use std::process::{Child, Command, Stdio};
 use std::thread;
@@ -8,19 +9,20 @@ use std::thread;
 /// The command with its input and output piped; its standard error is passed
 /// through.
 pub fn spawn(command: &str) -> Result<Child, String> {
-    spawn_with(command, Stdio::inherit())
+    start(command, &mut piped(command))
 }
 
-/// The same with its standard error where it is told to go.
-fn spawn_with(command: &str, standard_error: Stdio) -> Result<Child, String> {
+/// The same, not yet started.
+fn piped(command: &str) -> Command {
     let mut words = command.split_whitespace();
-    Command::new(words.next().unwrap_or_default())
-        .args(words)
-        .stdin(Stdio::piped())
-        .stdout(Stdio::piped())
-        .stderr(standard_error)
-        .spawn()
-        .map_err(|error| format!("{command}: {error}"))
+    let mut piped = Command::new(words.next().unwrap_or_default());
+    piped.args(words);
+    piped.stdin(Stdio::piped()).stdout(Stdio::piped());
+    piped
+}
+
+fn start(command: &str, piped: &mut Command) -> Result<Child, String> {
+    piped.spawn().map_err(|error| format!("{command}: {error}"))
 }
 
 /// What the programs keep of their input: a byte above the limit is enough to
@@ -45,24 +47,51 @@ pub struct Ended {
     pub failure: Option<String>,
 }
 
-/// Runs the program with these bytes as its standard input, and answers its
-/// standard output.
-pub fn run_once(command: &str, input: &[u8]) -> Result<Vec<u8>, String> {
-    let ended = run_to_end(command, input)?;
-    match ended.failure {
-        None => Ok(ended.output),
-        Some(message) => Err(message),
+impl Ended {
+    /// Its standard output, if that can be taken for an answer.
+    fn answer(self) -> Result<Vec<u8>, String> {
+        match self.failure {
+            None => Ok(self.output),
+            Some(message) => Err(message),
+        }
     }
 }
 
-/// The same, with what it printed even where it then failed.
+/// Runs the program with these bytes as its standard input, and answers its
+/// standard output.
+pub fn run_once(command: &str, input: &[u8]) -> Result<Vec<u8>, String> {
+    run_to_end(command, input)?.answer()
+}
+
+/// Runs the program with these arguments behind its own and nothing to read, and
+/// answers its standard output.
+pub fn run_with(command: &str, arguments: &[&OsStr]) -> Result<Vec<u8>, String> {
+    let child = start(command, piped(command).args(arguments))?;
+    feed(child, &[])?.answer()
+}
+
+/// Runs the program with these bytes as its standard input, and answers what it
+/// printed even where it then failed.
 pub fn run_to_end(command: &str, input: &[u8]) -> Result<Ended, String> {
     feed(spawn(command)?, input)
 }
 
 /// The same, with its standard error kept as a part of what it answers.
 pub fn run_keeping_error(command: &str, input: &[u8]) -> Result<Ended, String> {
-    feed(spawn_with(command, Stdio::piped())?, input)
+    let child = start(command, piped(command).stderr(Stdio::piped()))?;
+    feed(child, input)
+}
+
+/// One run of the program `stream` over so many traces. Whether it answers each
+/// at once or all at the end does not matter.
+pub fn stream_answers(command: &str, traces: &[u8], asked: usize) -> Result<Vec<String>, String> {
+    let output = run_once(command, traces)?;
+    let text = String::from_utf8(output).map_err(|_| "its answer is no text")?;
+    let texts: Vec<String> = text.split_terminator("--\n").map(String::from).collect();
+    match texts.len() == asked && text.ends_with("--\n") {
+        true => Ok(texts),
+        false => Err(format!("{} answers", texts.len())),
+    }
 }
 
 /// Gives the program its input, and waits for its end.

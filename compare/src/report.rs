@@ -23,6 +23,22 @@ impl Level {
             Level::Causal => "tcc",
         }
     }
+
+    /// The specification's number, 1 to 3.
+    pub fn number(self) -> u32 {
+        match self {
+            Level::ReadCommitted => 1,
+            Level::ReadAtomicity => 2,
+            Level::Causal => 3,
+        }
+    }
+
+    /// The level with this number; no other number has one.
+    pub fn of_number(number: u32) -> Option<Level> {
+        Level::ALL
+            .into_iter()
+            .find(|level| level.number() == number)
+    }
 }
 
 /// The reasons of a pair are a sum of these.
@@ -66,6 +82,13 @@ pub struct Pair {
     pub reasons: u8,
 }
 
+impl Pair {
+    /// Its form in a buffer.
+    pub fn bytes(&self) -> [u8; 4] {
+        [self.first, self.second, self.reasons, 0]
+    }
+}
+
 /// What a level says of a trace.
 #[derive(Clone, Debug, PartialEq, Eq)]
 pub enum Verdict {
@@ -80,6 +103,10 @@ pub enum Verdict {
 }
 
 impl Verdict {
+    pub fn is_accepted(&self) -> bool {
+        matches!(self, Verdict::Accepted(_))
+    }
+
     /// The findings; an accepted trace has none.
     pub fn findings(&self) -> &[Finding] {
         match self {
@@ -106,21 +133,31 @@ pub fn print(answer: &Answer) -> String {
 fn print_block(out: &mut String, level: &str, verdict: &Verdict) {
     match verdict {
         Verdict::Accepted(order) => {
-            let places: String = order.iter().map(|t| format!(" {t}")).collect();
+            let places = places(order);
             line(out, format_args!("{level} accepted{places}"));
         }
         Verdict::Rejected { findings, pairs } => {
             let (found, listed) = (findings.len(), pairs.len());
             line(out, format_args!("{level} rejected {found} {listed}"));
-            for f in findings {
-                let (t, op, kind, write) = (f.transaction, f.operation, f.kind, f.write);
-                line(out, format_args!("read {t} {op} {kind} {write}"));
-            }
-            for p in pairs {
-                let (a, b, reasons) = (p.first, p.second, p.reasons);
-                line(out, format_args!("pair {a} {b} {reasons}"));
-            }
+            print_lists(out, findings, pairs);
         }
+    }
+}
+
+/// An order in print: each transaction behind a space.
+pub fn places(order: &[u8]) -> String {
+    order.iter().map(|t| format!(" {t}")).collect()
+}
+
+/// The lists of a rejection: a line a finding, then a line a pair.
+pub fn print_lists(out: &mut String, findings: &[Finding], pairs: &[Pair]) {
+    for f in findings {
+        let (t, op, kind, write) = (f.transaction, f.operation, f.kind, f.write);
+        line(out, format_args!("read {t} {op} {kind} {write}"));
+    }
+    for p in pairs {
+        let (a, b, reasons) = (p.first, p.second, p.reasons);
+        line(out, format_args!("pair {a} {b} {reasons}"));
     }
 }
 

@@ -14,7 +14,7 @@ use crate::trace::{
     self, Edition, Operation, Refusal, Status, Trace, Transaction, CLOSE, MAX_OPERATIONS,
     MAX_TRANSACTIONS, OPEN, WRITE,
 };
-use crate::workers::{self, add_each, must, Difference, Extent, Tally};
+use crate::workers::{self, add_each, alike, must, show_bytes, Difference, Extent, Tally};
 use crate::writing::{
     first_serial, print, read_unchecked, rewrite, steps_of, steps_to_bytes, write_input, Step,
     STEP_SIZE,
@@ -102,12 +102,6 @@ struct Said {
 }
 
 impl Said {
-    /// The bytes of what is written that are alike from the first one on.
-    fn alike(&self, other: &Said) -> usize {
-        let pairs = self.written.iter().zip(&other.written);
-        pairs.take_while(|(one, other)| one == other).count()
-    }
-
     fn show(&self, way: Way, alike: usize) -> String {
         let mut out = show(&self.written, alike);
         if way.tells_notes() {
@@ -554,7 +548,7 @@ fn differs(
     };
     let (said, alike) = match theirs {
         Ok(answer) => {
-            let alike = answer.alike(expected);
+            let alike = alike(&answer.written, &expected.written);
             (answer.show(item.way, alike), alike)
         }
         Err(message) => (format!("no answer: {message}\n"), 0),
@@ -571,24 +565,12 @@ fn differs(
     })
 }
 
-/// An answer in print: a refusal as it is, other bytes in hexadecimal; of a long
-/// answer a part, which begins in the line with the first byte not alike.
+/// An answer in print: a refusal as it is, other bytes in hexadecimal.
 pub fn show(answer: &[u8], alike: usize) -> String {
-    const LINE: usize = 16;
-    const LINES: usize = 64;
     if answer.starts_with(b"refused ") {
         return String::from_utf8_lossy(answer).into_owned();
     }
-    let first = match answer.len() {
-        short if short <= LINE * LINES => 0,
-        _ => alike / LINE,
-    };
-    let mut out = format!("{} bytes, the first {alike} alike\n", answer.len());
-    for (index, line) in answer.chunks(LINE).enumerate().skip(first).take(LINES) {
-        let hex: String = line.iter().map(|byte| format!(" {byte:02x}")).collect();
-        out += &format!("{:>6}:{hex}\n", index * LINE);
-    }
-    out
+    show_bytes(answer, alike)
 }
 
 impl Subject {

@@ -69,6 +69,29 @@ pub fn must(holds: bool, message: &str) -> Result<(), String> {
     }
 }
 
+/// How many bytes of two answers are alike, from the first one on.
+pub fn alike(one: &[u8], other: &[u8]) -> usize {
+    let pairs = one.iter().zip(other);
+    pairs.take_while(|(one, other)| one == other).count()
+}
+
+/// Bytes in hexadecimal; of many a part, which begins in the line with the first
+/// byte not alike.
+pub fn show_bytes(bytes: &[u8], alike: usize) -> String {
+    const LINE: usize = 16;
+    const LINES: usize = 64;
+    let first = match bytes.len() {
+        short if short <= LINE * LINES => 0,
+        _ => alike / LINE,
+    };
+    let mut out = format!("{} bytes, the first {alike} alike\n", bytes.len());
+    for (index, line) in bytes.chunks(LINE).enumerate().skip(first).take(LINES) {
+        let hex: String = line.iter().map(|byte| format!(" {byte:02x}")).collect();
+        out += &format!("{:>6}:{hex}\n", index * LINE);
+    }
+    out
+}
+
 /// Two answers that should have been one.
 #[derive(Debug)]
 pub struct Difference {

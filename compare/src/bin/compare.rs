@@ -1,7 +1,8 @@
 //! Compares a program `judge` with the independent judge on many traces, the
 //! independent judge's two deciders with each other, the programs that write and
-//! move traces with the independent writer and mover, and the verdicts of traces
-//! with those of the moved ones.
+//! move traces with the independent writer and mover, the verdicts of traces with
+//! those of the moved ones, and the programs that decide about traces, by the
+//! calls of the upper library, with the independent decisions.
 
 use ferozhak_compare::cases::{self, Case};
 use ferozhak_compare::encode::Writer;
@@ -14,7 +15,7 @@ use ferozhak_compare::scribes::Way;
 use ferozhak_compare::trace::{Edition, Refusal, Status, Trace};
 use ferozhak_compare::weave::{self, Judged};
 use ferozhak_compare::workers::{self, add_each, Difference, Extent, Tally};
-use ferozhak_compare::{brute, graph, judge_text, judge_trace, scribes, Answer};
+use ferozhak_compare::{brute, calls, daemon, graph, judge_text, judge_trace, scribes, Answer};
 use std::io::{self, BufRead, BufReader, Write};
 use std::process::{Child, ChildStdin, ChildStdout, ExitCode};
 
@@ -34,14 +35,22 @@ const USAGE: &str = "Usage:
                                        moves traces to both editions and back, by the program `scribe` and in Rust,
                                        and compares what the program `stream` says before and after; those that have
                                        notes also with other texts in them, and without them: many traces a run
+  compare --calls COMMAND [options]    compares a program that makes the calls of the upper library with the decisions
+                                       of the Rust judge, with all that the buffers hold: many items a run
+  compare --daemon COMMAND --stream COMMAND [options]
+                                       compares what the program `daemon` prints of a directory of traces, at levels
+                                       1 to 4, with the decisions of the Rust judge and with what the program `stream`
+                                       says of each trace: a run a level
 A COMMAND is a program and its arguments, parted by spaces.
 Half of the random traces are of edition 2, with transactions that overlap.
 Options:
   --traces N    at least this many traces (default 100000); with --scribe, --writer, --rewrite, --to-1 and
                 --to-2 this many random sequences and as many random traces, besides the known cases
-                (default 300 for all of these but --scribe)
+                (default 300 for all of these but --scribe); with --calls and --daemon this many random
+                traces, besides the known cases (default 2000 for --daemon)
   --seed S      the seed of the random traces (default 1)
-  --threads K   how many threads, each running one program at a time (default 1)
+  --threads K   how many threads, each running one program at a time (default 1); not with --daemon, which
+                has its own
 ";
 
 /// What is compared.
@@ -49,6 +58,9 @@ enum Compared {
     Judges(Program),
     Writers(scribes::Program),
     Moves(moves::Programs),
+    /// The command of a program that makes the calls.
+    Calls(String),
+    Daemon(daemon::Programs),
 }
 
 /// What the Rust judge is compared with.
@@ -59,6 +71,25 @@ enum Program {
     Each(String),
     /// A program that judges a stream of traces.
     Stream(String),
+}
+
+/// A program that is compared with the help of the program `stream`, by its
+/// command.
+enum BesideStream {
+    Moves(String),
+    Daemon(String),
+}
+
+impl BesideStream {
+    fn with(self, stream: String) -> Compared {
+        match self {
+            BesideStream::Moves(scribe) => {
+                let scribe = scribes::Program::Scribe(scribe);
+                Compared::Moves(moves::Programs { scribe, stream })
+            }
+            BesideStream::Daemon(daemon) => Compared::Daemon(daemon::Programs { daemon, stream }),
+        }
+    }
 }
 
 struct Options {
@@ -82,6 +113,8 @@ fn main() -> ExitCode {
         }
         Compared::Writers(program) => scribes::compare(program, extent),
         Compared::Moves(programs) => moves::compare(programs, extent),
+        Compared::Calls(command) => calls::compare(command, extent),
+        Compared::Daemon(programs) => daemon::compare(programs, extent),
     };
     if let Some(difference) = &difference {
         out.push_str(&difference.describe());
@@ -95,7 +128,7 @@ fn main() -> ExitCode {
 }
 
 fn parse_options(mut words: impl Iterator<Item = String>) -> Result<Options, String> {
-    let (mut compared, mut moves) = (None, None);
+    let (mut compared, mut beside_stream) = (None, None);
     let (mut traces, mut seed, mut threads) = (None, 1, 1);
     let mut only_self = false;
     while let Some(word) = words.next() {
@@ -111,7 +144,9 @@ fn parse_options(mut words: impl Iterator<Item = String>) -> Result<Options, Str
             "--judge" => compared = judges(Program::Each(value)),
             "--stream" => compared = judges(Program::Stream(value)),
             "--scribe" => compared = writers(scribes::Program::Scribe(value)),
-            "--moves" => moves = Some(scribes::Program::Scribe(value)),
+            "--calls" => compared = Some(Compared::Calls(value)),
+            "--moves" => beside_stream = Some(BesideStream::Moves(value)),
+            "--daemon" => beside_stream = Some(BesideStream::Daemon(value)),
             "--traces" => traces = Some(value.parse().map_err(wrong)?),
             "--seed" => seed = value.parse().map_err(wrong)?,
             "--threads" => threads = value.parse::<usize>().map_err(wrong)?.max(1),
@@ -121,23 +156,26 @@ fn parse_options(mut words: impl Iterator<Item = String>) -> Result<Options, Str
             },
         }
     }
-    let compared = match (compared, moves) {
+    let compared = match (compared, beside_stream) {
         (None, None) if only_self => Compared::Judges(Program::None),
         (Some(compared), None) if !only_self => compared,
-        (Some(Compared::Judges(Program::Stream(stream))), Some(scribe)) if !only_self => {
-            Compared::Moves(moves::Programs { scribe, stream })
+        (Some(Compared::Judges(Program::Stream(stream))), Some(beside)) if !only_self => {
+            beside.with(stream)
         }
         _ => {
             return Err("give one of --judge COMMAND, --stream COMMAND, --self, \
                         --scribe COMMAND, --writer COMMAND, --rewrite COMMAND, \
-                        --to-1 COMMAND and --to-2 COMMAND, or both of \
-                        --moves COMMAND and --stream COMMAND"
+                        --to-1 COMMAND, --to-2 COMMAND and --calls COMMAND, or \
+                        --stream COMMAND and one of --moves COMMAND and \
+                        --daemon COMMAND"
                 .into())
         }
     };
     // A run for each item takes its time.
     let usual = match compared {
         Compared::Writers(scribes::Program::Once(..)) => 300,
+        // So does a file for each trace.
+        Compared::Daemon(_) => 2_000,
         _ => 100_000,
     };
     let extent = Extent {
@@ -414,7 +452,7 @@ fn check_orders(
         };
         if outcome.verdict != *verdict
             || outcome.order_exists != no_pair
-            || outcome.some_choice != is_accepted(verdict)
+            || outcome.some_choice != verdict.is_accepted()
         {
             let (exists, choice) = (outcome.order_exists, outcome.some_choice);
             let brute = &outcome.verdict;
@@ -446,11 +484,11 @@ fn check_choices(
     for choice in brute::answered(trace).into_iter().flatten() {
         let verdicts = judge_trace(&choice);
         for (some, verdict) in some_choice.iter_mut().zip(&verdicts) {
-            *some |= is_accepted(verdict);
+            *some |= verdict.is_accepted();
         }
     }
     summary.choices += 1;
-    let accepted = verdicts.each_ref().map(is_accepted);
+    let accepted = verdicts.each_ref().map(Verdict::is_accepted);
     match some_choice == accepted {
         true => Ok(()),
         false => Err(Deciders {
@@ -459,10 +497,6 @@ fn check_choices(
             graph: format!("accepted {accepted:?}\n"),
         }),
     }
-}
-
-fn is_accepted(verdict: &Verdict) -> bool {
-    matches!(verdict, Verdict::Accepted(_))
 }
 
 /// The program under comparison, as one worker holds it.

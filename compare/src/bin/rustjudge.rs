@@ -2,17 +2,31 @@
 //! is a trace, or with `--stream` traces behind their lengths (2 bytes
 //! little-endian); standard output is the answer, or each answer before a line
 //! `--`. If the last trace of a stream is cut, what there is of it is judged.
+//!
+//! With `--calls` it answers items as a program that makes the calls of the upper
+//! library, and with `--daemon` it decides about the files of a directory as the
+//! program `daemon`.
 
+use ferozhak_compare::{calls, daemon};
 use std::io::{self, BufReader, BufWriter, Read, Write};
+use std::path::Path;
 use std::process::ExitCode;
+
+const USAGE: &str = "usage: rustjudge [--stream | --calls | --daemon LEVEL DIRECTORY]";
 
 fn main() -> ExitCode {
     let words: Vec<String> = std::env::args().skip(1).collect();
-    let done = match words.as_slice() {
+    let words: Vec<&str> = words.iter().map(String::as_str).collect();
+    let done = match words[..] {
         [] => run(),
-        [word] if word == "--stream" => stream(),
+        ["--stream"] => stream(),
+        ["--calls"] => calls::serve(
+            BufReader::new(io::stdin().lock()),
+            BufWriter::new(io::stdout().lock()),
+        ),
+        ["--daemon", level, directory] => decide(level, Path::new(directory)),
         _ => {
-            eprintln!("usage: rustjudge [--stream]");
+            eprintln!("{USAGE}");
             return ExitCode::from(2);
         }
     };
@@ -50,4 +64,10 @@ fn stream() -> io::Result<()> {
             output.flush()?;
         }
     }
+}
+
+fn decide(level: &str, directory: &Path) -> io::Result<()> {
+    let level = level.parse().map_err(io::Error::other)?;
+    let output = BufWriter::new(io::stdout().lock());
+    daemon::print_directory(level, directory, output)
 }

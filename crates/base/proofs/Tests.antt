@@ -147,6 +147,12 @@ unfolding pick
 pick-of f true x y = refl
 pick-of f false x y = refl
 
+-- what holds of both is so of the one that a test picks
+pub pick-both : {X : Type 0} (Q : X → Type 0) (b : Bool) {x y : X} → Q x → Q y → Q (pick b x y)
+unfolding pick
+pick-both Q true u v = u
+pick-both Q false u v = v
+
 -- two choices by one test are alike where the first ones are and the second ones are
 pub pick-alike : {X : Type 0} (R : X → X → Type 0) (b : Bool) {x y u v : X} → R x u → R y v → R (pick b x y) (pick b u v)
 unfolding pick

@@ -7,3 +7,4 @@ pub mod Lawful
 pub mod Checks
 pub mod Refusals
 pub mod Readings
+pub mod Lengths

@@ -13,7 +13,7 @@ use Rattle.rules.specs.declared.Answer.{Answer}
 use Rattle.rules.specs.declared.Answer.the-variants.{Refused, Rejected, Accepted}
 use Rattle.rules.proofs.Outcome.{verdictNo, Came, came-no-level, came-refused, came-short, came-short-pairs, came-rejected, came-short-order, came-accepted, came}
 use Rattle.rules.proofs.Lists.{findings-long, pairs-long}
-use Rattle.printing.proofs.Lengths.{lawful-reading, findings-few, pairs-few, order-few}
+use Rattle.demand1.proofs.Lengths.{lawful-reading, findings-few, pairs-few, order-few}
 
 -- the new buffers
 abbrev pub newFindings : List ℕ

@@ -1,14 +1,15 @@
--- How long the lists of a history that was read can be, and the text.
+-- How long the text of a history that was read can be.
 use Prim.Native.Nat.{ℕ, _+_, _≤_, _<_}
 use mathlib.Core.Path.{_≡_, refl, ap, _∙_}
-use mathlib.Core.Bool.{Bool, true, false}
-use mathlib.Core.List.{List, [], _∷_, _++_}
+use mathlib.Core.Bool.{Bool}
+use mathlib.Core.List.{List, [], _++_}
 use native.Mathlib.Omega.{arith}
 use lib.ListN.{length, length-append}
-use Rattle.base.specs.Base.{pick, listed, those, joined}
-use Rattle.base.proofs.Searches.{listed-most, count-most, joined-one, joined-none, joined-listed, joined-those}
+use Rattle.base.specs.Base.{pick, joined}
+use Rattle.base.proofs.Searches.{listed-most, joined-one, joined-none, joined-listed, joined-those}
+use Rattle.base.proofs.Tests.{pick-both}
 use Rattle.theory.specs.Leads.{isListed}
-use Rattle.theory.proofs.Order.{unplaced-all, rest-bound, rest-below}
+use Rattle.theory.proofs.Order.{rest-below}
 use Rattle.rules.specs.History.{History, op, opCount, size, originOf, committed}
 use Rattle.rules.specs.Reading.{Reading, refused, read, reading}
 use Rattle.rules.specs.Reads.{kindOf, isFinding}
@@ -17,10 +18,8 @@ use Rattle.rules.proofs.Origin.{origin-less}
 use Rattle.rules.specs.Levels.{isStart, isSession, isRead, isRival, forced, reasons}
 use Rattle.rules.specs.Outcome.{Pair, findings, pairsOf, pairs, order, isAccepted}
 use Rattle.demand1.specs.Lawful.{LawfulHistory}
-use Rattle.demand1.specs.Rows.{Refuses, too-long, at-record, bytes-behind}
-use Rattle.demand1.proofs.Lawful.{lawful-history}
-use Rattle.demand1.proofs.Refusals.{number-most}
-use Rattle.demand1.proofs.Readings.{reached-within, refuses-iff, has-read}
+use Rattle.demand1.proofs.Readings.{refuses-iff}
+use Rattle.demand1.proofs.Lengths.{findings-few, entry, entries-of, pairs-few, order-few, refused-small, lawful-reading}
 use Rattle.text.specs.Lines.{rejectedLine, acceptedLine}
 use Rattle.text.specs.Answer.{findingText, pairText, blockText, readingText, answerText}
 use Rattle.text.proofs.Lines.{refused-length, rejected-length, accepted-length, read-length, pair-length}
@@ -30,12 +29,6 @@ use Rattle.text.proofs.Lines.{refused-length, rejected-length, accepted-length,
 -- a list in three parts
 three-parts : (a b c : List ℕ) → length (a ++ (b ++ c)) ≡ length a + (length b + length c)
 three-parts a b c = length-append a (b ++ c) ∙ ap (λ (n : ℕ). length a + n) (length-append b c)
-
--- what holds of both is so of the one that a test picks
-pick-both : {X : Type 0} (Q : X → Type 0) (b : Bool) {x y : X} → Q x → Q y → Q (pick b x y)
-unfolding pick
-pick-both Q true u v = u
-pick-both Q false u v = v
 
 -- ── numbers ──
 
@@ -50,12 +43,7 @@ all-reasons h level a b =
 -- ── a history that was read ──
 
 module _ {h : History} (ok : LawfulHistory h) where
-  -- its findings, and their lines
-  pub findings-few : length (findings h) ≤ 1024
-  unfolding findings those
-  findings-few =
-      omega (arith, ok .few-ops, listed-most (λ i. pick (isFinding h i) (i ∷ []) []) 1 (opCount h + 1) 1 (λ i a b. pick-both (λ (l : List ℕ). length l ≤ 1) (isFinding h i) (omega arith) (omega arith)))
-
+  -- the lines of its findings
   findings-text : length (joined (findingText h) (findings h)) ≤ 25600
   unfolding findings findingText
   findings-text =
@@ -73,35 +61,15 @@ module _ {h : History} (ok : LawfulHistory h) where
       ))
 
   module _ (level : ℕ) where
-    -- the pair of a and b, where it is listed
-    abbrev entry : ℕ → ℕ → List Pair
-    entry a b = pick (isListed (size h) (forced h level) a b) (record { one = a; two = b } ∷ []) []
-
-    entries-of : (a : ℕ) → pairsOf h level a ≡ listed 0 (size h) (entry a)
-    unfolding pairsOf
-    entries-of a = joined-those (λ b. record { one = a; two = b } ∷ []) (isListed (size h) (forced h level) a) (size h) 0
-
-    -- its pairs, and their lines
-    pub pairs-few : length (pairs h level) ≤ 16384
-    unfolding pairs
-    pairs-few =
-        omega (
-          arith,
-          ok .few-txs,
-          listed-most (pairsOf h level) 128 (size h) 0
-              (λ a _ _.
-              rw (entries-of a)
-              (omega (arith, ok .few-txs, listed-most (entry a) 1 (size h) 0 (λ b _ _. pick-both (λ (l : List Pair). length l ≤ 1) (isListed (size h) (forced h level) a b) (omega arith) (omega arith))))),
-        )
-
+    -- the lines of its pairs
     row-text : (a : ℕ) → a < size h → length (joined (pairText h level) (pairsOf h level a)) ≤ 2176
     unfolding pairText
     row-text a l =
-        rw (entries-of a, joined-listed (pairText h level) (entry a) (size h) 0)
+        rw (entries-of h level a, joined-listed (pairText h level) (entry h level a) (size h) 0)
         (omega (
           arith,
           ok .few-txs,
-          listed-most (λ b. joined (pairText h level) (entry a b)) 17 (size h) 0
+          listed-most (λ b. joined (pairText h level) (entry h level a b)) 17 (size h) 0
               (λ b _ m.
               pick-both (λ (l : List Pair). length (joined (pairText h level) l) ≤ 17) (isListed (size h) (forced h level) a b)
               (rw (joined-one (pairText h level) (record { one = a; two = b }))
@@ -115,34 +83,19 @@ module _ {h : History} (ok : LawfulHistory h) where
         rw (joined-listed (pairText h level) (pairsOf h level) (size h) 0)
         (omega (arith, ok .few-txs, listed-most (λ a. joined (pairText h level) (pairsOf h level a)) 2176 (size h) 0 (λ a _ l. row-text a l)))
 
-    -- its order, and the line of it
-    pub order-few : length (order h level) ≤ 128
-    unfolding order
-    order-few =
-        omega (arith, ok .few-txs, rest-bound (size h) (committed h) (forced h level) [], unplaced-all (size h) (committed h), count-most (committed h) (size h) 0)
-
+    -- the line of its order
     order-text : length (acceptedLine level (order h level)) ≤ 525
     unfolding order
     order-text =
-        omega (arith, order-few, accepted-length level (order h level) (λ i l. omega (arith, ok .few-txs, rest-below (size h) (committed h) (forced h level) [] i l)))
+        omega (arith, order-few ok level, accepted-length level (order h level) (λ i l. omega (arith, ok .few-txs, rest-below (size h) (committed h) (forced h level) [] i l)))
 
     block-short : length (blockText h level) ≤ 304192
     unfolding blockText
     block-short =
         pick-both (λ (t : List ℕ). length t ≤ 304192) (isAccepted h level) (omega (arith, order-text))
-        (omega (arith, three-parts (rejectedLine level (length (findings h)) (length (pairs h level))) (joined (findingText h) (findings h)) (joined (pairText h level) (pairs h level)), rejected-length (length (findings h)) (length (pairs h level)) (omega (arith, findings-few)) (omega (arith, pairs-few)) level, findings-text, pairs-text))
+        (omega (arith, three-parts (rejectedLine level (length (findings h)) (length (pairs h level))) (joined (findingText h) (findings h)) (joined (pairText h level) (pairs h level)), rejected-length (length (findings h)) (length (pairs h level)) (omega (arith, findings-few ok)) (omega (arith, pairs-few ok level)) level, findings-text, pairs-text))
 
 -- ── the text ──
-
--- a refusal's number and place are small
-refused-small : {s : List ℕ} {n p : ℕ} → Refuses s n p → (n ≤ 11) × (p ≤ 32768)
-refused-small (too-long l) = (omega arith, omega arith)
-refused-small (at-record {c = c} l r f) = (omega (arith, number-most c), omega (arith, reached-within r))
-refused-small (bytes-behind l r p k b) = (omega arith, omega arith)
-
--- what is read is lawful
-pub lawful-reading : (s : List ℕ) {h : History} {notes : ℕ} → reading s ≡ read h notes → LawfulHistory h
-lawful-reading s e = lawful-history (has-read e)
 
 reading-short : (s : List ℕ) (q : Reading) → reading s ≡ q → length (readingText q) ≤ 1048576
 unfolding readingText

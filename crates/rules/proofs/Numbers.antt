@@ -53,6 +53,13 @@ le-bytes (suc w) n s l =
     below : n / 256 < 256 ^ w
     below = let e : n < 256 ^ w * 256 = simp unary-clauses at l in omega arith
 
+-- .. and are bytes, before whatever else is
+pub bytes-each : (w n : ℕ) (s : List ℕ) → ((i : ℕ) → getD s i 0 < 256) → (i : ℕ) → getD (bytes w n ++ s) i 0 < 256
+unfolding bytes
+bytes-each zero n s b i = b i
+bytes-each (suc w) n s b zero = omega arith
+bytes-each (suc w) n s b (suc i) = bytes-each w (n / 256) s b i
+
 -- .. and back: the bytes of the number that stands at `at`
 pub spelt : (w : ℕ) (s : List ℕ) (at : ℕ) → ((i : ℕ) → getD s i 0 < 256) → at + w ≤ length s → take (at + w) s ≡ take at s ++ bytes w (le w s at)
 unfolding le bytes

@@ -195,6 +195,19 @@ module _ (s : List ℕ) (level : ℕ) (fs ps os : List ℕ) where
       (λ t. let l = level-test level .0 t in rw (judged-level (l .0) (l .1)) (by-reading (l .0) (l .1) (reading s) refl))
       (λ t. let d : (1 ≤ level) × (level ≤ 3) → ⊥ = λ l. clash (level-test level .1 l) t in rw (judged-no-level d) (came-no-level d))
 
+  -- so its report is one of three
+  pub outcome-says : ReportIs (judged s level fs ps os .report)
+  outcome-says = of came
+    where
+      of : {x : Outcome} → Came x → ReportIs (x .report)
+      of (came-no-level d) = says-declined
+      of (came-refused a b e) = says-declined
+      of (came-short a b e t l) = says-declined
+      of (came-short-pairs a b e t g l) = says-declined
+      of (came-rejected a b e t g k) = says-rejected
+      of (came-short-order a b e t l) = says-declined
+      of (came-accepted a b e t g) = says-accepted
+
   -- where the reading is known, it decides
   judged-by : {r : Reading} → 1 ≤ level → level ≤ 3 → reading s ≡ r → judged s level fs ps os ≡ judgedRead r level fs ps os
   judged-by a b e = judged-level a b ∙ ap (λ (r : Reading). judgedRead r level fs ps os) e

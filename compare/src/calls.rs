@@ -1,0 +1,535 @@
+//! Compares a program that makes the calls of the upper library with the
+//! independent decisions, byte for byte.
+//!
+//! The program reads items until its input ends, and answers each. An item is a
+//! letter, the numbers that the call takes, and the trace behind its length; each
+//! number has 4 bytes, little-endian. The letter `d` asks for a decision: its
+//! numbers are the level and the rooms of the findings, the pairs, the order and
+//! the counts. The answer is what the call answers, then the four buffers as they
+//! are after it. Before the call every byte of them is the same one, and so are
+//! some bytes behind each, which are not lent and are answered with it. The letter
+//! `s` asks for the strongest level, which is the answer.
+
+use crate::cases::{self, Case};
+use crate::deciding::{strongest_of, Buffers, Counts, Decision, Outcome, Rooms, BUFFERS};
+use crate::generate;
+use crate::process;
+use crate::random::Random;
+use crate::report::Level;
+use crate::trace::Refusal;
+use crate::workers::{self, add_each, alike, show_bytes, Difference, Extent, Tally};
+use crate::{judge_all, Answer};
+use std::io::{self, Read, Write};
+
+/// What every byte is before the call.
+const UNTOUCHED: u8 = 0xA5;
+/// So many bytes behind each buffer are not lent.
+const BEHIND: usize = 16;
+/// The longest trace that the program takes.
+const LONGEST: usize = 40_000;
+/// Bytes of a number.
+const NUMBER_SIZE: usize = size_of::<u32>();
+/// How many traces go through one run of the program.
+const TOGETHER: usize = 100;
+
+/// Numbers that are no levels, though some have one as their low byte or half.
+const NO_LEVELS: [u32; 9] = [0, 4, 255, 256, 257, 258, 65_537, 0x8000_0001, 0xFFFF_FFFF];
+
+/// What is asked about a trace.
+pub enum Call {
+    Decide { level: u32, rooms: Rooms },
+    Strongest,
+}
+
+impl Call {
+    /// The item as the program reads it.
+    pub fn item(&self, trace: &[u8]) -> Vec<u8> {
+        let (letter, mut numbers) = match self {
+            Call::Decide { level, rooms } => {
+                let rooms = rooms.each().map(number);
+                (b'd', [[*level].as_slice(), &rooms].concat())
+            }
+            Call::Strongest => (b's', vec![]),
+        };
+        numbers.push(number(trace.len()));
+        let mut item = vec![letter];
+        item.extend(numbers.into_iter().flat_map(u32::to_le_bytes));
+        item.extend(trace);
+        item
+    }
+
+    /// Reads an item up to the trace's length; nothing where the input ends.
+    fn read(input: &mut impl Read) -> io::Result<Option<Call>> {
+        let mut letter = [0];
+        match input.read_exact(&mut letter) {
+            Err(error) if error.kind() == io::ErrorKind::UnexpectedEof => return Ok(None),
+            other => other?,
+        }
+        match letter {
+            [b'd'] => {
+                let level = read_number(input)?;
+                let mut rooms = [0; BUFFERS.len()];
+                for room in &mut rooms {
+                    *room = read_number(input)? as usize;
+                }
+                let rooms = Rooms::of_each(rooms);
+                Ok(Some(Call::Decide { level, rooms }))
+            }
+            [b's'] => Ok(Some(Call::Strongest)),
+            [other] => {
+                let message = format!("nothing is asked by byte {other}");
+                Err(io::Error::other(message))
+            }
+        }
+    }
+
+    /// What has to be answered, given what is said of the trace.
+    pub fn reply(&self, answer: &Answer) -> Vec<u8> {
+        match self {
+            Call::Decide { level, rooms } => {
+                let outcome = Outcome::of(answer, *level, rooms);
+                let mut buffers = Buffers::full_of(UNTOUCHED, rooms);
+                outcome.write(&mut buffers);
+                let mut reply = (outcome.decision() as u32).to_le_bytes().to_vec();
+                for buffer in buffers.each() {
+                    reply.extend(buffer);
+                    reply.extend([UNTOUCHED; BEHIND]);
+                }
+                reply
+            }
+            Call::Strongest => strongest_of(answer).to_le_bytes().to_vec(),
+        }
+    }
+
+    /// A whole reply in print: what the call answers, the counts that are whole,
+    /// and the buffers that are not alike in another reply.
+    fn show(&self, reply: &[u8], other: &[u8]) -> String {
+        let (answered, buffers) = reply.split_at(NUMBER_SIZE);
+        let mut out = format!("answer{}", numbers_in(answered));
+        let Call::Decide { rooms, .. } = self else {
+            return out + "\n";
+        };
+        let (ours, others) = (split(buffers, rooms), split(&other[NUMBER_SIZE..], rooms));
+        let counts = &ours[3][..rooms.counts.min(Counts::SIZE)];
+        out += &format!(", counts{}\n", numbers_in(counts));
+        for (name, (one, other)) in BUFFERS.iter().zip(ours.into_iter().zip(others)) {
+            if one != other {
+                let bytes = show_bytes(one, alike(one, other));
+                out += &format!("{name} and the {BEHIND} bytes behind: {bytes}");
+            }
+        }
+        out
+    }
+
+    fn describe(&self) -> String {
+        match self {
+            Call::Decide { level, rooms } => {
+                let rooms = rooms.each().map(|room| room.to_string()).join(" ");
+                format!("asked 'd' at level {level} with rooms {rooms}")
+            }
+            Call::Strongest => "asked 's'".into(),
+        }
+    }
+}
+
+/// The buffers of a reply, each with the bytes behind it.
+fn split<'a>(mut bytes: &'a [u8], rooms: &Rooms) -> [&'a [u8]; 4] {
+    rooms.each().map(|room| {
+        let (buffer, rest) = bytes.split_at(room + BEHIND);
+        bytes = rest;
+        buffer
+    })
+}
+
+fn number(length: usize) -> u32 {
+    u32::try_from(length).expect("traces and buffers are short")
+}
+
+fn read_number(input: &mut impl Read) -> io::Result<u32> {
+    let mut bytes = [0; NUMBER_SIZE];
+    input.read_exact(&mut bytes)?;
+    Ok(u32::from_le_bytes(bytes))
+}
+
+/// The whole numbers that bytes begin with, each behind a space.
+fn numbers_in(bytes: &[u8]) -> String {
+    let (numbers, _) = bytes.as_chunks();
+    numbers
+        .iter()
+        .map(|number| format!(" {}", u32::from_le_bytes(*number)))
+        .collect()
+}
+
+/// Answers items as the program has to, by the independent judge.
+pub fn serve(mut input: impl Read, mut output: impl Write) -> io::Result<()> {
+    while let Some(call) = Call::read(&mut input)? {
+        let mut trace = vec![0; read_number(&mut input)? as usize];
+        input.read_exact(&mut trace)?;
+        output.write_all(&call.reply(&judge_all(&trace)))?;
+    }
+    output.flush()
+}
+
+/// Compares all items, up to the first difference. Answers what there is to be
+/// said, and the difference.
+pub fn compare(command: &str, extent: &Extent) -> (String, Option<Box<Difference>>) {
+    let cases = cases::all();
+    let total = cases.len() + extent.traces;
+    let check = |run: usize, _: &mut (), tally: &mut Outcomes| {
+        let numbers = run * TOGETHER..total.min((run + 1) * TOGETHER);
+        let subject = |number| match cases.get(number) {
+            Some(case) => Subject::known(case),
+            None => Subject::random(number, extent.seed),
+        };
+        let subjects: Vec<Subject> = numbers.map(subject).collect();
+        check_run(command, &subjects, tally)
+    };
+    let runs = total.div_ceil(TOGETHER);
+    let (tally, difference) = workers::share(runs, extent.threads, || (), check);
+    (tally.describe(command, extent), difference)
+}
+
+/// A trace with all that is asked about it.
+struct Subject {
+    name: String,
+    trace: Vec<u8>,
+    answer: Answer,
+    calls: Vec<Call>,
+}
+
+impl Subject {
+    fn known(case: &Case) -> Subject {
+        let answer = judge_all(&case.bytes);
+        Subject {
+            name: format!("case '{}'", case.name),
+            trace: case.bytes.clone(),
+            calls: telling_calls(&answer),
+            answer,
+        }
+    }
+
+    /// Each number has its own random stream, so that a run is the same whatever
+    /// the number of threads.
+    fn random(number: usize, seed: u64) -> Subject {
+        let mut random = Random::new(seed, number as u64);
+        let (origin, mut trace) = generate::any(&mut random);
+        trace.truncate(LONGEST);
+        let answer = judge_all(&trace);
+        Subject {
+            name: format!("trace {number} of seed {seed}, {}", origin.describe()),
+            trace,
+            calls: vec![drawn_call(&mut random, &answer), Call::Strongest],
+            answer,
+        }
+    }
+
+    fn items(&self) -> impl Iterator<Item = Item<'_>> {
+        let item = |call| Item {
+            subject: self,
+            call,
+        };
+        self.calls.iter().map(item)
+    }
+}
+
+/// One thing asked of the program.
+struct Item<'a> {
+    subject: &'a Subject,
+    call: &'a Call,
+}
+
+impl Item<'_> {
+    fn name(&self) -> String {
+        format!("{}, {}", self.subject.name, self.call.describe())
+    }
+
+    fn to_bytes(&self) -> Vec<u8> {
+        self.call.item(&self.subject.trace)
+    }
+
+    fn reply(&self) -> Vec<u8> {
+        self.call.reply(&self.subject.answer)
+    }
+
+    /// The program's reply is not the expected one. What is kept is the input for
+    /// another run, with this item alone.
+    fn differs(&self, theirs: &[u8], ours: &[u8]) -> Box<Difference> {
+        Box::new(Difference {
+            name: self.name(),
+            bytes: self.to_bytes(),
+            file: "item".into(),
+            answers: [
+                ("the program", self.call.show(theirs, ours)),
+                ("the Rust side", self.call.show(ours, theirs)),
+            ],
+        })
+    }
+}
+
+/// All that is asked about a known case: at each level with the rooms that tell,
+/// at other levels, and with every size of the counts.
+fn telling_calls(answer: &Answer) -> Vec<Call> {
+    let mut calls = vec![Call::Strongest];
+    for level in Level::ALL.map(Level::number) {
+        let rooms = telling_rooms(enough(answer, level));
+        let calls_at = rooms.into_iter().map(|rooms| Call::Decide { level, rooms });
+        calls.extend(calls_at);
+    }
+    for level in NO_LEVELS {
+        let rooms = enough(answer, level);
+        calls.push(Call::Decide { level, rooms });
+    }
+    for (counts, level) in (0..=Counts::SIZE + NUMBER_SIZE).zip((1..=3).cycle()) {
+        let rooms = enough(answer, level);
+        let rooms = Rooms { counts, ..rooms };
+        calls.push(Call::Decide { level, rooms });
+    }
+    calls
+}
+
+/// Just enough room for the answer at this level; where it is no level, for that
+/// at any, so that it would show if one of them were given.
+fn enough(answer: &Answer, level: u32) -> Rooms {
+    let Ok(verdicts) = answer else {
+        return Rooms::COUNTS_ONLY;
+    };
+    match Level::of_number(level) {
+        Some(level) => Rooms::needed(&verdicts[level as usize]),
+        None => {
+            let each = verdicts.iter().map(Rooms::needed);
+            each.fold(Rooms::COUNTS_ONLY, Rooms::for_both)
+        }
+    }
+}
+
+/// Ample rooms, just enough, a byte too little wherever there can be, and none.
+fn telling_rooms(needed: Rooms) -> Vec<Rooms> {
+    let byte_less = |room: usize| room.saturating_sub(1);
+    let short = Rooms::of_each(needed.each().map(byte_less));
+    let mut telling = vec![
+        Rooms::AMPLE,
+        needed,
+        Rooms {
+            findings: short.findings,
+            ..needed
+        },
+        Rooms {
+            pairs: short.pairs,
+            ..needed
+        },
+        // Both lists: the findings are what is refused.
+        Rooms {
+            order: needed.order,
+            counts: needed.counts,
+            ..short
+        },
+        Rooms {
+            order: short.order,
+            ..needed
+        },
+        Rooms::COUNTS_ONLY,
+        Rooms::default(),
+    ];
+    // Where nothing is needed, nothing is too little.
+    let mut asked = Vec::new();
+    telling.retain(|rooms| {
+        let is_new = !asked.contains(rooms);
+        asked.push(*rooms);
+        is_new
+    });
+    telling
+}
+
+/// A decision at a random level, mostly one of the three, with rooms of all sorts.
+fn drawn_call(random: &mut Random, answer: &Answer) -> Call {
+    let level = match random.percent(4) {
+        true => *random.pick(&NO_LEVELS),
+        false => random.from_to(1, 3) as u32,
+    };
+    let needed = enough(answer, level);
+    let rooms = Rooms {
+        findings: drawn_room(random, needed.findings, Rooms::AMPLE.findings),
+        pairs: drawn_room(random, needed.pairs, Rooms::AMPLE.pairs),
+        order: drawn_room(random, needed.order, Rooms::AMPLE.order),
+        counts: match random.percent(60) {
+            true => Counts::SIZE,
+            false => random.below(Counts::SIZE + NUMBER_SIZE + 1),
+        },
+    };
+    Call::Decide { level, rooms }
+}
+
+fn drawn_room(random: &mut Random, needed: usize, ample: usize) -> usize {
+    match random.below(100) {
+        0..=44 => needed,
+        45..=52 => needed.saturating_sub(1),
+        53..=56 => random.below(needed + 1),
+        57..=60 => 0,
+        61..=64 => random.below(24),
+        65..=84 => needed + random.from_to(1, 24),
+        _ => ample,
+    }
+}
+
+/// Puts the items through one run of the program, and compares. Whether it answers
+/// each at once or all at the end does not matter.
+fn check_run(
+    command: &str,
+    subjects: &[Subject],
+    tally: &mut Outcomes,
+) -> Result<(), Box<Difference>> {
+    let items: Vec<Item> = subjects.iter().flat_map(Subject::items).collect();
+    let input: Vec<u8> = items.iter().flat_map(Item::to_bytes).collect();
+    let (output, failure) = match process::run_to_end(command, &input) {
+        Ok(ended) => (ended.output, ended.failure),
+        Err(message) => (vec![], Some(message)),
+    };
+    let mut left = output.as_slice();
+    for (index, item) in items.iter().enumerate() {
+        let ours = item.reply();
+        let Some((theirs, rest)) = left.split_at_checked(ours.len()) else {
+            let message = failure.unwrap_or("ended before its answer did".into());
+            return Err(run_differs(
+                &items[index..],
+                format!("no answer: {message}"),
+            ));
+        };
+        if theirs != ours {
+            return Err(item.differs(theirs, &ours));
+        }
+        tally.count(item);
+        left = rest;
+    }
+    tally.traces += subjects.len();
+    match (failure, left.len()) {
+        (Some(message), _) => Err(run_differs(&items, format!("each answer, then {message}"))),
+        (None, 0) => Ok(()),
+        (None, more) => Err(run_differs(
+            &items,
+            format!("{more} bytes behind the last answer"),
+        )),
+    }
+}
+
+/// The program did not come to a right end with these items. It may have been any
+/// of them, since its last answers may be lost, so that all of them are kept.
+fn run_differs(items: &[Item], message: String) -> Box<Difference> {
+    let first = items.first().map(Item::name).unwrap_or_default();
+    Box::new(Difference {
+        name: format!("a run of items, {first}, or one behind it"),
+        bytes: items.iter().flat_map(Item::to_bytes).collect(),
+        file: "items".into(),
+        answers: [
+            ("the program", message + "\n"),
+            ("what was asked", format!("{} items\n", items.len())),
+        ],
+    })
+}
+
+/// How often each thing occurred.
+#[derive(Default)]
+struct Outcomes {
+    traces: usize,
+    decisions: Decisions,
+    /// Decisions whose counts were not all written.
+    cut: usize,
+    /// Refused for one byte.
+    byte_short: usize,
+}
+
+impl Tally for Outcomes {
+    fn add(&mut self, other: &Outcomes) {
+        self.traces += other.traces;
+        self.decisions.add(&other.decisions);
+        self.cut += other.cut;
+        self.byte_short += other.byte_short;
+    }
+}
+
+impl Outcomes {
+    fn count(&mut self, item: &Item) {
+        let answer = &item.subject.answer;
+        let Call::Decide { level, rooms } = item.call else {
+            self.decisions.count_strongest(answer);
+            return;
+        };
+        let outcome = Outcome::of(answer, *level, rooms);
+        self.decisions.count(*level, &outcome);
+        self.cut += usize::from(rooms.counts < Counts::SIZE);
+        let room = match outcome.0 {
+            Err(Refusal { number: 12, .. }) => rooms.findings,
+            Err(Refusal { number: 13, .. }) => rooms.pairs,
+            Err(Refusal { number: 14, .. }) => rooms.order,
+            _ => return,
+        };
+        let is_byte_short = outcome.counts().place == number(room) + 1;
+        self.byte_short += usize::from(is_byte_short);
+    }
+
+    fn describe(&self, command: &str, extent: &Extent) -> String {
+        let mut lines = vec![format!(
+            "{} items on {} traces of seed {}, answered by '{command}' and in Rust",
+            self.decisions.items(),
+            self.traces,
+            extent.seed
+        )];
+        lines.extend(self.decisions.describe());
+        lines.push(format!("buffers one byte too short: {}", self.byte_short));
+        lines.push(format!("counts cut: {}", self.cut));
+        lines.join("\n") + "\n"
+    }
+}
+
+/// How often each thing was decided.
+#[derive(Default)]
+pub struct Decisions {
+    /// By decision and by level; the last place is for numbers that are none.
+    decided: [[usize; 4]; Decision::ALL.len()],
+    refused: [usize; Refusal::NUMBERS],
+    strongest: [usize; 4],
+}
+
+impl Decisions {
+    pub fn count(&mut self, level: u32, outcome: &Outcome) {
+        let column = Level::of_number(level).map_or(3, |level| level as usize);
+        self.decided[outcome.decision() as usize - 1][column] += 1;
+        if let Err(refusal) = outcome.0 {
+            self.refused[usize::from(refusal.number)] += 1;
+        }
+    }
+
+    pub fn count_strongest(&mut self, answer: &Answer) {
+        self.strongest[strongest_of(answer) as usize] += 1;
+    }
+
+    fn add(&mut self, other: &Decisions) {
+        for (to, from) in self.decided.iter_mut().zip(&other.decided) {
+            add_each(to, from);
+        }
+        add_each(&mut self.refused, &other.refused);
+        add_each(&mut self.strongest, &other.strongest);
+    }
+
+    fn items(&self) -> usize {
+        let all = self.decided.iter().flatten().chain(&self.strongest);
+        all.sum()
+    }
+
+    pub fn describe(&self) -> Vec<String> {
+        let numbers = |counts: &[usize]| {
+            let each = counts.iter().map(|count| format!("{count:>10}"));
+            each.collect::<String>()
+        };
+        let mut lines = vec!["decisions by level:         1         2         3     other".into()];
+        for (decision, levels) in Decision::ALL.iter().zip(&self.decided) {
+            lines.push(format!("  {:<17}{}", decision.name(), numbers(levels)));
+        }
+        lines.push("strongest level:            0         1         2         3".into());
+        lines.push(format!("  {:<17}{}", "answered", numbers(&self.strongest)));
+        lines.push("refusals:".into());
+        for number in 1..=14 {
+            lines.push(format!("  {number:>2} {:>9}", self.refused[number]));
+        }
+        lines
+    }
+}

@@ -1,0 +1,4 @@
+pub mod Counts
+pub mod Decides
+pub mod Outright
+pub mod Strongest

@@ -1,0 +1,67 @@
+-- How long the lists and the order of a history that was read can be, and how large the numbers of a refusal.
+use Prim.Native.Nat.{ℕ, _+_, _≤_}
+use mathlib.Core.Path.{_≡_}
+use mathlib.Core.List.{List, [], _∷_}
+use native.Mathlib.Omega.{arith}
+use lib.ListN.{length}
+use Rattle.base.specs.Base.{pick, listed, those}
+use Rattle.base.proofs.Searches.{listed-most, count-most, joined-those}
+use Rattle.base.proofs.Tests.{pick-both}
+use Rattle.theory.specs.Leads.{isListed}
+use Rattle.theory.proofs.Order.{unplaced-all, rest-bound}
+use Rattle.rules.specs.History.{History, opCount, size, committed}
+use Rattle.rules.specs.Reading.{read, reading}
+use Rattle.rules.specs.Reads.{isFinding}
+use Rattle.rules.specs.Levels.{forced}
+use Rattle.rules.specs.Outcome.{Pair, findings, pairsOf, pairs, order}
+use Rattle.demand1.specs.Lawful.{LawfulHistory}
+use Rattle.demand1.specs.Rows.{Refuses, too-long, at-record, bytes-behind}
+use Rattle.demand1.proofs.Lawful.{lawful-history}
+use Rattle.demand1.proofs.Refusals.{number-most}
+use Rattle.demand1.proofs.Readings.{reached-within, has-read}
+
+-- ── a history that was read ──
+
+module _ (h : History) (level : ℕ) where
+  -- the pair of a and b, where it is listed
+  abbrev pub entry : ℕ → ℕ → List Pair
+  entry a b = pick (isListed (size h) (forced h level) a b) (record { one = a; two = b } ∷ []) []
+
+  pub entries-of : (a : ℕ) → pairsOf h level a ≡ listed 0 (size h) (entry a)
+  unfolding pairsOf
+  entries-of a = joined-those (λ b. record { one = a; two = b } ∷ []) (isListed (size h) (forced h level) a) (size h) 0
+
+module _ {h : History} (ok : LawfulHistory h) where
+  pub findings-few : length (findings h) ≤ 1024
+  unfolding findings those
+  findings-few =
+      omega (arith, ok .few-ops, listed-most (λ i. pick (isFinding h i) (i ∷ []) []) 1 (opCount h + 1) 1 (λ i a b. pick-both (λ (l : List ℕ). length l ≤ 1) (isFinding h i) (omega arith) (omega arith)))
+
+  module _ (level : ℕ) where
+    pub pairs-few : length (pairs h level) ≤ 16384
+    unfolding pairs
+    pairs-few =
+        omega (
+          arith,
+          ok .few-txs,
+          listed-most (pairsOf h level) 128 (size h) 0
+              (λ a _ _.
+              rw (entries-of h level a)
+              (omega (arith, ok .few-txs, listed-most (entry h level a) 1 (size h) 0 (λ b _ _. pick-both (λ (l : List Pair). length l ≤ 1) (isListed (size h) (forced h level) a b) (omega arith) (omega arith))))),
+        )
+
+    pub order-few : length (order h level) ≤ 128
+    unfolding order
+    order-few =
+        omega (arith, ok .few-txs, rest-bound (size h) (committed h) (forced h level) [], unplaced-all (size h) (committed h), count-most (committed h) (size h) 0)
+
+-- what is read is lawful
+pub lawful-reading : (s : List ℕ) {h : History} {notes : ℕ} → reading s ≡ read h notes → LawfulHistory h
+lawful-reading s e = lawful-history (has-read e)
+
+-- ── a refusal ──
+
+pub refused-small : {s : List ℕ} {n p : ℕ} → Refuses s n p → (n ≤ 11) × (p ≤ 32768)
+refused-small (too-long l) = (omega arith, omega arith)
+refused-small (at-record {c = c} l r f) = (omega (arith, number-most c), omega (arith, reached-within r))
+refused-small (bytes-behind l r p k b) = (omega arith, omega arith)

@@ -1,0 +1,8 @@
+/* What the example uses of <unistd.h>, for x86-64 Linux. */
+#ifndef UNISTD_H
+#define UNISTD_H
+#include <stddef.h>
+typedef long ssize_t;
+ssize_t read(int, void *, size_t);
+int close(int);
+#endif

@@ -228,8 +228,7 @@ static void *work(void *argument)
     return NULL;
 }
 
-/* Starts the workers and waits for them. A call needs at most 48 KiB of stack, and the C library keeps a few of its own there,
-   so 64 KiB are enough. */
+/* Starts the workers and waits for them. A stack of 48 KiB is enough for either call; with 64 KiB a worker can print, too. */
 static void run(struct queue *queue, size_t count)
 {
     struct worker *workers = malloc(count * sizeof *workers);

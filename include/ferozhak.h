@@ -4,7 +4,7 @@
 
    Threads: neither call keeps anything, allocates, or uses global data. Any number of threads may call at once.
    Overlap: no two of the buffers may overlap, nor may any of them overlap the trace.
-   Stack:   either call needs at most 48 KiB of the stack of the thread that makes it.
+   Stack:   a thread whose stack has 48 KiB can make either call.
    Empty:   for an empty buffer or trace the length is 0 and the pointer is any that is not NULL. */
 #ifndef FEROZHAK_H
 #define FEROZHAK_H

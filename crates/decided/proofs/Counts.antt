@@ -17,7 +17,7 @@ use Rattle.decided.specs.Decides.{CountsTold}
 -- ── what is put ──
 
 -- numbers that four bytes can spell
-pub record Small (r : Report) : Type 0 where
+pub record InFourBytes (r : Report) : Type 0 where
   pub findings : r .findings < 4294967296
   pub pairs : r .pairs < 4294967296
   pub order : r .order < 4294967296
@@ -77,7 +77,7 @@ whole-most n =
     (λ g. let e = whole-all n g in let q : wholeCounts n / 4 ≡ 5 = omega arith in rw q (omega arith, omega arith, inl refl, omega arith)) (split n 20)
 
 -- what is put is told
-pub counts-told : (r : Report) (cs : List ℕ) → Small r → CountsTold cs (countsPut r cs) (r .findings) (r .pairs) (r .order) (r .no) (r .place)
+pub counts-told : (r : Report) (cs : List ℕ) → InFourBytes r → CountsTold cs (countsPut r cs) (r .findings) (r .pairs) (r .order) (r .no) (r .place)
 unfolding countsPut countBytes
 counts-told r cs s =
     let w = whole-most (length cs) in

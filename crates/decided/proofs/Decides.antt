@@ -19,7 +19,7 @@ use Rattle.demands.proofs.Declined.{declines-iff, declines-outcome}
 use Rattle.deciding.specs.Deciding.{decisionNo, decisionOf, countsPut, Decided, decidedAs, decidedBy, decided}
 use Rattle.deciding.specs.declared.Decision.the-variants.{Promote, Hold, NoTrace}
 use Rattle.decided.specs.Decides.{CountsTold, Decides}
-use Rattle.decided.proofs.Counts.{Small, counts-told, counts-one}
+use Rattle.decided.proofs.Counts.{InFourBytes, counts-told, counts-one}
 
 module _ (s : List ℕ) (level : ℕ) (fs ps os : List ℕ) where
   -- ── what the judge reports ──
@@ -39,10 +39,10 @@ module _ (s : List ℕ) (level : ℕ) (fs ps os : List ℕ) where
       of (says-accepted {n}) e = accepted (accepted-trace s level fs ps os n .0 e)
 
   -- its numbers are small
-  small : Small (judged s level fs ps os .report)
+  small : InFourBytes (judged s level fs ps os .report)
   small = of (came s level fs ps os)
     where
-      of : {x : Outcome} → Came s level fs ps os x → Small (x .report)
+      of : {x : Outcome} → Came s level fs ps os x → InFourBytes (x .report)
       of (came-no-level d) = record { findings = omega arith; pairs = omega arith; order = omega arith; no = omega arith; place = omega arith }
       of (came-refused {n} {p} a b e) =
           let m = refused-small (refuses-iff s n p .0 e) in

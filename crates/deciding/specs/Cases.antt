@@ -56,8 +56,8 @@ pub record DecideCase : Type 0 where
   pub c : ℕ
   pub out : Decided
 
-abbrev decides : List ℕ → ℕ → ℕ → ℕ → ℕ → ℕ → Decided → DecideCase
-decides s l f p o c x = record { bytes = s; level = l; f = f; p = p; o = o; c = c; out = x }
+abbrev decideCase : List ℕ → ℕ → ℕ → ℕ → ℕ → ℕ → Decided → DecideCase
+decideCase s l f p o c x = record { bytes = s; level = l; f = f; p = p; o = o; c = c; out = x }
 
 -- a number below 256 in four bytes; five of them
 abbrev low : ℕ → List ℕ
@@ -68,17 +68,17 @@ five f p o n at = low f ++ low p ++ low o ++ low n ++ low at
 
 -- with 20 bytes for the counts
 abbrev promotes : List ℕ → ℕ → ℕ → ℕ → ℕ → List ℕ → DecideCase
-promotes s l f p o x = decides s l f p o 20 (decidedAs 1 (room f) (room p) (x ++ room (o - length x)) (five 0 0 (length x) 0 0))
+promotes s l f p o x = decideCase s l f p o 20 (decidedAs 1 (room f) (room p) (x ++ room (o - length x)) (five 0 0 (length x) 0 0))
 
 abbrev holds : List ℕ → ℕ → ℕ → ℕ → ℕ → ℕ → List ℕ → ℕ → List ℕ → DecideCase
-holds s l f p o n x m y = decides s l f p o 20 (decidedAs 2 (x ++ room (f - length x)) (y ++ room (p - length y)) (room o) (five n m 0 0 0))
+holds s l f p o n x m y = decideCase s l f p o 20 (decidedAs 2 (x ++ room (f - length x)) (y ++ room (p - length y)) (room o) (five n m 0 0 0))
 
 abbrev noTrace : List ℕ → ℕ → ℕ → ℕ → ℕ → ℕ → ℕ → DecideCase
-noTrace s l f p o n at = decides s l f p o 20 (decidedAs 3 (room f) (room p) (room o) (five 0 0 0 n at))
+noTrace s l f p o n at = decideCase s l f p o 20 (decidedAs 3 (room f) (room p) (room o) (five 0 0 0 n at))
 
 -- a read and two pairs at level 3, with a slice of c bytes that then holds x
 abbrev cut : ℕ → List ℕ → DecideCase
-cut c x = decides P13and 3 6 8 0 c (decidedAs 2 (read 3 5 1 0) circle [] x)
+cut c x = decideCase P13and 3 6 8 0 c (decidedAs 2 (read 3 5 1 0) circle [] x)
 
 abbrev pub decideTable : List DecideCase
 decideTable =
@@ -104,7 +104,7 @@ decideTable =
     ∷ noTrace P1 257 6 8 4 1 0
     ∷ noTrace P1 4294967297 6 8 4 1 0
     -- a place of two bytes: 288
-    ∷ decides fourNotes 1 0 0 0 20 (decidedAs 3 [] [] [] (low 0 ++ low 0 ++ low 0 ++ low 3 ++ (32 ∷ 1 ∷ 0 ∷ 0 ∷ [])))
+    ∷ decideCase fourNotes 1 0 0 0 20 (decidedAs 3 [] [] [] (low 0 ++ low 0 ++ low 0 ++ low 3 ++ (32 ∷ 1 ∷ 0 ∷ 0 ∷ [])))
     -- a slice that is shorter gets the counts that fit whole; behind the five nothing changes
     ∷ cut 0 []
     ∷ cut 3 (room 3)
@@ -118,7 +118,7 @@ decideTable =
 
 abbrev pub nowDecided : DecideCase → DecideCase
 nowDecided x =
-    decides (x .bytes) (x .level) (x .f) (x .p) (x .o) (x .c) (decided (x .bytes) (x .level) (room (x .f)) (room (x .p)) (room (x .o)) (room (x .c)))
+    decideCase (x .bytes) (x .level) (x .f) (x .p) (x .o) (x .c) (decided (x .bytes) (x .level) (room (x .f)) (room (x .p)) (room (x .o)) (room (x .c)))
 
 -- this statement carries along what it unfolds
 unfoldable pub as-decided : map nowDecided decideTable ≡ decideTable
@@ -132,31 +132,31 @@ pub record StrongestCase : Type 0 where
   pub bytes : List ℕ
   pub answer : ℕ
 
-abbrev answers : List ℕ → ℕ → StrongestCase
-answers s n = record { bytes = s; answer = n }
+abbrev strongestCase : List ℕ → ℕ → StrongestCase
+strongestCase s n = record { bytes = s; answer = n }
 
 abbrev pub strongestTable : List StrongestCase
 strongestTable =
-    answers P1 3
+    strongestCase P1 3
     -- "0 if none": an unclean read, and pairs at every level
-    ∷ answers P3 0
-    ∷ answers P13 0
-    ∷ answers P10 1
-    ∷ answers P12 2
+    ∷ strongestCase P3 0
+    ∷ strongestCase P13 0
+    ∷ strongestCase P10 1
+    ∷ strongestCase P12 2
     -- P14 one session: T1 w1=5; T2 r1=0
-    ∷ answers (whole 2 (T 1 (w 1 5 ∷ []) ++ T 1 (r 1 0 ∷ []))) 1
-    ∷ answers case16 1
+    ∷ strongestCase (whole 2 (T 1 (w 1 5 ∷ []) ++ T 1 (r 1 0 ∷ []))) 1
+    ∷ strongestCase case16 1
     -- P12 in edition 2, overlapping, and with an unanswered commit in place of the first
-    ∷ answers (overlapping 3 (opens 1 ∷ opens 2 ∷ opens 3 ∷ rOf 3 2 7 ∷ rOf 2 1 5 ∷ wOf 1 1 5 ∷ wOf 2 2 7 ∷ rOf 3 1 0 ∷ closesOf 3 1 ∷ closesOf 2 1 ∷ closesOf 1 1 ∷ [])) 2
-    ∷ answers (whole 3 (U 1 (w 1 5 ∷ []) ++ T 2 (r 1 5 ∷ w 2 7 ∷ []) ++ T 3 (r 2 7 ∷ r 1 0 ∷ []))) 2
+    ∷ strongestCase (overlapping 3 (opens 1 ∷ opens 2 ∷ opens 3 ∷ rOf 3 2 7 ∷ rOf 2 1 5 ∷ wOf 1 1 5 ∷ wOf 2 2 7 ∷ rOf 3 1 0 ∷ closesOf 3 1 ∷ closesOf 2 1 ∷ closesOf 1 1 ∷ [])) 2
+    ∷ strongestCase (whole 3 (U 1 (w 1 5 ∷ []) ++ T 2 (r 1 5 ∷ w 2 7 ∷ []) ++ T 3 (r 2 7 ∷ r 1 0 ∷ []))) 2
     -- .. "or on refusal"
-    ∷ answers [] 0
-    ∷ answers (P1 ++ (7 ∷ [])) 0
-    ∷ answers fourNotes 0
+    ∷ strongestCase [] 0
+    ∷ strongestCase (P1 ++ (7 ∷ [])) 0
+    ∷ strongestCase fourNotes 0
     ∷ []
 
 abbrev pub nowStrongest : StrongestCase → StrongestCase
-nowStrongest x = answers (x .bytes) (strongestNo (strongest (x .bytes)))
+nowStrongest x = strongestCase (x .bytes) (strongestNo (strongest (x .bytes)))
 
 pub as-strongest : map nowStrongest strongestTable ≡ strongestTable
 unfolding as-decided

@@ -1,7 +1,8 @@
 #!/usr/bin/env bash
-# Measures the proved programs `stream` and `scribe` against the independent judge and mover, all built for release, on the same full traces in one run:
-# microseconds of processor time a trace, and their ratio. First judging (all three levels, reading and printing included), then a move to the other edition.
-# Usage: compare/measure.sh [REPEATS], after rt check stream scribe.
+# Measures the proved programs `stream` and `scribe`, and the library's second call from C, against the independent judge and mover, all built for release, on
+# the same full traces in one run: microseconds of processor time a trace, and their ratio. First judging (all three levels, reading and printing included),
+# then a move to the other edition, then the strongest level.
+# Usage: compare/measure.sh [REPEATS], after rt check stream scribe ferozhak.
 # The toolchain builds programs for x86-64. On another processor a time under its emulator says nothing, so there the program's own bitcode, as the
 # toolchain hands it to its compiler, is compiled for this processor with the same options and linked with the machine's C library.
 set -euo pipefail
@@ -33,14 +34,31 @@ proved() {
         return
     fi
     rm -f "target/stamp/$1"
-    RATTLE_HOME=$work/kit rt check "$1" >"$work/log" 2>&1 || { tail -n 5 "$work/log" >&2; exit 1; }
-    "$clang" --target="$machine-unknown-linux-gnu" --no-default-config -O3 -fPIE -w -c -x ir "$work/kept.bc" -o "$work/$1.o" 2>/dev/null
+    compile "$1" check
     cc "$work/$1.o" -o "$work/$1"
     echo "$work/$1"
+}
+# the object file of a program or a library for this processor; $2 is what rt makes of it
+compile() {
+    RATTLE_HOME=$work/kit rt "$2" "$1" >"$work/log" 2>&1 || { tail -n 5 "$work/log" >&2; exit 1; }
+    "$clang" --target="$machine-unknown-linux-gnu" --no-default-config -O3 -fPIE -w -c -x ir "$work/kept.bc" -o "$work/$1.o" 2>/dev/null
+}
+# the command that makes the calls from C on this processor
+calling() {
+    if [ "$machine" = x86_64 ]; then
+        examples/build.sh calls >"$work/log" 2>&1 || { tail -n 5 "$work/log" >&2; exit 1; }
+        echo "./run calls"
+        return
+    fi
+    compile ferozhak staticlib
+    cc -O2 -I include compare/calls.c "$work/ferozhak.o" -o "$work/calls" -lpthread
+    # another processor's C library may refuse a stack as small as the one that is usual here
+    echo "$work/calls 262144"
 }
 [ "$machine" = x86_64 ] || keep_bitcode
 stream=$(proved stream)
 scribe=$(proved scribe)
+calls=$(calling)
 target/compare/release/bench --write "$work/traces" >/dev/null
 # the processor seconds of a command
 seconds() { { TIMEFORMAT=%U; time "$@" <"$work/input" >"$work/output"; } 2>&1; }
@@ -74,4 +92,13 @@ item = asked + (65535).to_bytes(2, 'little') + len(bytes_).to_bytes(2, 'little')
 open(sys.argv[3], 'wb').write(item * int(sys.argv[2]))
 PY
     row "$(basename "$trace")" "$scribe" target/compare/release/rustscribe
+done
+printf '%-24s %10s %10s %8s\n' strongest 'proved us' 'Rust us' ratio
+for trace in "$work"/traces/*; do
+    python3 - "$trace" "$repeats" "$work/input" <<'PY'
+import sys
+bytes_ = open(sys.argv[1], 'rb').read()
+open(sys.argv[3], 'wb').write((b's' + len(bytes_).to_bytes(4, 'little') + bytes_) * int(sys.argv[2]))
+PY
+    row "$(basename "$trace")" "$calls" 'target/compare/release/rustjudge --calls'
 done

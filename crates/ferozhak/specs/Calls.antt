@@ -1,29 +1,30 @@
 -- What the functions behind the two calls say of their parts.
 use Prim.Native.Nat.{ℕ}
+use mathlib.Core.Path.{_≡_}
+use mathlib.Core.Bool.{true, false}
 use mathlib.Core.List.{List}
 use lib.Dec.{ltb}
 use Rattle.base.specs.Base.{pick}
-use Rattle.rules.specs.Reading.{Reading, refused, read}
-use Rattle.rules.specs.Outcome.{isAccepted}
 use Rattle.deciding.specs.Deciding.{isAcceptedAt}
-use Rattle.deciding.specs.declared.Decision.{Decision}
-use Rattle.deciding.specs.declared.Decision.the-variants.{Promote, Hold, NoTrace}
 use Rattle.deciding.specs.declared.Strongest.{Strongest}
 use Rattle.deciding.specs.declared.Strongest.the-variants.{NoLevel, ReadCommitted, ReadAtomicity}
+use Rattle.ferozhak.specs.declared.Seen.{Seen}
+use Rattle.ferozhak.specs.declared.Seen.the-variants.{Here, NotHere, Nowhere}
 
 -- a level as the judge takes it, a byte: what does not fit is no level, and neither is 0
 unfoldable pub levelByte : ℕ → ℕ
 levelByte n = pick (ltb n 4) n 0
 
--- what is decided of what was read where no buffer is too short
-unfoldable pub standing : Reading → ℕ → Decision
-standing (refused n p) level = NoTrace
-standing (read h notes) level = pick (isAccepted h level) Promote Hold
+-- what a look at a level says of the trace s: the level accepts it, or does not, or none does
+abbrev pub LookSays : List ℕ → ℕ → Seen → Type 0
+LookSays s level Here = isAcceptedAt s level ≡ true
+LookSays s level NotHere = isAcceptedAt s level ≡ false
+LookSays s level Nowhere = (x : ℕ) → isAcceptedAt s x ≡ false
+
+-- what a refusal with this number shows where no room for lists was lent: 2 to 11 are the trace's own, 12 is an unclean read's, and neither hangs on the level
+unfoldable pub withoutLists : ℕ → Seen
+withoutLists n = pick (ltb n 13) Nowhere NotHere
 
 -- the strongest of levels 2 and 1 that accepts the trace
 abbrev pub belowCausal : List ℕ → Strongest
 belowCausal s = pick (isAcceptedAt s 2) ReadAtomicity (pick (isAcceptedAt s 1) ReadCommitted NoLevel)
-
--- what a refusal with this number says where no room for lists was lent: rows 12 and 13 come "on rejection only"
-unfoldable pub withoutLists : ℕ → Decision
-withoutLists n = pick (ltb n 12) NoTrace Hold

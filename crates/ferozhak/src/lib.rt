@@ -4,10 +4,9 @@ ghost use mathlib.Core.Path.{_≡_};
 ghost use Prim.Native.Nat.{_≤_};
 ghost use lib.ListN.{length};
 ghost use Rattle.base.proofs.Fill.{Appended};
-ghost use Rattle.rules.specs.Reading.{reading};
 ghost use Rattle.rules.specs.Outcome.{reported};
 ghost use Rattle.deciding.specs.Deciding.{decisionNo, decisionOf, wholeCounts, fiveBytes, countBytes, countsPut, decidedAs, decided, strongestNo, isAcceptedAt, strongest};
-ghost use Rattle.ferozhak.specs.Calls.{levelByte, standing, withoutLists, belowCausal};
+ghost use Rattle.ferozhak.specs.Calls.{levelByte, LookSays, withoutLists, belowCausal};
 use deciding::Decision;
 use deciding::Strongest;
 use rules::Answer;
@@ -136,15 +135,15 @@ fn strongest_number(level: Strongest) -> u32
     }
 }
 
-// A trace that level 3 refuses is refused at every level: it is read once.
+// A trace that no level accepts, for its reading or for an unclean read, shows at the first look: it is judged once.
 fn strongest_of(trace: &[u8]) -> Strongest
     ensures { λ r. ⌜ r ≡ strongest (now (trace .entry)) ⌝ }
 {
-    let third = standing(trace, 3);
+    let third = look(trace, 3);
     match third {
-        Decision::Promote => Strongest::Causal,
-        Decision::Hold => below_causal(trace),
-        Decision::NoTrace => Strongest::NoLevel,
+        Seen::Here => Strongest::Causal,
+        Seen::NotHere => below_causal(trace),
+        Seen::Nowhere => Strongest::NoLevel,
     }
 }
 
@@ -165,20 +164,27 @@ fn accepts(trace: &[u8], level: u8) -> bool
     requires { ⌜ (1 ≤ level) × (level ≤ 3) ⌝ }
     ensures { λ r. ⌜ r ≡ isAcceptedAt (now (trace .entry)) level ⌝ }
 {
-    let decision = standing(trace, level);
-    match decision {
-        Decision::Promote => true,
-        Decision::Hold => false,
-        Decision::NoTrace => false,
+    let seen = look(trace, level);
+    match seen {
+        Seen::Here => true,
+        Seen::NotHere => false,
+        Seen::Nowhere => false,
     }
 }
 
-// What the judge decides, lent room for an order and none for lists. That is sound: a trace that is rejected has a finding or a pair, which needs 6 bytes or
-// 4, so its rejection shows as 12 or 13 and never as an acceptance; one that is accepted has an order of at most 128 bytes, so its acceptance never shows as
-// 14; and a trace that cannot be read is refused with 2 to 11, whatever is lent.
-fn standing(trace: &[u8], level: u8) -> Decision
+// Where a trace is accepted, by a look at one level: at this one; not at this one; at none.
+enum Seen {
+    Here,
+    NotHere,
+    Nowhere,
+}
+
+// Judges at one level, with room for an order and none for lists. That is sound: a trace that is rejected has a finding or a pair, which needs 6 bytes or 4,
+// so its rejection shows as 12 or 13 and never as an acceptance; one that is accepted has an order of at most 128 bytes, so its acceptance never shows as 14;
+// and a trace that cannot be read is refused with 2 to 11, whatever is lent.
+fn look(trace: &[u8], level: u8) -> Seen
     requires { ⌜ (1 ≤ level) × (level ≤ 3) ⌝ }
-    ensures { λ r. ⌜ r ≡ standing (reading (now (trace .entry))) level ⌝ }
+    ensures { λ r. ⌜ LookSays (now (trace .entry)) level r ⌝ }
 {
     let mut findings = [0u8; 0];
     let mut pairs = [0u8; 0];
@@ -186,17 +192,17 @@ fn standing(trace: &[u8], level: u8) -> Decision
     let answer = judging::judge(trace, level, &mut findings, &mut pairs, &mut order);
     match answer {
         Answer::Refused(no, _) => without_lists(no),
-        Answer::Rejected(_, _) => Decision::Hold,
-        Answer::Accepted(_) => Decision::Promote,
+        Answer::Rejected(_, _) => Seen::NotHere,
+        Answer::Accepted(_) => Seen::Here,
     }
 }
 
-// A refusal where no room for lists was lent.
-fn without_lists(no: u8) -> Decision
+// What a refusal shows where no room for lists was lent. 12 says that a read is unclean, and so it is at every level.
+fn without_lists(no: u8) -> Seen
     ensures { λ r. ⌜ r ≡ withoutLists no ⌝ }
 {
-    if no < 12 {
-        return Decision::NoTrace;
+    if no < 13 {
+        return Seen::Nowhere;
     }
-    Decision::Hold
+    Seen::NotHere
 }

@@ -1,10 +1,10 @@
 use Prim.Native.Nat.{ℕ, _≤_}
 use native.Mathlib.Omega.{arith}
 use lib.ListN.{length, replicate, length-replicate}
-use Rattle.ferozhak.proofs.Verdicts.{stands-refused, stands-rejected, stands-accepted}
+use Rattle.ferozhak.proofs.Verdicts.{look-refused, look-rejected, look-accepted}
 use borrow.Author.Needs.{needs}
-use Rattle.ferozhak.proofs.standing.Statement.{statement}
-use Rattle.ferozhak.proofs.standing.Tie as tie
+use Rattle.ferozhak.proofs.look.Statement.{statement}
+use Rattle.ferozhak.proofs.look.Tie as tie
 
 -- the order's buffer
 order-room : 128 ≤ length (replicate {A = ℕ} 128 0)
@@ -15,22 +15,22 @@ returns : tie.Need-returns
 returns c =
     let judged = c .before .before .before .before .before .before .before in
     let pre = judged .before .before .before .before .before .pre in
-    stands-refused _ _ _ _ _ (pre .0) (pre .1) order-room _ (judged .judge .ensures) (c .before .before .answer .given .1) (c .without-lists .ensures)
+    look-refused _ _ _ _ _ (pre .0) (pre .1) order-room _ (judged .judge .ensures) (c .before .before .answer .given .1) (c .without-lists .ensures)
 
 returns-2 : tie.Need-returns-2
 returns-2 c =
     let judged = c .before .before .before .before .before in
     let pre = judged .before .before .before .before .before .pre in
-    stands-rejected _ _ _ _ _ (pre .0) (pre .1) order-room _ (judged .judge .ensures) (c .enum-told .given .1)
+    look-rejected _ _ _ _ _ (pre .0) (pre .1) order-room _ (judged .judge .ensures) (c .enum-told .given .1)
 
 returns-3 : tie.Need-returns-3
 returns-3 c =
     let judged = c .before .before .before .before .before in
     let pre = judged .before .before .before .before .before .pre in
-    stands-accepted _ _ _ _ _ (pre .0) (pre .1) order-room _ (judged .judge .ensures) (c .enum-told2 .given .1)
+    look-accepted _ _ _ _ _ (pre .0) (pre .1) order-room _ (judged .judge .ensures) (c .enum-told2 .given .1)
 
-pub standing-spec : {M : Type 1} → statement M
-standing-spec =
+pub look-spec : {M : Type 1} → statement M
+look-spec =
     tie.close
     (tie.spec (λ c. search needs) (λ c. search needs) (λ c. search needs) (λ c κs. search needs) (λ c. search needs) (λ c κs. search needs)
     (λ c. search needs) (λ c. search needs) returns returns-2 returns-3)

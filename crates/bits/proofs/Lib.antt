@@ -1,4 +1,4 @@
 pub mod Words
 pub mod Tables
-pub mod Rounds
+pub mod Passes
 pub mod One

@@ -1,13 +1,11 @@
 -- Two outcomes that a contract admits are the same. A machine word is below 2^64.
 use Prim.Native.Nat.{ℕ, _+_, _*_, _/_, _%_, _^_, _<_}
 use mathlib.Core.Path.{_≡_, sym, _∙_}
-use mathlib.Core.Bool.{Bool, true}
+use mathlib.Core.Bool.{Bool}
 use mathlib.Core.List.{List}
-use mathlib.Core.Logic.{_↔_}
 use native.Mathlib.Omega.{arith}
 use lib.ListN.{getD}
 use lib.Seq.{ext-getD}
-use Rattle.base.proofs.Tests.{same-test}
 use Rattle.bits.specs.Bits.{testBit, bitOf, Holds}
 use Rattle.bits.proofs.Words.{word-one}
 
@@ -23,7 +21,7 @@ word-bit t i k h =
     let m : (64 * (i % 2) + k) % 64 ≡ k = omega arith in
     rw (e, m)
 
--- a relation is held by one table: of `set_bit`, `clear` and `join`, and of the tables that are filled above this crate
+-- a relation is held by one table: of `set_bit`, `clear`, `join` and `close`, and of the tables that are filled above this crate
 pub holds-one : {t u : List ℕ} {f : ℕ → ℕ → Bool} → Holds t f → Holds u f → MachineWords t → MachineWords u → t ≡ u
 holds-one {t} {u} p q ht hu =
     ext-getD 0 t u (p .room ∙ sym (q .room))
@@ -33,11 +31,3 @@ holds-one {t} {u} p q ht hu =
     let x : i / 2 < 128 = omega (arith, p .room) in
     let y : 64 * (i % 2) + k < 128 = omega arith in
     sym (word-bit t i k h) ∙ p .is _ _ x y ∙ sym (q .is _ _ x y) ∙ word-bit u i k h))
-
--- of `close`: the table, and the one beside it
-pub close-one : {t u v w : List ℕ} {f : ℕ → ℕ → Bool} → Holds t f × (v ≡ t) → Holds u f × (w ≡ u) → MachineWords t → MachineWords u → (t ≡ u) × (v ≡ w)
-close-one p q ht hu = let e = holds-one (p .0) (q .0) ht hu in (e, p .1 ∙ e ∙ sym (q .1))
-
--- of `same`
-pub same-one : {t u : List ℕ} (r q : Bool) → (r ≡ true) ↔ (t ≡ u) → (q ≡ true) ↔ (t ≡ u) → r ≡ q
-same-one r q a b = same-test r q (λ e. b .1 (a .0 e)) (λ e. a .1 (b .0 e))

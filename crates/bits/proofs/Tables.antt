@@ -1,9 +1,9 @@
 -- A table's bits: what each store does to them, and the laws of loops that rewrite a table word by word or fill it row by row.
 use Prim.Native.Nat.{ℕ, _+_, _*_, _/_, _%_, _^_, _<_, _≤_}
 use mathlib.Core.Path.{_≡_, refl, sym, ap, _∙_}
-use mathlib.Core.Bool.{Bool, true, false, false≢true}
+use mathlib.Core.Bool.{Bool, true, false}
 use mathlib.Core.List.{List}
-use mathlib.Core.Logic.{⊎-elim, _↔_}
+use mathlib.Core.Logic.{⊎-elim}
 use native.Mathlib.Omega.{arith}
 use native.Mathlib.Nat.{mod-lt}
 use lib.Bits.{bitOr}
@@ -13,7 +13,7 @@ use lib.Seq.{getD-set-same, getD-set-other, ext-getD}
 use borrow.Author.Tests.{eqb-true, eqb-false, eq-eqb, ne-eqb}
 use Rattle.base.specs.Base.{_and_, _or_}
 use Rattle.base.proofs.Tests.{ifso, split, same-test, both, and-left, and-right, and-on, and-no-left, and-no-right, or-on, or-off, or-assoc, same-eqb}
-use Rattle.bits.specs.Bits.{testBit, bitOf, Holds, nothing, either, plusBit, plusRow}
+use Rattle.bits.specs.Bits.{testBit, bitOf, Holds, nothing, either, plusBit, plusRow, rowOf}
 use Rattle.bits.proofs.Words.{testBit-zero, testBit-or, testBit-one}
 
 -- ── what a table holds ──
@@ -86,25 +86,6 @@ module _ {o b : List ℕ} {i : ℕ} (room : length o ≡ 256) (whole : 256 ≤ i
   joined t r =
       record { room = r .room ∙ room; is = λ x y hx hy. rw (r .done (2 * x + y / 64) (omega arith)) (testBit-or _ _ (y % 64)) }
 
--- ── words compared one after the other ──
-
--- a loop that has come to word i: those before it are the same
-pub record Alike (t u : List ℕ) (i : ℕ) : Type 0 where
-  pub words : (k : ℕ) → k < i → getD t k 0 ≡ getD u k 0
-
-module _ {t u : List ℕ} where
-  pub alike-start : Alike t u 0
-  alike-start = record { words = λ k l. absurd (omega arith) }
-
-  pub alike-step : (i : ℕ) → Alike t u i → getD t i 0 ≡ getD u i 0 → Alike t u (i + 1)
-  alike-step i h e = record { words = λ k l. ⊎-elim (λ m. h .words k m) (λ m. let q : k ≡ i = omega arith in rw q e) (split k i) }
-
-  pub alike-end : (i : ℕ) → length t ≡ 256 → length u ≡ 256 → 256 ≤ i → Alike t u i → (true ≡ true) ↔ (t ≡ u)
-  alike-end i p q l h = (λ _. ext-getD 0 t u (p ∙ sym q) (λ k m. h .words k (omega arith)), λ _. refl)
-
-  pub unlike : (i : ℕ) → (getD t i 0 ≡ getD u i 0 → ⊥) → (false ≡ true) ↔ (t ≡ u)
-  unlike i d = (λ e. absurd (false≢true e), λ e. absurd (d (ap (λ (v : List ℕ). getD v i 0) e)))
-
 -- ── single stores ──
 
 -- word i gets the bits of m too
@@ -149,43 +130,47 @@ bit-set t a b h ha hb =
     }
 
 -- a row's bits are those of its two words
-row-word : (u : List ℕ) (a b x y : ℕ) → y < 128
-    → (eqb (2 * x + y / 64) (2 * a) and testBit (getD u (2 * b) 0) (y % 64)) or (eqb (2 * x + y / 64) (2 * a + 1) and testBit (getD u (2 * b + 1) 0) (y % 64))
-    ≡ eqb x a and bitOf u b y
-unfolding bitOf
-row-word u a b x y hy =
+module _ (p q y : ℕ) where
+  row-low : y < 64 → rowOf p q y ≡ testBit p (y % 64)
+  unfolding rowOf bitOf
+  row-low l = let e : 2 * 0 + y / 64 ≡ 0 = omega arith in rw e
+
+  row-high : 64 ≤ y → y < 128 → rowOf p q y ≡ testBit q (y % 64)
+  unfolding rowOf bitOf
+  row-high l h = let e : 2 * 0 + y / 64 ≡ 1 = omega arith in rw e
+
+row-word : (p q a x y : ℕ) → y < 128
+    → (eqb (2 * x + y / 64) (2 * a) and testBit p (y % 64)) or (eqb (2 * x + y / 64) (2 * a + 1) and testBit q (y % 64)) ≡ eqb x a and rowOf p q y
+row-word p q a x y hy =
     ⊎-elim
     (λ l.
-    let e : eqb (2 * x + y / 64) (2 * a) ≡ eqb x a = same-eqb (2 * x + y / 64) (2 * a) x a (λ q. omega arith) (λ q. omega arith) in
-    let r : 2 * b + y / 64 ≡ 2 * b = omega arith in
-    rw (e, r) (or-off _ _ (and-no-left _ _ (ne-eqb (2 * x + y / 64) (2 * a + 1) (λ q. omega arith)))))
+    let e : eqb (2 * x + y / 64) (2 * a) ≡ eqb x a = same-eqb (2 * x + y / 64) (2 * a) x a (λ e. omega arith) (λ e. omega arith) in
+    rw (e, row-low p q y l) (or-off _ _ (and-no-left _ _ (ne-eqb (2 * x + y / 64) (2 * a + 1) (λ e. omega arith)))))
     (λ l.
-    let e : eqb (2 * x + y / 64) (2 * a + 1) ≡ eqb x a = same-eqb (2 * x + y / 64) (2 * a + 1) x a (λ q. omega arith) (λ q. omega arith) in
-    let r : 2 * b + y / 64 ≡ 2 * b + 1 = omega arith in
-    rw (e, r) (or-on _ _ (and-no-left _ _ (ne-eqb (2 * x + y / 64) (2 * a) (λ q. omega arith)))))
+    let e : eqb (2 * x + y / 64) (2 * a + 1) ≡ eqb x a = same-eqb (2 * x + y / 64) (2 * a + 1) x a (λ e. omega arith) (λ e. omega arith) in
+    rw (e, row-high p q y l hy) (or-on _ _ (and-no-left _ _ (ne-eqb (2 * x + y / 64) (2 * a) (λ e. omega arith)))))
     (split y 64)
 
--- row a gets row b of u too
-pub row-joined : (t u : List ℕ) (a b : ℕ) → length t ≡ 256 → a < 128
-    → Holds (set (set t (2 * a) (bitOr (getD t (2 * a) 0) (getD u (2 * b) 0))) (2 * a + 1) (bitOr (getD t (2 * a + 1) 0) (getD u (2 * b + 1) 0)))
-    (plusRow (bitOf t) a (bitOf u b))
+-- row a gets the bits of the words p and q too
+pub row-joined : (t : List ℕ) (a p q : ℕ) → length t ≡ 256 → a < 128
+    → let u = set t (2 * a) (bitOr (getD t (2 * a) 0) p) in Holds (set u (2 * a + 1) (bitOr (getD u (2 * a + 1) 0) q)) (plusRow (bitOf t) a (rowOf p q))
 unfolding plusRow
-row-joined t u a b h ha = record { room = simp length-set h; is = λ x y hx hy. whole x y hy }
-  where
-    first : List ℕ
-    first = set t (2 * a) (bitOr (getD t (2 * a) 0) (getD u (2 * b) 0))
+row-joined t a p q h ha =
+    let u = set t (2 * a) (bitOr (getD t (2 * a) 0) p) in
+    record {
+      room = simp length-set h;
+      is =
+          λ x y hx hy.
+          or-word u (2 * a + 1) q (omega (arith, length-set t (2 * a) (bitOr (getD t (2 * a) 0) p))) x y
+          ∙ rw (or-word t (2 * a) p (omega arith) x y) (or-assoc _ _ _ ∙ ap (λ (v : Bool). bitOf t x y or v) (row-word p q a x y hy));
+    }
 
-    second : (x y : ℕ) → bitOf (set first (2 * a + 1) (bitOr (getD t (2 * a + 1) 0) (getD u (2 * b + 1) 0))) x y
-        ≡ (bitOf t x y or (eqb (2 * x + y / 64) (2 * a) and testBit (getD u (2 * b) 0) (y % 64)))
-        or (eqb (2 * x + y / 64) (2 * a + 1) and testBit (getD u (2 * b + 1) 0) (y % 64))
-    second x y =
-        rw (← (getD-set-other t (2 * a) (2 * a + 1) (bitOr (getD t (2 * a) 0) (getD u (2 * b) 0)) 0 (λ e. omega arith)))
-        (or-word first (2 * a + 1) (getD u (2 * b + 1) 0) (omega (arith, length-set t (2 * a) (bitOr (getD t (2 * a) 0) (getD u (2 * b) 0)))) x y
-        ∙ rw (or-word t (2 * a) (getD u (2 * b) 0) (omega arith) x y))
-
-    whole : (x y : ℕ) → y < 128 → bitOf (set first (2 * a + 1) (bitOr (getD t (2 * a + 1) 0) (getD u (2 * b + 1) 0))) x y
-        ≡ bitOf t x y or (eqb x a and bitOf u b y)
-    whole x y hy = second x y ∙ or-assoc _ _ _ ∙ ap (λ (v : Bool). bitOf t x y or v) (row-word u a b x y hy)
+-- a table's row, by its words
+pub row-own : (t : List ℕ) (a y : ℕ) → y < 128 → rowOf (getD t (2 * a) 0) (getD t (2 * a + 1) 0) y ≡ bitOf t a y
+unfolding bitOf
+row-own t a y hy =
+    ⊎-elim (λ l. let e : 2 * a + y / 64 ≡ 2 * a = omega arith in rw e (row-low _ _ y l))
+    (λ l. let e : 2 * a + y / 64 ≡ 2 * a + 1 = omega arith in rw e (row-high _ _ y l hy)) (split y 64)
 
 -- ── rows ──
 

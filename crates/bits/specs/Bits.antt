@@ -1,8 +1,8 @@
 -- A table of bits: 128 rows of two words of 64 bits.
-use Prim.Native.Nat.{ℕ, zero, suc, _+_, _*_, _/_, _%_, _^_, _≤_, _<_}
+use Prim.Native.Nat.{ℕ, _+_, _*_, _/_, _%_, _^_, _≤_, _<_}
 use mathlib.Core.Path.{_≡_}
 use mathlib.Core.Bool.{Bool, true, false}
-use mathlib.Core.List.{List}
+use mathlib.Core.List.{List, [], _∷_}
 use lib.Dec.{eqb}
 use lib.ListN.{length, getD}
 use Rattle.base.specs.Base.{_and_, _or_}
@@ -36,19 +36,17 @@ plusBit E a b x y = E x y or (eqb x a and eqb y b)
 unfoldable pub plusRow : (ℕ → ℕ → Bool) → ℕ → (ℕ → Bool) → ℕ → ℕ → Bool
 plusRow E a r x y = E x y or (eqb x a and r y)
 
--- W leads from x to b, and E from b to y
-unfoldable pub through : (ℕ → ℕ → Bool) → (ℕ → ℕ → Bool) → ℕ → ℕ → ℕ → Bool
-through W E x b y = W x b and E b y
+-- the bits of a row whose words are p and q
+unfoldable pub rowOf : ℕ → ℕ → ℕ → Bool
+rowOf p q = bitOf (p ∷ q ∷ []) 0
 
--- row a of E gets the rows of the numbers below n that W leads to from a, one after the other, as far as they have grown
-unfoldable pub ledRow : (ℕ → ℕ → Bool) → ℕ → ℕ → (ℕ → ℕ → Bool) → ℕ → ℕ → Bool
-ledRow W a zero E = E
-ledRow W a (suc n) E = plusRow (ledRow W a n E) a (through W (ledRow W a n E) a n)
+-- r, where E leads from a to k
+unfoldable pub whereLed : (ℕ → ℕ → Bool) → ℕ → ℕ → (ℕ → Bool) → ℕ → Bool
+whereLed E a k r y = E a k and r y
 
--- .. each of the first m rows, in ascending order
-unfoldable pub ledRows : (ℕ → ℕ → Bool) → ℕ → ℕ → (ℕ → ℕ → Bool) → ℕ → ℕ → Bool
-ledRows W n zero E = E
-ledRows W n (suc m) E = ledRow W m n (ledRows W n m E)
+-- E, and what it leads to by way of k
+unfoldable pub onceMore : (ℕ → ℕ → Bool) → ℕ → ℕ → ℕ → Bool
+onceMore E k x y = E x y or (E x k and E k y)
 
 -- a table whose pairs are all of numbers below n
 pub record Under (n : ℕ) (t : List ℕ) : Type 0 where

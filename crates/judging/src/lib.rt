@@ -1,7 +1,6 @@
 // The judge: a trace, a level and three lent buffers in; the answer out, and the buffers as the definition's outcome says.
 ghost use mathlib.Core.Path.{_≡_};
 ghost use Prim.Native.Nat.{ℕ, _+_, _≤_, _<_};
-ghost use lib.ListN.{take};
 ghost use Rattle.theory.specs.Leads.{via};
 ghost use Rattle.rules.specs.History.{size, committed};
 ghost use Rattle.rules.specs.Levels.{basic, isRival, forced};
@@ -132,65 +131,49 @@ fn decide(
 }
 
 // ── what a level forces ──
-// Row b of a table has the bits of what stands before b. w: scratch
+// Row b of a table has the bits of what stands before b.
 
 // s gets what leads to what through the pairs of f.
-fn lead(f: &[u64; 256], s: &mut [u64; 256], w: &mut [u64; 256], n: usize)
+fn lead(f: &[u64; 256], s: &mut [u64; 256], n: usize)
     requires { ⌜ Under n (now f) ⌝ }
-    ensures { λ r. ⌜ Holds (now (s .exit)) (via (bitOf (now (f .entry))) n) × (now (w .exit) ≡ now (s .exit)) ⌝ }
+    ensures { λ r. ⌜ Holds (now (s .exit)) (via (bitOf (now (f .entry))) n) ⌝ }
 {
     bits::copy(f, s);
-    bits::close(s, w, n);
+    bits::close(s, n);
 }
 
 // f: basic pairs; s gets what the search for rivals goes by. Levels 1 and 2 ask for one of them: "an earlier clean external read in t3, of any key, came
 // from t2", or "(t2, t3) is a basic pair". Level 3: "t2 leads to t3 through one or more basic pairs".
-fn know(level: u8, f: &[u64; 256], s: &mut [u64; 256], w: &mut [u64; 256], n: usize)
+fn know(level: u8, f: &[u64; 256], s: &mut [u64; 256], n: usize)
     requires { ⌜ Under n (now f) ⌝ }
     ensures { λ r. ⌜ Known level n (now (f .entry)) (now (s .exit)) ⌝ }
 {
     if level == 3 {
-        lead(f, s, w, n);
+        lead(f, s, n);
     } else {
         bits::copy(f, s);
     }
 }
 
 // f: basic pairs; v gets the pairs that "the level adds". s: what the search goes by
-fn oppose(
-    h: &[u64],
-    k: &[u8],
-    level: u8,
-    f: &[u64; 256],
-    s: &mut [u64; 256],
-    v: &mut [u64; 256],
-    w: &mut [u64; 256],
-)
+fn oppose(h: &[u64], k: &[u8], level: u8, f: &[u64; 256], s: &mut [u64; 256], v: &mut [u64; 256])
     requires { ⌜ AtLevel (now h) (now k) level × Holds (now f) (before (basic (historyOf (now h)))) ⌝ }
     ensures { λ r. ⌜ Holds (now (v .exit)) (before (isRival (historyOf (now (h .entry))) level)) ⌝ }
 {
-    know(level, f, s, w, table::txs(h) + 1);
+    know(level, f, s, table::txs(h) + 1);
     rivals::fill_rivals(h, k, s, v, level);
 }
 
 // f: forced pairs; v: rivals; s: what leads to what through forced pairs
-fn force(
-    h: &[u64],
-    k: &[u8],
-    level: u8,
-    f: &mut [u64; 256],
-    s: &mut [u64; 256],
-    v: &mut [u64; 256],
-    w: &mut [u64; 256],
-)
+fn force(h: &[u64], k: &[u8], level: u8, f: &mut [u64; 256], s: &mut [u64; 256], v: &mut [u64; 256])
     requires { ⌜ AtLevel (now h) (now k) level ⌝ }
-    ensures { λ r. ⌜ Judging (now (h .entry)) (now (k .entry)) (now (f .exit)) (now (s .exit)) (now (v .exit)) level × (now (w .exit) ≡ now (s .exit)) ⌝ }
+    ensures { λ r. ⌜ Judging (now (h .entry)) (now (k .entry)) (now (f .exit)) (now (s .exit)) (now (v .exit)) level ⌝ }
 {
     let n = table::txs(h) + 1;
     pairs::fill_basic(h, k, f);
-    oppose(h, k, level, f, s, v, w);
+    oppose(h, k, level, f, s, v);
     bits::join(v, f);
-    lead(f, s, w, n);
+    lead(f, s, n);
 }
 
 // ── the call ──
@@ -211,8 +194,7 @@ fn judge_history(
     let mut f = [0u64; 256];
     let mut s = [0u64; 256];
     let mut v = [0u64; 256];
-    let mut w = [0u64; 256];
-    force(h, &k, level, &mut f, &mut s, &mut v, &mut w);
+    force(h, &k, level, &mut f, &mut s, &mut v);
     decide(h, &k, &f, &s, &v, findings, pairs, order)
 }
 

@@ -6,13 +6,13 @@ use Rattle.judging.proofs.judge_history.Tie as tie
 decide-requires : tie.Need-decide-requires
 decide-requires c κs =
     let f = c .before .before .before .before .before .before .before in
-    decidable (f .force .ensures .0)
+    decidable (f .force .ensures)
 
 returns : tie.Need-returns
 returns c =
     let d = c .before .before .before .before .before .before in
     let f = d .before .before .before .before .before .before .before .before in
-    d .decide .ensures _ (f .force .ensures .0)
+    d .decide .ensures _ (f .force .ensures)
 
 pub judge-history-spec : {M : Type 1} → statement M
 judge-history-spec =

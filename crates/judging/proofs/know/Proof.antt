@@ -4,8 +4,8 @@ use Rattle.judging.proofs.know.Tie as tie
 
 returns : tie.Need-returns
 returns c =
-    let i = c .before .before .before in
-    record { closed = λ _. c .lead .ensures .0; same = λ n. absurd (n (i .if1 .taken)) }
+    let i = c .before .before in
+    record { closed = λ _. c .lead .ensures; same = λ n. absurd (n (i .if1 .taken)) }
 
 returns-2 : tie.Need-returns-2
 returns-2 c =

@@ -4,14 +4,14 @@ use Rattle.judging.proofs.lead.Tie as tie
 
 close-requires : tie.Need-close-requires
 close-requires c κs =
-    let co = c .before .before in
+    let co = c .before in
     let s = co .before .before .before in
-    (rw (co .copy .ensures) (s .pre), search needs)
+    rw (co .copy .ensures) (s .pre)
 
 returns : tie.Need-returns
 returns c =
-    let co = c .before .before .before in
-    (rw (co .copy .ensures) at (c .close .ensures .0), c .close .ensures .1)
+    let co = c .before .before in
+    rw (co .copy .ensures) at (c .close .ensures)
 
 pub lead-spec : {M : Type 1} → statement M
 lead-spec =

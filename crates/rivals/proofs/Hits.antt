@@ -19,6 +19,8 @@ use Rattle.table.proofs.Chain.{OnChain, on-last, chain-prev, sought-prev}
 use Rattle.bits.specs.Bits.{bitOf}
 use Rattle.pairs.specs.Pairs.{Ready}
 use Rattle.pairs.proofs.Pairs.{byte-clean, byte-other, byte-origin}
+use Rattle.keys.specs.Keys.{hasKey, Writes}
+use Rattle.keys.proofs.Keys.{no-key}
 use Rattle.rivals.specs.Rivals.{isAbove, canRival, fits, isTried, isHit, isHitOf, standsFor, writesFor, triesFrom}
 
 -- ── one operation of t2 ──
@@ -80,19 +82,24 @@ module _ {h k : List ℕ} {i : ℕ} (p : Ready h k) (o : HasOp h i) (v : List �
       let s = byte-origin p o l in
       rw (s, e) (both _ _ (both _ _ (byte-clean p o l) (ap not (ne-eqb (getD k i 0 - 8) t2 (λ q. n (omega arith))))) refl)
 
-module _ (h : History) (v : List ℕ) (t2 i : ℕ) where
+module _ (h : History) (v : List ℕ) (x t2 i : ℕ) where
   -- where its look starts
-  pub from-nowhere : isTried h v t2 i ≡ false → triesFrom h v t2 i ≡ 0
+  pub from-untried : isTried h v t2 i ≡ false → triesFrom h v x t2 i ≡ 0
   unfolding triesFrom
-  from-nowhere e = pick-off _ _ _ e
+  from-untried e = pick-off _ _ _ (and-no-left _ _ e)
 
-  pub from-read : isTried h v t2 i ≡ true → t2 ≡ 0 → triesFrom h v t2 i ≡ i
+  pub from-lacking : hasKey x (op h i .key) ≡ false → triesFrom h v x t2 i ≡ 0
   unfolding triesFrom
-  from-read e z = pick-on _ _ _ e ∙ pick-on _ _ _ (eq-eqb t2 0 z)
+  from-lacking e = pick-off _ _ _ (and-no-right _ _ e)
 
-  pub from-last : isTried h v t2 i ≡ true → (t2 ≡ 0 → ⊥) → triesFrom h v t2 i ≡ lastOf h t2
-  unfolding triesFrom
-  from-last e z = pick-on _ _ _ e ∙ pick-off _ _ _ (ne-eqb t2 0 z)
+  module _ (e : isTried h v t2 i ≡ true) (k : hasKey x (op h i .key) ≡ true) where
+    pub from-read : t2 ≡ 0 → triesFrom h v x t2 i ≡ i
+    unfolding triesFrom
+    from-read z = pick-on _ _ _ (both _ _ e k) ∙ pick-on _ _ _ (eq-eqb t2 0 z)
+
+    pub from-last : (t2 ≡ 0 → ⊥) → triesFrom h v x t2 i ≡ lastOf h t2
+    unfolding triesFrom
+    from-last z = pick-on _ _ _ (both _ _ e k) ∙ pick-off _ _ _ (ne-eqb t2 0 z)
 
 -- whether read i is a hit is settled by t2's operations up to w
 pub record Tries (h : History) (v : List ℕ) (t2 i w : ℕ) : Type 0 where
@@ -101,9 +108,16 @@ pub record Tries (h : History) (v : List ℕ) (t2 i w : ℕ) : Type 0 where
   pub whole : isHit h v t2 i ≡ some 1 (w + 1) (writesFor h t2 (op h i .key))
 
 module _ (h : History) (v : List ℕ) (t2 i : ℕ) where
-  tries-none : isTried h v t2 i ≡ false → Tries h v t2 i 0
+  tries-none : isHit h v t2 i ≡ false → Tries h v t2 i 0
+  tries-none e = record { to = omega arith; stands = λ l. absurd (omega arith); whole = e ∙ sym (some-end _ 1 (0 + 1) (omega arith)) }
+
+  hit-untried : isTried h v t2 i ≡ false → isHit h v t2 i ≡ false
   unfolding isHit
-  tries-none e = record { to = omega arith; stands = λ l. absurd (omega arith); whole = and-no-left _ _ e ∙ sym (some-end _ 1 (0 + 1) (omega arith)) }
+  hit-untried e = and-no-left _ _ e
+
+  hit-lacking : {x : ℕ} → Writes h t2 x → hasKey x (op h i .key) ≡ false → isHit h v t2 i ≡ false
+  unfolding isHit
+  hit-lacking p e = and-no-right _ _ (no-key (op h i .key) p e)
 
   module _ (t : isTried h v t2 i ≡ true) where
     hit-key : isHit h v t2 i ≡ writesKey h t2 (op h i .key)
@@ -129,14 +143,17 @@ module _ (h : History) (v : List ℕ) (t2 i : ℕ) where
               ∙ to-last h t2 (op h i .key) z (opCount h + 1);
         }
 
-  pub tries-start : {w : ℕ} → 1 ≤ i → i ≤ opCount h → w ≡ triesFrom h v t2 i → Tries h v t2 i w
-  tries-start a b e =
+  pub tries-start : {x w : ℕ} → Writes h t2 x → 1 ≤ i → i ≤ opCount h → w ≡ triesFrom h v x t2 i → Tries h v t2 i w
+  tries-start {x} p a b e =
       rw e
       (ifso (isTried h v t2 i)
       (λ t.
-      ifso (eqb t2 0) (λ q. let z = eqb-true t2 0 q in rw (from-read h v t2 i t z) (tries-read t z a b))
-      (λ q. let z = eqb-false t2 0 q in rw (from-last h v t2 i t z) (tries-last t z)))
-      (λ t. rw (from-nowhere h v t2 i t) (tries-none t)))
+      ifso (hasKey x (op h i .key))
+      (λ k.
+      ifso (eqb t2 0) (λ q. let z = eqb-true t2 0 q in rw (from-read h v x t2 i t k z) (tries-read t z a b))
+      (λ q. let z = eqb-false t2 0 q in rw (from-last h v x t2 i t k z) (tries-last t z)))
+      (λ k. rw (from-lacking h v x t2 i k) (tries-none (hit-lacking p k))))
+      (λ t. rw (from-untried h v x t2 i t) (tries-none (hit-untried t))))
 
   module _ {w : ℕ} (t : Tries h v t2 i w) where
     -- past an operation that does not write the key; at one that does; at the end

@@ -3,10 +3,10 @@ use Prim.Native.Nat.{ℕ, _+_, _<_, _≤_}
 use mathlib.Core.Path.{_≡_, refl, sym, ap, _∙_}
 use mathlib.Core.Bool.{Bool, true, false, not}
 use mathlib.Core.List.{List}
-use mathlib.Core.Logic.{_⊎_, ⊎-elim}
+use mathlib.Core.Logic.{⊎-elim}
 use native.Mathlib.Omega.{arith}
 use lib.Dec.{ltb}
-use borrow.Author.Tests.{eqb-true, eqb-false, eq-eqb, ne-eqb}
+use borrow.Author.Tests.{eqb-true, eqb-false, eq-eqb, ne-eqb, le-ltb}
 use Rattle.base.specs.Base.{_and_, _or_, last}
 use Rattle.base.proofs.Tests.{clash, is-false, same-test, both, and-left, and-right, and-no-left, or-cases, or-on, or-off, not-true}
 use Rattle.base.proofs.Searches.{Passing, some-at, some-of, some-same, some-none}
@@ -24,9 +24,11 @@ use Rattle.bits.proofs.Tables.{holds-same}
 use Rattle.pairs.specs.Pairs.{before, cell, across}
 use Rattle.pairs.proofs.Marking.{cell-is, cell-has, Marking, mark-chain, mark-down}
 use Rattle.pairs.proofs.Pairs.{basic-under, before-under, before-via}
-use Rattle.rivals.specs.Rivals.{seenFrom, isAbove, canRival, fits, isHitOf, hitBit, hitBits, settlesIn, rivalBit, rivalBits, rivalsOf, rivals}
+use Rattle.keys.specs.Keys.{Apart, Writes, Readers}
+use Rattle.keys.proofs.Keys.{apart-reads}
+use Rattle.rivals.specs.Rivals.{pairsFor, seenFrom, isAbove, canRival, fits, isHitOf, hitBit, hitBits, settlesIn, rivalBit, rivalBits, rivalsOf, rivals}
 use Rattle.rivals.proofs.Hits.{hit-tx, hit-external, hit-fits, fits-hit, last-hit-of}
-use Rattle.rivals.proofs.Seen.{sees-above}
+use Rattle.rivals.proofs.Seen.{from-none, sees-above}
 
 -- ── hits, marked from the last down ──
 
@@ -113,15 +115,40 @@ module _ (h : History) (level t2 t1 i : ℕ) where
       let c = both _ _ b (ap not (ne-eqb _ _ (s .not-reader))) in
       both _ _ (both _ _ c (s .key)) (s .seen)
 
+-- t2 is no rival by a read of t3's
+pub record NoRival (h : History) (level t2 t3 : ℕ) : Type 0 where
+  pub none : (i : ℕ) → 1 ≤ i → i ≤ opCount h → settlesIn h level t3 t2 i ≡ false
+
 module _ (h : History) (level t2 t3 : ℕ) where
-  -- neither t3 itself nor an aborted one is a rival
-  pub settles-not : (t2 ≡ t3) ⊎ (committed h t2 ≡ false) → (i : ℕ) → settlesIn h level t3 t2 i ≡ false
+  settled-in : (i : ℕ) → settlesIn h level t3 t2 i ≡ true → (committed h t2 ≡ true) × (op h i .tx ≡ t3) × Settled h level t2 (sourceOf h i) i
   unfolding settlesIn
-  settles-not n i =
-      is-false _
-      (λ e.
-      ⊎-elim (λ q. settled h level t2 _ i (and-right _ _ e) .not-reader (q ∙ sym (eqb-true _ _ (and-right _ _ (and-left _ _ e)))))
-      (λ c. clash (and-left _ _ (and-left _ _ e)) c) n)
+  settled-in i e =
+      (and-left _ _ (and-left _ _ e), eqb-true _ _ (and-right _ _ (and-left _ _ e)), settled h level t2 (sourceOf h i) i (and-right _ _ e))
+
+  -- no read of t3's settles a pair for t3 itself, for an aborted one, for one that the level's pairs lack before t3, or for one with other keys
+  pub not-itself : t2 ≡ t3 → NoRival h level t2 t3
+  not-itself q = record { none = λ i a b. is-false _ (λ e. let s = settled-in i e in s .2 .not-reader (q ∙ sym (s .1))) }
+
+  pub not-aborted : committed h t2 ≡ false → NoRival h level t2 t3
+  not-aborted c = record { none = λ i a b. is-false _ (λ e. clash (settled-in i e .0) c) }
+
+  pub not-told : 1 ≤ level → level ≤ 3 → pairsFor h level t2 t3 ≡ false → NoRival h level t2 t3
+  not-told from to k =
+      record {
+        none =
+            λ i a b.
+            is-false _
+            (λ e.
+            let s = settled-in i e in
+            clash (ap (λ (u : ℕ). sees h level t2 u i) (sym (s .1)) ∙ s .2 .seen)
+            (sym (sees-above h t2 t3 level from to i a b) ∙ ap (λ (r : ℕ). ltb r i) (from-none h t2 t3 level k) ∙ le-ltb (opCount h) i b));
+      }
+
+  pub not-met : {u r : ℕ} → Writes h t2 u → Readers h t3 0 r → Apart u r → NoRival h level t2 t3
+  not-met p q n =
+      record {
+        none = λ i a b. is-false _ (λ e. let s = settled-in i e in clash (s .2 .key) (apart-reads p q n i a b (s .1) (s .2 .external)));
+      }
 
   fits-settles : (t2 ≡ t3 → ⊥) → committed h t2 ≡ true → (i : ℕ) → ltb (seenFrom h level t2 t3) i ≡ sees h level t2 t3 i
       → isAbove h t3 (seenFrom h level t2 t3) i and fits h t2 i ≡ settlesIn h level t3 t2 i
@@ -148,13 +175,12 @@ module _ (h : History) (level t2 t3 : ℕ) where
       (both _ _ (both _ _ (q .external) (ap not (ne-eqb _ _ (λ z. q .not-source (sym z))))) (q .key)))
 
   -- so what was marked is right: nothing, or the hits
-  pub rival-none : {v : List ℕ} (E : ℕ → ℕ → Bool) → (t2 ≡ t3) ⊎ (committed h t2 ≡ false) → Holds v E
-      → Holds v (either E (rivalBits h level t3 t2))
+  pub rival-none : {v : List ℕ} (E : ℕ → ℕ → Bool) → NoRival h level t2 t3 → Holds v E → Holds v (either E (rivalBits h level t3 t2))
   unfolding either rivalBits rivalBit across cell
   rival-none E n k =
       holds-same k
       (λ x y hx hy.
-      sym (or-off _ _ (some-none (λ i. rivalBit h level t3 t2 i x y) (opCount h + 1) 1 (λ i _ _. and-no-left _ _ (settles-not n i)))))
+      sym (or-off _ _ (some-none (λ i. rivalBit h level t3 t2 i x y) (opCount h + 1) 1 (λ i a b. and-no-left _ _ (n .none i a (omega arith))))))
 
   pub rival-hits : {v : List ℕ} {r : ℕ} (E : ℕ → ℕ → Bool) → 1 ≤ level → level ≤ 3 → (t2 ≡ t3 → ⊥) → committed h t2 ≡ true
       → r ≡ seenFrom h level t2 t3 → Holds v (either E (hitBits h t2 t3 r)) → Holds v (either E (rivalBits h level t3 t2))

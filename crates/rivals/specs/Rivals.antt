@@ -10,6 +10,7 @@ use Rattle.rules.specs.Levels.{basic, leads, writesKey, settles}
 use Rattle.table.specs.Table.{historyOf, ofTx, lastOf}
 use Rattle.bits.specs.Bits.{bitOf, Holds}
 use Rattle.pairs.specs.Pairs.{Ready, before, cell, across}
+use Rattle.keys.specs.Keys.{hasKey}
 
 -- the pairs that the search goes by: basic pairs at levels 1 and 2, what leads to what at level 3
 unfoldable pub pairsFor : History → ℕ → ℕ → ℕ → Bool
@@ -68,9 +69,10 @@ standsFor h t2 w = eqb t2 0 or ofTx h t2 w
 unfoldable pub writesFor : History → ℕ → ℕ → ℕ → Bool
 writesFor h t2 x w = eqb t2 0 or writesAt h t2 x w
 
--- where the look through t2's operations starts: at the last one, for 0 at the read itself; 0, nowhere, for a read that is not tried
-unfoldable pub triesFrom : History → List ℕ → ℕ → ℕ → ℕ
-triesFrom h v t2 i = pick (isTried h v t2 i) (pick (eqb t2 0) i (lastOf h t2)) 0
+-- where the look through t2's operations starts: at the last one, for 0 at the read itself; 0, nowhere, for a read that is not tried, or whose key's bit
+-- the word x of t2's keys lacks
+unfoldable pub triesFrom : History → List ℕ → ℕ → ℕ → ℕ → ℕ
+triesFrom h v x t2 i = pick (isTried h v t2 i and hasKey x (op h i .key)) (pick (eqb t2 0) i (lastOf h t2)) 0
 
 -- ── what is marked: row t1 gets the bit t2 ──
 

@@ -6,13 +6,14 @@ ghost use Prim.Native.Nat.{_+_, _≤_, _<_};
 ghost use lib.ListN.{length, getD};
 ghost use lib.Dec.{eqb};
 ghost use Rattle.base.specs.Base.{pick, last};
-ghost use Rattle.rules.specs.History.{op, txCount};
+ghost use Rattle.rules.specs.History.{op, txCount, opCount};
 ghost use Rattle.rules.specs.Levels.{isRival};
 ghost use Rattle.table.specs.Table.{historyOf, HasTx, HasOp};
 ghost use Rattle.table.proofs.Chain.{OnChain};
 ghost use Rattle.bits.specs.Bits.{bitOf, Holds, either};
 ghost use Rattle.pairs.specs.Pairs.{Ready, before};
-ghost use Rattle.rivals.specs.Rivals.{Told, firstFrom, seenFrom, standsFor, writesFor, triesFrom, isHitOf, hitBits, rivalBits, rivalsOf, rivals};
+ghost use Rattle.keys.specs.Keys.{Writes, Writers, Readers};
+ghost use Rattle.rivals.specs.Rivals.{Told, pairsFor, firstFrom, seenFrom, standsFor, writesFor, triesFrom, isHitOf, hitBits, rivalBits, rivalsOf, rivals};
 
 // ── which reads of t3 see t2 ──
 
@@ -41,14 +42,11 @@ fn first_from(h: &[u64], k: &[u8], t2: usize, t3: usize) -> usize
     r
 }
 
-// The reads of t3 above this number see t2 at the level.
-fn seen_from(h: &[u64], k: &[u8], s: &[u64], level: u8, t2: usize, t3: usize) -> usize
-    requires { ⌜ Told (now h) (now k) (now s) level × HasTx (now h) t3 × (t2 ≤ txCount (historyOf (now h))) ⌝ }
+// The reads of t3 above this number see t2, which the level's pairs have before t3.
+fn seen_from(h: &[u64], k: &[u8], level: u8, t2: usize, t3: usize) -> usize
+    requires { ⌜ Ready (now h) (now k) × HasTx (now h) t3 × (t2 ≤ txCount (historyOf (now h))) × (pairsFor (historyOf (now h)) level t2 t3 ≡ true) ⌝ }
     ensures { λ r. ⌜ r ≡ seenFrom (historyOf (now (h .entry))) level t2 t3 ⌝ }
 {
-    if !bits::bit(s, t3, t2) {
-        return table::ops(h);
-    }
     if level != 1 {
         return 0;
     }
@@ -58,10 +56,11 @@ fn seen_from(h: &[u64], k: &[u8], s: &[u64], level: u8, t2: usize, t3: usize) ->
 // ── the search ──
 
 // Where the look through t2's operations starts that is to show whether read i is a hit: at its last one, and nowhere, 0, where the read is not one that t2
-// can be a rival for, or where t2 stands before its source already. Transaction 0 has no operation, and writes every key: the read itself stands for its write.
-fn writes_to_try(h: &[u64], k: &[u8], v: &[u64], t2: usize, i: usize) -> usize
+// can be a rival for, where t2 stands before its source already, or where w, the word of t2's keys, lacks the read's. Transaction 0 has no operation, and
+// writes every key: the read itself stands for its write.
+fn writes_to_try(h: &[u64], k: &[u8], v: &[u64], w: u64, t2: usize, i: usize) -> usize
     requires { ⌜ Ready (now h) (now k) × (length (now v) ≡ 256) × HasOp (now h) i × (t2 ≤ txCount (historyOf (now h))) ⌝ }
-    ensures { λ r. ⌜ r ≡ triesFrom (historyOf (now (h .entry))) (now (v .entry)) t2 i ⌝ }
+    ensures { λ r. ⌜ r ≡ triesFrom (historyOf (now (h .entry))) (now (v .entry)) w t2 i ⌝ }
 {
     let s = k[i] as usize;
     if s < 8 {
@@ -71,6 +70,9 @@ fn writes_to_try(h: &[u64], k: &[u8], v: &[u64], t2: usize, i: usize) -> usize
         return 0;
     }
     if bits::bit(v, s - 8, t2) {
+        return 0;
+    }
+    if !keys::has_key(w, table::key_of(h, i)) {
         return 0;
     }
     if t2 == 0 {
@@ -95,14 +97,23 @@ fn writes_same_key(h: &[u64], t2: usize, w: usize, i: usize) -> bool
 
 // The last hit of t2 among the reads of t3 from number j down to above `from`; 0 where there is none. "A search for a rival stops at the first one that
 // settles the pair."
-fn next_hit(h: &[u64], k: &[u8], v: &[u64], t2: usize, t3: usize, from: usize, j: usize) -> usize
-    requires { ⌜ Ready (now h) (now k) × (length (now v) ≡ 256) × OnChain (historyOf (now h)) t3 j × (t2 ≤ txCount (historyOf (now h))) ⌝ }
+fn next_hit(
+    h: &[u64],
+    k: &[u8],
+    v: &[u64],
+    x: u64,
+    t2: usize,
+    t3: usize,
+    from: usize,
+    j: usize,
+) -> usize
+    requires { ⌜ Ready (now h) (now k) × (length (now v) ≡ 256) × OnChain (historyOf (now h)) t3 j × (t2 ≤ txCount (historyOf (now h))) × Writes (historyOf (now h)) t2 x ⌝ }
     ensures { λ r. ⌜ r ≡ last (isHitOf (historyOf (now (h .entry))) (now (v .entry)) t2 t3 from) (j + 1) ⌝ }
 {
     let mut found = 0;
     let mut i = j;
     'reads: while from < i {
-        let mut w = writes_to_try(h, k, v, t2, i);
+        let mut w = writes_to_try(h, k, v, x, t2, i);
         'writes: while 0 < w {
             if writes_same_key(h, t2, w, i) {
                 found = i;
@@ -118,52 +129,71 @@ fn next_hit(h: &[u64], k: &[u8], v: &[u64], t2: usize, t3: usize, from: usize, j
 // ── the table of rival pairs ──
 
 // t2 before the source of each hit among the reads of t3. After a hit the search goes on below it, for the reads from another source: this pair is settled.
-fn mark_hits(h: &[u64], k: &[u8], v: &mut [u64], t2: usize, t3: usize, from: usize)
-    requires { ⌜ Ready (now h) (now k) × (length (now v) ≡ 256) × HasTx (now h) t3 × (t2 ≤ txCount (historyOf (now h))) ⌝ }
+fn mark_hits(h: &[u64], k: &[u8], v: &mut [u64], x: u64, t2: usize, t3: usize, from: usize)
+    requires { ⌜ Ready (now h) (now k) × (length (now v) ≡ 256) × HasTx (now h) t3 × (t2 ≤ txCount (historyOf (now h))) × Writes (historyOf (now h)) t2 x ⌝ }
     ensures { λ r. ⌜ Holds (now (v .exit)) (either (bitOf (now (v .entry))) (hitBits (historyOf (now (h .entry))) t2 t3 from)) ⌝ }
 {
-    let mut i = next_hit(h, k, v, t2, t3, from, table::last_op(h, t3));
+    let mut i = next_hit(h, k, v, x, t2, t3, from, table::last_op(h, t3));
     while 0 < i {
         bits::set_bit(v, k[i] as usize - 8, t2);
-        i = next_hit(h, k, v, t2, t3, from, table::prev_op(h, i));
+        i = next_hit(h, k, v, x, t2, t3, from, table::prev_op(h, i));
     }
 }
 
-// The pairs that the reads of t3 settle for t2: "Only committed transactions take part", and a rival is another than t3.
-fn mark_rival(h: &[u64], k: &[u8], s: &[u64], v: &mut [u64], level: u8, t2: usize, t3: usize)
-    requires { ⌜ Told (now h) (now k) (now s) level × (length (now v) ≡ 256) × HasTx (now h) t3 × (t2 ≤ txCount (historyOf (now h))) ⌝ }
+// The pairs that the reads of t3 settle for t2: "Only committed transactions take part", and a rival is another than t3. Most are none by their words
+// alone: w has the keys that each transaction writes, r those that t3 reads.
+fn mark_rival(
+    h: &[u64],
+    k: &[u8],
+    s: &[u64],
+    w: &[u64; 128],
+    v: &mut [u64],
+    level: u8,
+    t2: usize,
+    t3: usize,
+    r: u64,
+)
+    requires { ⌜ Told (now h) (now k) (now s) level × (length (now v) ≡ 256) × HasTx (now h) t3 × (t2 ≤ txCount (historyOf (now h))) × Writers (historyOf (now h)) (opCount (historyOf (now h)) + 1) (now w) × Readers (historyOf (now h)) t3 0 r ⌝ }
     ensures { λ r. ⌜ Holds (now (v .exit)) (either (bitOf (now (v .entry))) (rivalBits (historyOf (now (h .entry))) level t3 t2)) ⌝ }
 {
+    let x = w[t2];
+    if !keys::meet(x, r) {
+        return;
+    }
+    if !bits::bit(s, t3, t2) {
+        return;
+    }
     if t2 == t3 {
         return;
     }
     if !reads::is_committed(h, t2) {
         return;
     }
-    mark_hits(h, k, v, t2, t3, seen_from(h, k, s, level, t2, t3));
+    mark_hits(h, k, v, x, t2, t3, seen_from(h, k, level, t2, t3));
 }
 
 // .. for any rival, 0 among them.
-fn mark_rivals_of(h: &[u64], k: &[u8], s: &[u64], v: &mut [u64], level: u8, t3: usize)
-    requires { ⌜ Told (now h) (now k) (now s) level × (length (now v) ≡ 256) × HasTx (now h) t3 ⌝ }
+fn mark_rivals_of(h: &[u64], k: &[u8], s: &[u64], w: &[u64; 128], v: &mut [u64], level: u8, t3: usize)
+    requires { ⌜ Told (now h) (now k) (now s) level × (length (now v) ≡ 256) × HasTx (now h) t3 × Writers (historyOf (now h)) (opCount (historyOf (now h)) + 1) (now w) ⌝ }
     ensures { λ r. ⌜ Holds (now (v .exit)) (either (bitOf (now (v .entry))) (rivalsOf (historyOf (now (h .entry))) level t3)) ⌝ }
 {
     let n = table::txs(h);
+    let r = keys::read_by(h, k, t3);
     let mut t2 = 0;
     while t2 <= n {
-        mark_rival(h, k, s, v, level, t2, t3);
+        mark_rival(h, k, s, w, v, level, t2, t3, r);
         t2 += 1;
     }
 }
 
-fn mark_rivals(h: &[u64], k: &[u8], s: &[u64], v: &mut [u64], level: u8)
-    requires { ⌜ Told (now h) (now k) (now s) level × (length (now v) ≡ 256) ⌝ }
+fn mark_rivals(h: &[u64], k: &[u8], s: &[u64], w: &[u64; 128], v: &mut [u64], level: u8)
+    requires { ⌜ Told (now h) (now k) (now s) level × (length (now v) ≡ 256) × Writers (historyOf (now h)) (opCount (historyOf (now h)) + 1) (now w) ⌝ }
     ensures { λ r. ⌜ Holds (now (v .exit)) (either (bitOf (now (v .entry))) (rivals (historyOf (now (h .entry))) level)) ⌝ }
 {
     let n = table::txs(h);
     let mut t3 = 1;
     while t3 <= n {
-        mark_rivals_of(h, k, s, v, level, t3);
+        mark_rivals_of(h, k, s, w, v, level, t3);
         t3 += 1;
     }
 }
@@ -173,6 +203,8 @@ pub fn fill_rivals(h: &[u64], k: &[u8], s: &[u64], v: &mut [u64], level: u8)
     requires { ⌜ Told (now h) (now k) (now s) level × (length (now v) ≡ 256) ⌝ }
     ensures { λ r. ⌜ Holds (now (v .exit)) (before (isRival (historyOf (now (h .entry))) level)) ⌝ }
 {
+    let mut w = [0u64; 128];
+    keys::fill_writers(h, &mut w);
     bits::clear(v);
-    mark_rivals(h, k, s, v, level);
+    mark_rivals(h, k, s, &w, v, level);
 }

@@ -12,15 +12,15 @@ use Rattle.rivals.proofs.mark_hits.Statement.{statement}
 use Rattle.rivals.proofs.mark_hits.Tie as tie
 
 abbrev Inv-loop : tie.InvT-loop
-Inv-loop h k v₀ t2 t3 from i₀ v i = Marks (historyOf h) t2 t3 from (either (bitOf v₀) (hitBits (historyOf h) t2 t3 from)) i v
+Inv-loop h k v₀ x t2 t3 from i₀ v i = Marks (historyOf h) t2 t3 from (either (bitOf v₀) (hitBits (historyOf h) t2 t3 from)) i v
 
 abbrev μ-loop : tie.MeasureT-loop
-μ-loop h k v₀ t2 t3 from i₀ v i = i
+μ-loop h k v₀ x t2 t3 from i₀ v i = i
 
 next-hit-requires : tie.Need-next-hit-requires Inv-loop μ-loop
 next-hit-requires c κs =
     let p = c .before .before .before .before .before .pre in
-    (p .0, p .1, chain-last (c .last-op .ensures), p .3)
+    (p .0, p .1, chain-last (c .last-op .ensures), p .3, p .4)
 
 loop-holds : tie.Need-loop-holds Inv-loop μ-loop
 unfolding hitBits
@@ -56,7 +56,7 @@ next-hit-requires-2 c κs =
     let p = c .before .before .before .before .before .before .before .before .before .before .before .before .before .before .before .pre in
     let m = c .before .before .before .before .before .before .before .before .loop .inv in
     let l = c .before .before .before .before .before .before .before .loop-test .taken in
-    (p .0, c .before .before .before .before .set-bit .ensures .room, chain-prev (marks-on m) l (c .prev-op .ensures), p .3)
+    (p .0, c .before .before .before .before .set-bit .ensures .room, chain-prev (marks-on m) l (c .prev-op .ensures), p .3, p .4)
 
 loop-again : tie.Need-loop-again Inv-loop μ-loop
 unfolding hitBit

@@ -11,10 +11,10 @@ use Rattle.rivals.proofs.mark_rivals.Statement.{statement}
 use Rattle.rivals.proofs.mark_rivals.Tie as tie
 
 abbrev Inv-loop : tie.InvT-loop
-Inv-loop h k s v₀ level n t3₀ v t3 = (1 ≤ t3) × Marking (rivalsOf (historyOf h) level) (either (bitOf v₀) (rivals (historyOf h) level)) t3 (size (historyOf h)) v
+Inv-loop h k s w v₀ level n t3₀ v t3 = (1 ≤ t3) × Marking (rivalsOf (historyOf h) level) (either (bitOf v₀) (rivals (historyOf h) level)) t3 (size (historyOf h)) v
 
 abbrev μ-loop : tie.MeasureT-loop
-μ-loop h k s v₀ level n t3₀ v t3 = n + 1 - t3
+μ-loop h k s w v₀ level n t3₀ v t3 = n + 1 - t3
 
 loop-holds : tie.Need-loop-holds Inv-loop μ-loop
 unfolding rivals
@@ -24,7 +24,7 @@ mark-rivals-of-requires : tie.Need-mark-rivals-of-requires Inv-loop μ-loop
 mark-rivals-of-requires c κs =
     let p = c .before .before .before .before .before .before .before .before .pre .0 in
     let l = c .before .before .loop .inv in
-    (p, l .1 .room, record { held = p .ready .settled .held; from = l .0; to = omega (arith, c .before .before .before .txs .ensures) })
+    (p, l .1 .room, record { held = p .ready .settled .held; from = l .0; to = omega (arith, c .before .before .before .txs .ensures) }, c .before .before .before .before .before .before .before .before .pre .2)
 
 loop-again : tie.Need-loop-again Inv-loop μ-loop
 loop-again c =

@@ -7,16 +7,16 @@ use Rattle.rivals.proofs.next_hit.Statement.{statement}
 use Rattle.rivals.proofs.next_hit.Tie as tie
 
 abbrev Inv-writes : tie.InvT-writes
-Inv-writes h k v t2 t3 from j found₀ i w₀ found w = (found ≡ 0) × Tries (historyOf h) v t2 i w
+Inv-writes h k v x t2 t3 from j found₀ i w₀ found w = (found ≡ 0) × Tries (historyOf h) v t2 i w
 
 abbrev μ-writes : tie.MeasureT-writes
-μ-writes h k v t2 t3 from j found₀ i w₀ found w = w
+μ-writes h k v x t2 t3 from j found₀ i w₀ found w = w
 
 abbrev Inv-reads : tie.InvT-reads
-Inv-reads h k v t2 t3 from j found₀ i₀ found i = (found ≡ 0) × Hunt (historyOf h) v t2 t3 from j i
+Inv-reads h k v x t2 t3 from j found₀ i₀ found i = (found ≡ 0) × Hunt (historyOf h) v t2 t3 from j i
 
 abbrev μ-reads : tie.MeasureT-reads
-μ-reads h k v t2 t3 from j found₀ i₀ found i = i
+μ-reads h k v x t2 t3 from j found₀ i₀ found i = i
 
 reads-holds : tie.Need-reads-holds Inv-writes μ-writes Inv-reads μ-reads
 reads-holds c = (refl, hunt-start _ _ _ _ _ (c .before .before .before .pre .2))
@@ -29,7 +29,7 @@ writes-to-try-requires c κs =
 writes-holds : tie.Need-writes-holds Inv-writes μ-writes Inv-reads μ-reads
 writes-holds c =
     let u = c .before .before .reads .inv in
-    (u .0, tries-start _ _ _ _ (omega arith) (u .1 .on .to) (c .writes-to-try .ensures))
+    (u .0, tries-start _ _ _ _ (c .before .before .before .before .before .before .pre .4) (omega arith) (u .1 .on .to) (c .writes-to-try .ensures))
 
 writes-same-key-requires : tie.Need-writes-same-key-requires Inv-writes μ-writes Inv-reads μ-reads
 writes-same-key-requires c κs =

@@ -59,7 +59,7 @@ pub fn join(from: &[u64], to: &mut [u64])
 }
 
 // Row a gets the bits of the words p and q too.
-fn or_row(t: &mut [u64], a: usize, p: u64, q: u64)
+pub fn or_row(t: &mut [u64], a: usize, p: u64, q: u64)
     requires { ⌜ (length (now t) ≡ 256) × (a < 128) ⌝ }
     ensures { λ r. ⌜ Holds (now (t .exit)) (plusRow (bitOf (now (t .entry))) a (rowOf p q)) ⌝ }
 {

@@ -1,30 +1,31 @@
 -- What was marked are the basic pairs; these are of transactions that the history has.
-use Prim.Native.Nat.{ℕ, _+_, _-_, _<_, _≤_}
-use mathlib.Core.Path.{_≡_, refl, sym, _∙_}
+use Prim.Native.Nat.{ℕ, _+_, _-_, _*_, _<_, _≤_}
+use mathlib.Core.Path.{_≡_, refl, sym, ap, _∙_}
 use mathlib.Core.Bool.{Bool, true, false}
 use mathlib.Core.List.{List}
-use mathlib.Core.Logic.{⊎-elim}
+use mathlib.Core.Logic.{_⊎_, inl, inr, ⊎-elim}
 use native.Mathlib.Omega.{arith}
 use lib.ListN.{length, getD}
 use lib.Dec.{eqb}
-use borrow.Author.Tests.{eqb-true, eq-eqb, ltb-true, le-leb, lt-leb}
-use Rattle.base.specs.Base.{_or_, some}
-use Rattle.base.proofs.Tests.{is-false, same-test, both, and-left, and-right, and-on, or-cases, or-on}
+use borrow.Author.Tests.{eqb-true, eq-eqb, ltb-true, lt-ltb, le-leb, lt-leb}
+use Rattle.base.specs.Base.{_and_, _or_, last}
+use Rattle.base.proofs.Tests.{split, clash, is-false, same-test, both, and-left, and-right, and-on, and-no-right, or-cases, or-left, or-right, or-off, or-assoc, below-more}
 use Rattle.base.proofs.Searches.{some-at, some-of, some-none, some-same}
+use Rattle.base.proofs.Chains.{last-passes, last-none}
 use Rattle.theory.specs.Leads.{via}
 use Rattle.theory.proofs.Leads.{via-flip}
 use Rattle.theory.proofs.Same.{via-same}
-use Rattle.rules.specs.History.{History, op, opCount, size, sourceOf, committed}
+use Rattle.rules.specs.History.{History, tx, op, opCount, size, sourceOf, committed}
 use Rattle.rules.specs.Reads.{isExternal, readsFrom}
 use Rattle.rules.specs.Levels.{isStart, isSession, isRead, basic, leads}
 use Rattle.rules.proofs.Committed.{committed-below}
-use Rattle.table.specs.Table.{historyOf, ofTx, Held, HasTx, HasOp}
+use Rattle.table.specs.Table.{historyOf, ofTx, Held, HasTx, HasOp, Below}
 use Rattle.table.proofs.Chain.{OnChain}
 use Rattle.reads.proofs.Fitting.{source-less}
 use Rattle.reads.proofs.Entries.{external-says, judged-external, judged-reads}
-use Rattle.bits.specs.Bits.{bitOf, Holds, Under, nothing, either}
-use Rattle.bits.proofs.Tables.{holds-same}
-use Rattle.pairs.specs.Pairs.{Ready, before, cell, across, precedes, orderBit, orderRow, orders, readBit, readBits}
+use Rattle.bits.specs.Bits.{bitOf, Holds, Under, nothing, either, plusBit, plusRow, rowOf}
+use Rattle.bits.proofs.Tables.{holds-same, row-own}
+use Rattle.pairs.specs.Pairs.{Ready, before, across, precedes, ordersBelow, priorOf, behind, readBit, readBits}
 use Rattle.pairs.proofs.Marking.{cell-is, cell-has}
 
 -- ── what the bytes say ──
@@ -113,22 +114,141 @@ module _ {h : List ℕ} (p : Held h) (a b : ℕ) where
 
 -- ── what was marked ──
 
--- the bit (x, y) is that of the pair (y, x)
-cell-at : (f : ℕ → ℕ → Bool) (a b x y : ℕ) → cell (f a b) b a x y ≡ true → f y x ≡ true
-cell-at f a b x y e = let r = cell-is (f a b) b a x y e in rw (r .1, r .2) (r .0)
+-- a session pair
+record InSession (h : History) (a b : ℕ) : Type 0 where
+  from : 0 < a
+  less : a < b
+  first : committed h a ≡ true
+  second : committed h b ≡ true
+  same : tx h a .session ≡ tx h b .session
 
-orders-are : (h : History) (x y : ℕ) → orders h x y ≡ precedes h y x
-unfolding orders orderRow orderBit across
-orders-are h x y =
-    same-test _ _
-    (λ e.
-    let b = some-at (λ b. some 0 b (λ a. cell (precedes h a b) b a x y)) (size h) 1 e in
-    let a = some-at (λ a. cell (precedes h a (b .at)) (b .at) a x y) (b .at) 0 (b .passes) in
-    cell-at (precedes h) (a .at) (b .at) x y (a .passes))
-    (λ e.
-    let l = precedes-below h y x e in
-    some-of (λ b. some 0 b (λ a. cell (precedes h a b) b a x y)) (size h) 1 x (omega (arith, l .0)) (l .1)
-    (some-of (λ a. cell (precedes h a x) x a x y) x 0 y (omega arith) (l .0) (cell-has _ x y e)))
+module _ (h : History) (a b : ℕ) where
+  session-is : isSession h a b ≡ true → InSession h a b
+  unfolding isSession
+  session-is e =
+      let c = and-left _ _ e in
+      let d = and-left _ _ c in
+      let f = and-left _ _ d in
+      record {
+        from = ltb-true 0 a (and-left _ _ f);
+        less = ltb-true a b (and-right _ _ f);
+        first = and-right _ _ d;
+        second = and-right _ _ c;
+        same = eqb-true _ _ (and-right _ _ e);
+      }
+
+  is-session : InSession h a b → isSession h a b ≡ true
+  unfolding isSession
+  is-session s =
+      both _ _ (both _ _ (both _ _ (both _ _ (lt-ltb 0 a (s .from)) (lt-ltb a b (s .less))) (s .first)) (s .second)) (eq-eqb _ _ (s .same))
+
+  start-is : a ≡ 0 → 0 < b → committed h b ≡ true → precedes h a b ≡ true
+  unfolding precedes isStart
+  start-is z l c = or-left _ _ (both _ _ (both _ _ (eq-eqb a 0 z) (lt-ltb 0 b l)) c)
+
+  by-session : isSession h a b ≡ true → precedes h a b ≡ true
+  unfolding precedes
+  by-session e = or-right _ _ e
+
+  precedes-cases : precedes h a b ≡ true → (a ≡ 0) ⊎ (isSession h a b ≡ true)
+  unfolding precedes isStart
+  precedes-cases e = ⊎-elim (λ s. inl (eqb-true a 0 (and-left _ _ (and-left _ _ s)))) inr (or-cases _ _ e)
+
+  precedes-second : precedes h a b ≡ true → committed h b ≡ true
+  unfolding precedes isStart
+  precedes-second e = ⊎-elim (λ s. and-right _ _ s) (λ s. session-is s .second) (or-cases _ _ e)
+
+-- what stands before b: the prior one, and what stands before that
+module _ (h : History) (b : ℕ) (l : 0 < b) (c : committed h b ≡ true) where
+  prior-is : 0 < priorOf h b → isSession h (priorOf h b) b ≡ true
+  unfolding priorOf before
+  prior-is z = last-passes (before (isSession h) b) b z .0
+
+  prior-over : (y : ℕ) → isSession h y b ≡ true → y ≤ priorOf h b
+  unfolding priorOf before
+  prior-over y e =
+      ⊎-elim (λ m. absurd (clash e (last-none (before (isSession h) b) b y m (session-is h y b e .less)))) (λ m. m) (split (last (before (isSession h) b) b) y)
+
+  orders-prior : (y : ℕ) → precedes h y (priorOf h b) or eqb y (priorOf h b) ≡ precedes h y b
+  orders-prior y = same-test _ _ (λ e. ⊎-elim down (λ q. own (eqb-true y (priorOf h b) q)) (or-cases _ _ e)) up
+    where
+      own : y ≡ priorOf h b → precedes h y b ≡ true
+      own q =
+          ⊎-elim (λ z. by-session h y b (rw q (prior-is (omega arith)))) (λ z. start-is h y b (omega arith) l c) (split 0 y)
+
+      down : precedes h y (priorOf h b) ≡ true → precedes h y b ≡ true
+      down e =
+          let p = session-is h (priorOf h b) b (prior-is (omega (arith, precedes-below h y (priorOf h b) e .0))) in
+          ⊎-elim (λ z. start-is h y b z l c)
+          (λ s.
+          let r = session-is h y (priorOf h b) s in
+          by-session h y b
+          (is-session h y b (record { from = r .from; less = omega (arith, r .less, p .less); first = r .first; second = c; same = r .same ∙ p .same })))
+          (precedes-cases h y (priorOf h b) e)
+
+      up : precedes h y b ≡ true → precedes h y (priorOf h b) or eqb y (priorOf h b) ≡ true
+      up e =
+          ⊎-elim
+          (λ z.
+          ⊎-elim (λ m. or-left _ _ (start-is h y (priorOf h b) z m (session-is h (priorOf h b) b (prior-is m) .first)))
+          (λ m. or-right _ _ (eq-eqb y (priorOf h b) (omega arith))) (split 0 (priorOf h b)))
+          (λ s.
+          let r = session-is h y b s in
+          ⊎-elim
+          (λ m.
+          let p = session-is h (priorOf h b) b (prior-is (omega (arith, r .from))) in
+          or-left _ _
+          (by-session h y (priorOf h b)
+          (is-session h y (priorOf h b) (record { from = r .from; less = m; first = r .first; second = p .first; same = r .same ∙ sym (p .same) }))))
+          (λ m. or-right _ _ (eq-eqb y (priorOf h b) (omega (arith, prior-over y s)))) (split y (priorOf h b)))
+          (precedes-cases h y b e)
+
+-- row b gets row a, then a
+and-over : (c r s : Bool) → (c and r) or (c and s) ≡ c and (r or s)
+unfolding _and_ _or_
+and-over true r s = refl
+and-over false r s = refl
+
+pub marked-behind : (t : List ℕ) {u w : List ℕ} (a b : ℕ) → Holds u (plusRow (bitOf t) b (rowOf (getD t (2 * a) 0) (getD t (2 * a + 1) 0)))
+    → Holds w (plusBit (bitOf u) b a) → Holds w (plusRow (bitOf t) b (behind (bitOf t) a))
+unfolding plusRow plusBit behind
+marked-behind t a b p q =
+    holds-same q
+    (λ x y hx hy. rw (p .is x y hx hy, row-own t a y hy) (or-assoc _ _ _ ∙ ap (λ (r : Bool). bitOf t x y or r) (and-over (eqb x b) _ _)))
+
+-- row by row
+module _ (h : History) {t : List ℕ} where
+  pub orders-start : Holds t nothing → Holds t (ordersBelow h 1)
+  unfolding nothing ordersBelow
+  orders-start n =
+      holds-same n
+      (λ x y hx hy.
+      sym (is-false _ (λ e. omega (arith, ltb-true x 1 (and-left _ _ e), precedes-below h y x (and-right _ _ e) .0))))
+
+  module _ (b : ℕ) (k : Holds t (ordersBelow h b)) where
+    pub orders-skip : committed h b ≡ false → Holds t (ordersBelow h (b + 1))
+    unfolding ordersBelow
+    orders-skip c =
+        holds-same k
+        (λ x y hx hy.
+        sym
+        (below-more (precedes h y) x b
+        ∙ or-off _ _ (and-no-right _ _ (is-false _ (λ e. clash (precedes-second h y b e) c)))))
+
+    pub orders-next : {u : List ℕ} {a : ℕ} → 0 < b → b < 128 → committed h b ≡ true → Below a (priorOf h b) b
+        → Holds u (plusRow (bitOf t) b (behind (bitOf t) a)) → Holds u (ordersBelow h (b + 1))
+    unfolding ordersBelow plusRow behind
+    orders-next {a = a} l m c p g =
+        holds-same g
+        (λ x y hx hy.
+        rw (k .is x y hx hy, k .is a y (omega (arith, p .below)) hy, and-on _ (precedes h y a) (lt-ltb a b (p .below)), p .is, orders-prior h b l c y)
+        (sym (below-more (precedes h y) x b)))
+
+  pub orders-end : Holds t (ordersBelow h (size h)) → (x y : ℕ) → x < 128 → y < 128 → bitOf t x y ≡ precedes h y x
+  unfolding ordersBelow
+  orders-end k x y hx hy =
+      k .is x y hx hy
+      ∙ same-test _ _ (λ e. and-right _ _ e) (λ e. both _ _ (lt-ltb x (size h) (precedes-below h y x e .1)) e)
 
 read-bit : (h : History) (i x y : ℕ) → readBit h i x y ≡ readsFrom h x y i
 unfolding readBit readsFrom
@@ -143,13 +263,9 @@ reads-are : (h : History) (x y : ℕ) → readBits h x y ≡ isRead h y x
 unfolding readBits across isRead
 reads-are h x y = some-same (λ i. readBit h i x y) (readsFrom h x y) (opCount h + 1) 1 (λ i a b. read-bit h i x y)
 
-pub basic-filled : {t u w : List ℕ} (h : History) → Holds t nothing → Holds u (either (bitOf t) (orders h)) → Holds w (either (bitOf u) (readBits h))
-    → Holds w (before (basic h))
-unfolding nothing either before
-basic-filled {t} {u} h p q r =
-    holds-same r
-    (λ x y hx hy.
-    rw (q .is x y hx hy, or-on (bitOf t x y) (orders h x y) (p .is x y hx hy), orders-are h x y, reads-are h x y) (sym (basic-is h y x)))
+pub basic-filled : {u w : List ℕ} (h : History) → Holds u (ordersBelow h (size h)) → Holds w (either (bitOf u) (readBits h)) → Holds w (before (basic h))
+unfolding either before
+basic-filled h q r = holds-same r (λ x y hx hy. rw (orders-end h q x y hx hy, reads-are h x y) (sym (basic-is h y x)))
 
 -- ── tables kept by predecessor ──
 

@@ -2,9 +2,9 @@
 use Prim.Native.Nat.{ℕ, _+_}
 use mathlib.Core.Bool.{Bool}
 use mathlib.Core.List.{List}
-use lib.Dec.{eqb}
-use Rattle.base.specs.Base.{_and_, _or_, some}
-use Rattle.rules.specs.History.{History, op, opCount, size, sourceOf}
+use lib.Dec.{eqb, ltb}
+use Rattle.base.specs.Base.{_and_, _or_, some, last}
+use Rattle.rules.specs.History.{History, op, opCount, sourceOf}
 use Rattle.rules.specs.Reads.{isExternal}
 use Rattle.rules.specs.Levels.{isStart, isSession}
 use Rattle.table.specs.Table.{historyOf, Settled}
@@ -33,15 +33,17 @@ across a e z x y = some a e (λ i. z i x y)
 unfoldable pub precedes : History → ℕ → ℕ → Bool
 precedes h a b = isStart h a b or isSession h a b
 
--- its bit; those of row b, whose numbers all lie below b; those of all rows
-unfoldable pub orderBit : History → ℕ → ℕ → ℕ → ℕ → Bool
-orderBit h b a = cell (precedes h a b) b a
+-- row x, of those below n, has the bits of these
+unfoldable pub ordersBelow : History → ℕ → ℕ → ℕ → Bool
+ordersBelow h n x y = ltb x n and precedes h y x
 
-unfoldable pub orderRow : History → ℕ → ℕ → ℕ → Bool
-orderRow h b = across 0 b (orderBit h b)
+-- the last that stands before b by session; 0, which stands before every other, where there is none
+unfoldable pub priorOf : History → ℕ → ℕ
+priorOf h b = last (before (isSession h) b) b
 
-unfoldable pub orders : History → ℕ → ℕ → Bool
-orders h = across 1 (size h) (orderRow h)
+-- a, and what E has in row a
+unfoldable pub behind : (ℕ → ℕ → Bool) → ℕ → ℕ → Bool
+behind E a y = E a y or eqb y a
 
 -- the bit of operation i, where it is a clean external read: its source stands before its transaction; those of all operations
 unfoldable pub readBit : History → ℕ → ℕ → ℕ → Bool

@@ -1,12 +1,12 @@
 // "Basic pairs, always forced": start, session and read. A table of pairs is kept by predecessor: row b has the bits of what stands before b.
 ghost use mathlib.Core.Path.{_≡_};
-ghost use Prim.Native.Nat.{_≤_, _<_};
+ghost use Prim.Native.Nat.{_+_, _≤_, _<_};
 ghost use lib.ListN.{length};
-ghost use Rattle.rules.specs.History.{txCount};
+ghost use Rattle.rules.specs.History.{txCount, size};
 ghost use Rattle.rules.specs.Levels.{isStart, isSession, isRead, basic};
-ghost use Rattle.table.specs.Table.{historyOf, HasOp, Settled};
-ghost use Rattle.bits.specs.Bits.{bitOf, Holds, either};
-ghost use Rattle.pairs.specs.Pairs.{Ready, before, precedes, orderBit, orderRow, orders, readBit, readBits};
+ghost use Rattle.table.specs.Table.{historyOf, HasTx, HasOp, Settled, Below};
+ghost use Rattle.bits.specs.Bits.{bitOf, Holds, nothing, either, plusRow};
+ghost use Rattle.pairs.specs.Pairs.{Ready, before, priorOf, behind, ordersBelow, readBit, readBits};
 
 // ── the reasons, one by one ──
 
@@ -64,47 +64,50 @@ pub fn is_read(h: &[u64], k: &[u8], a: usize, b: usize) -> bool
 
 // ── the table of basic pairs ──
 
-// Whether a stands before b by start or by session.
-fn precedes(h: &[u64], a: usize, b: usize) -> bool
-    requires { ⌜ Settled (now h) ⌝ }
-    ensures { λ r. ⌜ r ≡ precedes (historyOf (now (h .entry))) a b ⌝ }
+// The last transaction before b that stands before it by session; 0, which stands before every other, where there is none.
+fn prior(h: &[u64], b: usize) -> usize
+    requires { ⌜ Settled (now h) × (0 < b) ⌝ }
+    ensures { λ r. ⌜ Below r (priorOf (historyOf (now (h .entry))) b) b ⌝ }
 {
-    if is_start(h, a, b) {
-        return true;
+    let mut a = b - 1;
+    while 0 < a {
+        if is_session(h, a, b) {
+            return a;
+        }
+        a -= 1;
     }
-    is_session(h, a, b)
+    0
 }
 
-// Row b gets the bit a, where a stands before b by start or by session.
-fn mark_order(h: &[u64], t: &mut [u64], a: usize, b: usize)
-    requires { ⌜ Settled (now h) × (length (now t) ≡ 256) × (a < 128) × (b < 128) ⌝ }
-    ensures { λ r. ⌜ Holds (now (t .exit)) (either (bitOf (now (t .entry))) (orderBit (historyOf (now (h .entry))) b a)) ⌝ }
+// Row b gets a, and what row a has.
+fn mark_behind(t: &mut [u64], a: usize, b: usize)
+    requires { ⌜ (length (now t) ≡ 256) × (a < 128) × (b < 128) ⌝ }
+    ensures { λ r. ⌜ Holds (now (t .exit)) (plusRow (bitOf (now (t .entry))) b (behind (bitOf (now (t .entry))) a)) ⌝ }
 {
-    if precedes(h, a, b) {
-        bits::set_bit(t, b, a);
-    }
+    let p = t[2 * a];
+    let q = t[2 * a + 1];
+    bits::or_row(t, b, p, q);
+    bits::set_bit(t, b, a);
 }
 
-// .. for each a before b: all earlier ones of a session, not only the neighbour.
-fn mark_order_row(h: &[u64], t: &mut [u64], b: usize)
-    requires { ⌜ Settled (now h) × (length (now t) ≡ 256) × (b < 128) ⌝ }
-    ensures { λ r. ⌜ Holds (now (t .exit)) (either (bitOf (now (t .entry))) (orderRow (historyOf (now (h .entry))) b)) ⌝ }
+// Row b gets what stands before b by start or by session: the prior one, and all that stand before that. The rows before b have theirs.
+fn mark_order(h: &[u64], t: &mut [u64], b: usize)
+    requires { ⌜ Settled (now h) × HasTx (now h) b × Holds (now t) (ordersBelow (historyOf (now h)) b) ⌝ }
+    ensures { λ r. ⌜ Holds (now (t .exit)) (ordersBelow (historyOf (now (h .entry))) (b + 1)) ⌝ }
 {
-    let mut a = 0;
-    while a < b {
-        mark_order(h, t, a, b);
-        a += 1;
+    if reads::is_committed(h, b) {
+        mark_behind(t, prior(h, b), b);
     }
 }
 
 fn mark_orders(h: &[u64], t: &mut [u64])
-    requires { ⌜ Settled (now h) × (length (now t) ≡ 256) ⌝ }
-    ensures { λ r. ⌜ Holds (now (t .exit)) (either (bitOf (now (t .entry))) (orders (historyOf (now (h .entry))))) ⌝ }
+    requires { ⌜ Settled (now h) × Holds (now t) nothing ⌝ }
+    ensures { λ r. ⌜ Holds (now (t .exit)) (ordersBelow (historyOf (now (h .entry))) (size (historyOf (now (h .entry))))) ⌝ }
 {
     let n = table::txs(h);
     let mut b = 1;
     while b <= n {
-        mark_order_row(h, t, b);
+        mark_order(h, t, b);
         b += 1;
     }
 }

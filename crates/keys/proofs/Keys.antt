@@ -1,5 +1,5 @@
 -- What words of key bits say.
-use Prim.Native.Nat.{ℕ, zero, suc, _+_, _-_, _*_, _/_, _%_, _^_, _<_, _≤_, min}
+use Prim.Native.Nat.{ℕ, suc, _+_, _-_, _*_, _/_, _%_, _^_, _<_, _≤_, min}
 use mathlib.Core.Path.{_≡_, refl, sym, ap, _∙_}
 use mathlib.Core.Bool.{Bool, true, false}
 use mathlib.Core.List.{List}
@@ -12,7 +12,6 @@ use lib.ListN.{length, getD, set, length-set}
 use lib.Pow.{pow-pos, ones-split, ones-lt, high}
 use lib.Seq.{getD-set-same, getD-set-other}
 use borrow.Author.Tests.{eqb-true, eqb-false, eq-eqb}
-use Rattle.base.specs.Base.{_or_}
 use Rattle.base.proofs.Tests.{ifso, split, clash, is-false, and-left, and-right, or-left, or-right, or-cases}
 use Rattle.base.proofs.Searches.{some-at}
 use Rattle.base.proofs.Chains.{last-none}
@@ -20,7 +19,6 @@ use Rattle.rules.specs.History.{History, op, opCount}
 use Rattle.rules.specs.Reads.{writesAt, wroteBetween, isExternal}
 use Rattle.rules.specs.Levels.{writesKey}
 use Rattle.table.specs.Table.{ofTx, lastBelow, lastOf, prevOf, Below}
-use Rattle.table.proofs.Chain.{OnChain}
 use Rattle.bits.specs.Bits.{testBit}
 use Rattle.bits.proofs.Words.{testBit-or, testBit-one}
 use Rattle.keys.specs.Keys.{hasKey, Gains, Apart, Writes, Writers, Readers}

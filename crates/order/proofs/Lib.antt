@@ -1,3 +1,4 @@
 pub mod Sets
+pub mod Smallest
 pub mod Steps
 pub mod One

@@ -16,7 +16,7 @@ use Rattle.bits.specs.Bits.{testBit, bitOf}
 use Rattle.bits.proofs.Words.{testBit-zero, testBit-or, testBit-one, word-one}
 use Rattle.order.specs.declared.Words.{Words}
 use Rattle.order.specs.Sets.{words, inWords, Plus, Given, Gathered, lacks}
-use Rattle.order.specs.Ordering.{waits, isNext}
+use Rattle.order.specs.Ordering.{waits}
 
 -- ── a set's words ──
 
@@ -161,18 +161,3 @@ module _ (f : List ℕ) (p : Words) (a : ℕ) where
   pub follows-is : {b r : Bool} → b ≡ not (some 0 64 (lacks (getD f (2 * a) 0) (p .lo))) → not b ≡ false → r ≡ not (some 0 64 (lacks (getD f (2 * a + 1) 0) (p .hi)))
       → r ≡ not (some 0 128 (waits f p a))
   follows-is e q h = h ∙ ap not (sym (waits-words ∙ or-on _ _ (not-true _ (sym e ∙ not-false _ q))))
-
--- ── what may come next, test by test ──
-
-module _ (f : List ℕ) (m p : Words) (a : ℕ) {b : Bool} where
-  pub no-member : b ≡ inWords m a → not b ≡ true → false ≡ isNext f m p a
-  unfolding isNext
-  no-member e q = sym (and-no-left _ _ (and-no-left _ _ (sym e ∙ not-true _ q)))
-
-  pub is-placed : b ≡ inWords p a → b ≡ true → false ≡ isNext f m p a
-  unfolding isNext
-  is-placed e q = sym (and-no-left _ _ (and-no-right _ _ (ap not (sym e ∙ q))))
-
-  pub by-row : {c r : Bool} → b ≡ inWords m a → not b ≡ false → c ≡ inWords p a → c ≡ false → r ≡ not (some 0 128 (waits f p a)) → r ≡ isNext f m p a
-  unfolding isNext
-  by-row e q g k h = h ∙ sym (and-on _ _ (both _ _ (sym e ∙ not-false _ q) (ap not (sym g ∙ k))))

@@ -7,8 +7,8 @@ ghost use lib.ListN.{length, take};
 ghost use Rattle.base.specs.Base.{some, first};
 ghost use Rattle.base.proofs.Fill.{Appended};
 ghost use Rattle.theory.specs.Order.{rest};
-ghost use Rattle.bits.specs.Bits.{Under};
-ghost use Rattle.order.specs.Sets.{words, inWords, Plus, Given, lacks};
+ghost use Rattle.bits.specs.Bits.{testBit, Under};
+ghost use Rattle.order.specs.Sets.{words, inWords, Plus, Given, lacks, Minus, Least};
 ghost use Rattle.order.specs.Ordering.{standsBefore, waits, isNext, Orderable};
 
 // A set of numbers below 128.
@@ -52,18 +52,6 @@ pub fn with(w: Words, a: usize) -> Words
     }
 }
 
-// Whether a is in the set.
-fn has(lo: u64, hi: u64, a: usize) -> bool
-    requires { ⌜ a < 128 ⌝ }
-    ensures { λ r. ⌜ r ≡ inWords (words lo hi) a ⌝ }
-{
-    if a < 64 {
-        (lo >> a) % 2 == 1
-    } else {
-        (hi >> (a - 64)) % 2 == 1
-    }
-}
-
 // Whether v has every bit of u.
 fn covers(u: u64, v: u64) -> bool
     ensures { λ r. ⌜ r ≡ not (some 0 64 (lacks u v)) ⌝ }
@@ -82,18 +70,37 @@ fn follows(f: &[u64; 256], plo: u64, phi: u64, a: usize) -> bool
     covers(f[2 * a + 1], phi)
 }
 
-// Whether a may come next.
-fn is_next(f: &[u64; 256], mlo: u64, mhi: u64, plo: u64, phi: u64, a: usize) -> bool
-    requires { ⌜ a < 128 ⌝ }
-    ensures { λ r. ⌜ r ≡ isNext (now (f .entry)) (words mlo mhi) (words plo phi) a ⌝ }
+// The smallest bit of w from `from` on; 64 or more where there is none.
+fn least(w: u64, from: usize) -> usize
+    requires { ⌜ from < 64 ⌝ }
+    ensures { λ r. ⌜ Least (testBit w) from 64 r × (r ≤ 128) ⌝ }
 {
-    if !has(mlo, mhi, a) {
-        return false;
+    from + u64::trailing_zeros(w >> from) as usize
+}
+
+// The smallest number of the set from `from` on; 128 or more where there is none.
+fn least_of(lo: u64, hi: u64, from: usize) -> usize
+    requires { ⌜ from ≤ 128 ⌝ }
+    ensures { λ r. ⌜ Least (inWords (words lo hi)) from 128 r ⌝ }
+{
+    if from == 128 {
+        return 128;
     }
-    if has(plo, phi, a) {
-        return false;
+    if 64 <= from {
+        return 64 + least(hi, from - 64);
     }
-    follows(f, plo, phi, a)
+    let a = least(lo, from);
+    if a < 64 {
+        return a;
+    }
+    64 + least(hi, 0)
+}
+
+// The word m without the bits of p.
+fn without(m: u64, p: u64) -> u64
+    ensures { λ r. ⌜ Minus m p r ⌝ }
+{
+    (m | p) ^ p
 }
 
 // The smallest that may come next, or n.
@@ -101,12 +108,14 @@ fn next(f: &[u64; 256], n: usize, mlo: u64, mhi: u64, plo: u64, phi: u64) -> usi
     requires { ⌜ n ≤ 128 ⌝ }
     ensures { λ r. ⌜ r ≡ first n 0 n (isNext (now (f .entry)) (words mlo mhi) (words plo phi)) ⌝ }
 {
-    let mut a = 0;
+    let lo = without(mlo, plo);
+    let hi = without(mhi, phi);
+    let mut a = least_of(lo, hi, 0);
     while a < n {
-        if is_next(f, mlo, mhi, plo, phi, a) {
+        if follows(f, plo, phi, a) {
             return a;
         }
-        a += 1;
+        a = least_of(lo, hi, a + 1);
     }
     n
 }

@@ -10,7 +10,7 @@ use lib.Dec.{eqb}
 use borrow.Author.Tests.{eqb-true, eq-eqb, ltb-true, lt-ltb, le-leb, lt-leb}
 use Rattle.base.specs.Base.{_and_, _or_, last}
 use Rattle.base.proofs.Tests.{split, clash, is-false, same-test, both, and-left, and-right, and-on, and-no-right, or-cases, or-left, or-right, or-off, or-assoc, below-more}
-use Rattle.base.proofs.Searches.{some-at, some-of, some-none, some-same}
+use Rattle.base.proofs.Searches.{some-at, some-none, some-same}
 use Rattle.base.proofs.Chains.{last-passes, last-none}
 use Rattle.theory.specs.Leads.{via}
 use Rattle.theory.proofs.Leads.{via-flip}

@@ -173,7 +173,15 @@ fn mark_rival(
 }
 
 // .. for any rival, 0 among them.
-fn mark_rivals_of(h: &[u64], k: &[u8], s: &[u64], w: &[u64; 128], v: &mut [u64], level: u8, t3: usize)
+fn mark_rivals_of(
+    h: &[u64],
+    k: &[u8],
+    s: &[u64],
+    w: &[u64; 128],
+    v: &mut [u64],
+    level: u8,
+    t3: usize,
+)
     requires { ⌜ Told (now h) (now k) (now s) level × (length (now v) ≡ 256) × HasTx (now h) t3 × Writers (historyOf (now h)) (opCount (historyOf (now h)) + 1) (now w) ⌝ }
     ensures { λ r. ⌜ Holds (now (v .exit)) (either (bitOf (now (v .entry))) (rivalsOf (historyOf (now (h .entry))) level t3)) ⌝ }
 {

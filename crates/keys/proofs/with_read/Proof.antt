@@ -1,5 +1,3 @@
-use mathlib.Core.Path.{sym}
-use native.Mathlib.Omega.{arith}
 use borrow.Author.Needs.{needs}
 use Rattle.pairs.proofs.Pairs.{byte-in, byte-other}
 use Rattle.keys.proofs.Keys.{gains-not, gains-if}

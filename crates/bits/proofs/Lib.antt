@@ -1,4 +1,5 @@
 pub mod Words
 pub mod Tables
+pub mod Smallest
 pub mod Passes
 pub mod One

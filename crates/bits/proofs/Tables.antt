@@ -131,11 +131,11 @@ bit-set t a b h ha hb =
 
 -- a row's bits are those of its two words
 module _ (p q y : ℕ) where
-  row-low : y < 64 → rowOf p q y ≡ testBit p (y % 64)
+  pub row-low : y < 64 → rowOf p q y ≡ testBit p (y % 64)
   unfolding rowOf bitOf
   row-low l = let e : 2 * 0 + y / 64 ≡ 0 = omega arith in rw e
 
-  row-high : 64 ≤ y → y < 128 → rowOf p q y ≡ testBit q (y % 64)
+  pub row-high : 64 ≤ y → y < 128 → rowOf p q y ≡ testBit q (y % 64)
   unfolding rowOf bitOf
   row-high l h = let e : 2 * 0 + y / 64 ≡ 1 = omega arith in rw e
 

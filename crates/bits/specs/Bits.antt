@@ -53,3 +53,9 @@ pub record Under (n : ℕ) (t : List ℕ) : Type 0 where
   pub room : length t ≡ 256
   pub few : n ≤ 128
   pub pairs : (x y : ℕ) → x < 128 → y < 128 → bitOf t x y ≡ true → (x < n) × (y < n)
+
+-- r is the smallest number from a to before e that passes p; e or more where none does
+pub record Least (p : ℕ → Bool) (a e r : ℕ) : Type 0 where
+  pub from : a ≤ r
+  pub hit : r < e → p r ≡ true
+  pub none : (i : ℕ) → a ≤ i → i < r → i < e → p i ≡ false

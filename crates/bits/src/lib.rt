@@ -1,9 +1,9 @@
 // Tables of bits: 128 rows of two words each, lent by the caller as 256 words.
 ghost use mathlib.Core.Path.{_≡_};
-ghost use Prim.Native.Nat.{_<_};
+ghost use Prim.Native.Nat.{_≤_, _<_};
 ghost use lib.ListN.{length};
 ghost use Rattle.theory.specs.Leads.{via};
-ghost use Rattle.bits.specs.Bits.{bitOf, Holds, Under, nothing, either, plusBit, plusRow, rowOf, whereLed, onceMore};
+ghost use Rattle.bits.specs.Bits.{testBit, bitOf, Holds, Under, nothing, either, plusBit, plusRow, rowOf, whereLed, onceMore, Least};
 
 // Whether row a has bit b.
 pub fn bit(t: &[u64], a: usize, b: usize) -> bool
@@ -103,4 +103,32 @@ pub fn close(t: &mut [u64], n: usize)
         pass(t, n, k);
         k += 1;
     }
+}
+
+// ── numbers of a row ──
+
+// The smallest bit of w from `from` on; 64 or more where there is none.
+fn least(w: u64, from: usize) -> usize
+    requires { ⌜ from < 64 ⌝ }
+    ensures { λ r. ⌜ Least (testBit w) from 64 r × (r ≤ 128) ⌝ }
+{
+    from + u64::trailing_zeros(w >> from) as usize
+}
+
+// The smallest bit from `from` on of a row whose words are lo and hi; 128 or more where there is none.
+pub fn least_of(lo: u64, hi: u64, from: usize) -> usize
+    requires { ⌜ from ≤ 128 ⌝ }
+    ensures { λ r. ⌜ Least (rowOf lo hi) from 128 r ⌝ }
+{
+    if from == 128 {
+        return 128;
+    }
+    if 64 <= from {
+        return 64 + least(hi, from - 64);
+    }
+    let a = least(lo, from);
+    if a < 64 {
+        return a;
+    }
+    64 + least(hi, 0)
 }

@@ -1,7 +1,7 @@
 -- Sets of numbers below 128, held in two words.
-use Prim.Native.Nat.{ℕ, _+_, _-_, _<_, _≤_}
+use Prim.Native.Nat.{ℕ, _+_, _-_, _<_}
 use mathlib.Core.Path.{_≡_}
-use mathlib.Core.Bool.{Bool, true, false, not}
+use mathlib.Core.Bool.{Bool, not}
 use lib.Dec.{ltb, eqb}
 use Rattle.base.specs.Base.{_and_, _or_, pick}
 use Rattle.bits.specs.Bits.{testBit}
@@ -26,12 +26,6 @@ pub record Given (b u a v : ℕ) : Type 0 where
 -- w has the numbers below n that pass p, and no other
 pub record Gathered (p : ℕ → Bool) (n : ℕ) (w : Words) : Type 0 where
   pub is : (x : ℕ) → x < 128 → inWords w x ≡ ltb x n and p x
-
--- r is the smallest number from a to before e that passes p; e or more where none does
-pub record Least (p : ℕ → Bool) (a e r : ℕ) : Type 0 where
-  pub from : a ≤ r
-  pub hit : r < e → p r ≡ true
-  pub none : (i : ℕ) → a ≤ i → i < r → i < e → p i ≡ false
 
 -- the word u has the bit k, and v has not
 unfoldable pub lacks : ℕ → ℕ → ℕ → Bool

@@ -7,8 +7,8 @@ ghost use lib.ListN.{length, take};
 ghost use Rattle.base.specs.Base.{some, first};
 ghost use Rattle.base.proofs.Fill.{Appended};
 ghost use Rattle.theory.specs.Order.{rest};
-ghost use Rattle.bits.specs.Bits.{testBit, Under};
-ghost use Rattle.order.specs.Sets.{words, inWords, Plus, Given, lacks, Minus, Least};
+ghost use Rattle.bits.specs.Bits.{Under};
+ghost use Rattle.order.specs.Sets.{words, inWords, Plus, Given, lacks, Minus};
 ghost use Rattle.order.specs.Ordering.{standsBefore, waits, isNext, Orderable};
 
 // A set of numbers below 128.
@@ -70,32 +70,6 @@ fn follows(f: &[u64; 256], plo: u64, phi: u64, a: usize) -> bool
     covers(f[2 * a + 1], phi)
 }
 
-// The smallest bit of w from `from` on; 64 or more where there is none.
-fn least(w: u64, from: usize) -> usize
-    requires { ⌜ from < 64 ⌝ }
-    ensures { λ r. ⌜ Least (testBit w) from 64 r × (r ≤ 128) ⌝ }
-{
-    from + u64::trailing_zeros(w >> from) as usize
-}
-
-// The smallest number of the set from `from` on; 128 or more where there is none.
-fn least_of(lo: u64, hi: u64, from: usize) -> usize
-    requires { ⌜ from ≤ 128 ⌝ }
-    ensures { λ r. ⌜ Least (inWords (words lo hi)) from 128 r ⌝ }
-{
-    if from == 128 {
-        return 128;
-    }
-    if 64 <= from {
-        return 64 + least(hi, from - 64);
-    }
-    let a = least(lo, from);
-    if a < 64 {
-        return a;
-    }
-    64 + least(hi, 0)
-}
-
 // The word m without the bits of p.
 fn without(m: u64, p: u64) -> u64
     ensures { λ r. ⌜ Minus m p r ⌝ }
@@ -110,12 +84,12 @@ fn next(f: &[u64; 256], n: usize, mlo: u64, mhi: u64, plo: u64, phi: u64) -> usi
 {
     let lo = without(mlo, plo);
     let hi = without(mhi, phi);
-    let mut a = least_of(lo, hi, 0);
+    let mut a = bits::least_of(lo, hi, 0);
     while a < n {
         if follows(f, plo, phi, a) {
             return a;
         }
-        a = least_of(lo, hi, a + 1);
+        a = bits::least_of(lo, hi, a + 1);
     }
     n
 }

@@ -3,11 +3,13 @@ use Prim.Native.Nat.{ℕ, _+_, _<_, _≤_}
 use mathlib.Core.Path.{_≡_, refl, sym, ap, _∙_}
 use mathlib.Core.Bool.{Bool, true, false}
 use mathlib.Core.List.{List}
+use mathlib.Core.Logic.{⊎-elim}
+use native.Mathlib.Omega.{arith}
 use lib.ListN.{length}
 use borrow.Author.Tests.{eqb-true, eq-eqb}
 use Rattle.base.specs.Base.{_or_, last}
-use Rattle.base.proofs.Tests.{ifso, both, and-left, and-right, and-on, and-no-left, or-left, or-on, or-off, or-assoc}
-use Rattle.base.proofs.Searches.{some-hit, some-miss, some-end}
+use Rattle.base.proofs.Tests.{ifso, split, clash, same-test, both, and-left, and-right, and-on, and-no-left, or-left, or-on, or-off, or-assoc}
+use Rattle.base.proofs.Searches.{some-hit, some-miss, some-end, some-at, some-of}
 use Rattle.base.proofs.Chains.{top-hit, top-miss, top-chain}
 use Rattle.bits.specs.Bits.{bitOf, Holds, either, plusBit}
 use Rattle.bits.proofs.Tables.{holds-same}
@@ -77,6 +79,24 @@ module _ (z : ℕ → ℕ → ℕ → Bool) where
         mark-one i
         (λ x y.
         ifso (z i x y) (λ t. top-hit (λ i. z i x y) a i l t ∙ sym (or-left _ _ t)) (λ t. top-miss (λ i. z i x y) a i t ∙ sym (or-on _ _ t)))
+
+  -- those from a to before b give nothing
+  pub mark-skip : {w : ℕ → ℕ → Bool} {a e b : ℕ} {t : List ℕ} → a ≤ b → ((i x y : ℕ) → a ≤ i → i < b → i < e → z i x y ≡ false) → Marking z w a e t
+      → Marking z w b e t
+  unfolding across
+  mark-skip {a = a} {e = e} {b = b} {t = t} l none m =
+      record {
+        room = m .room;
+        rest =
+            λ x y hx hy.
+            ap (λ (r : Bool). bitOf t x y or r)
+            (same-test _ _ (λ s. let p = some-at (λ i. z i x y) e b s in some-of (λ i. z i x y) e a (p .at) (omega (arith, p .from)) (p .to) (p .passes))
+            (λ s.
+            let p = some-at (λ i. z i x y) e a s in
+            ⊎-elim (λ q. absurd (clash (p .passes) (none (p .at) x y (p .from) q (p .to)))) (λ q. some-of (λ i. z i x y) e b (p .at) q (p .to) (p .passes))
+            (split (p .at) b)))
+            ∙ m .rest x y hx hy;
+      }
 
   -- what z gives up to n it gives up to the last that passes p, where all else gives only what the table has
   pub mark-chain : {w : ℕ → ℕ → Bool} {a : ℕ} {t : List ℕ} (p : ℕ → Bool) (n : ℕ) → 1 ≤ a

@@ -1,34 +1,35 @@
 -- What was marked are the rival pairs; these are of transactions that the history has.
-use Prim.Native.Nat.{ℕ, _+_, _<_, _≤_}
+use Prim.Native.Nat.{ℕ, _+_, _*_, _<_, _≤_}
 use mathlib.Core.Path.{_≡_, refl, sym, ap, _∙_}
 use mathlib.Core.Bool.{Bool, true, false, not}
 use mathlib.Core.List.{List}
 use mathlib.Core.Logic.{⊎-elim}
 use native.Mathlib.Omega.{arith}
 use lib.Dec.{ltb}
+use lib.ListN.{getD}
 use borrow.Author.Tests.{eqb-true, eqb-false, eq-eqb, ne-eqb, le-ltb}
 use Rattle.base.specs.Base.{_and_, _or_, last}
 use Rattle.base.proofs.Tests.{clash, is-false, same-test, both, and-left, and-right, and-no-left, or-cases, or-on, or-off, not-true}
 use Rattle.base.proofs.Searches.{Passing, some-at, some-of, some-same, some-none}
 use Rattle.base.proofs.Chains.{last-passes, last-less}
 use Rattle.theory.specs.Leads.{via}
-use Rattle.rules.specs.History.{History, op, opCount, size, sourceOf, committed}
+use Rattle.rules.specs.History.{History, op, txCount, opCount, size, sourceOf, committed}
 use Rattle.rules.specs.Reads.{isExternal}
 use Rattle.rules.specs.Levels.{basic, writesKey, sees, settles, isRival, forced}
 use Rattle.rules.proofs.Committed.{committed-below}
-use Rattle.table.specs.Table.{historyOf, lastOf, prevOf, Held, Below}
+use Rattle.table.specs.Table.{historyOf, lastOf, prevOf, Held, HasTx, Below}
 use Rattle.table.proofs.Chain.{OnChain, sought-last, sought-prev}
 use Rattle.reads.proofs.Fitting.{source-less}
-use Rattle.bits.specs.Bits.{bitOf, Holds, Under, nothing, either}
-use Rattle.bits.proofs.Tables.{holds-same}
+use Rattle.bits.specs.Bits.{bitOf, Holds, Under, nothing, either, rowOf, Least}
+use Rattle.bits.proofs.Tables.{holds-same, row-own}
 use Rattle.pairs.specs.Pairs.{before, cell, across}
-use Rattle.pairs.proofs.Marking.{cell-is, cell-has, Marking, mark-chain, mark-down}
+use Rattle.pairs.proofs.Marking.{cell-is, cell-has, Marking, mark-chain, mark-down, mark-skip}
 use Rattle.pairs.proofs.Pairs.{basic-under, before-under, before-via}
 use Rattle.keys.specs.Keys.{Apart, Writes, Readers}
 use Rattle.keys.proofs.Keys.{apart-reads}
-use Rattle.rivals.specs.Rivals.{pairsFor, seenFrom, isAbove, canRival, fits, isHitOf, hitBit, hitBits, settlesIn, rivalBit, rivalBits, rivalsOf, rivals}
+use Rattle.rivals.specs.Rivals.{pairsFor, Told, seenFrom, isAbove, canRival, fits, isHitOf, hitBit, hitBits, settlesIn, rivalBit, rivalBits, rivalsOf, rivals}
 use Rattle.rivals.proofs.Hits.{hit-tx, hit-external, hit-fits, fits-hit, last-hit-of}
-use Rattle.rivals.proofs.Seen.{from-none, sees-above}
+use Rattle.rivals.proofs.Seen.{told-bit, from-none, sees-above}
 
 -- ── hits, marked from the last down ──
 
@@ -132,7 +133,7 @@ module _ (h : History) (level t2 t3 : ℕ) where
   pub not-aborted : committed h t2 ≡ false → NoRival h level t2 t3
   not-aborted c = record { none = λ i a b. is-false _ (λ e. clash (settled-in i e .0) c) }
 
-  pub not-told : 1 ≤ level → level ≤ 3 → pairsFor h level t2 t3 ≡ false → NoRival h level t2 t3
+  not-told : 1 ≤ level → level ≤ 3 → pairsFor h level t2 t3 ≡ false → NoRival h level t2 t3
   not-told from to k =
       record {
         none =
@@ -175,12 +176,13 @@ module _ (h : History) (level t2 t3 : ℕ) where
       (both _ _ (both _ _ (q .external) (ap not (ne-eqb _ _ (λ z. q .not-source (sym z))))) (q .key)))
 
   -- so what was marked is right: nothing, or the hits
+  no-bits : NoRival h level t2 t3 → (x y : ℕ) → rivalBits h level t3 t2 x y ≡ false
+  unfolding rivalBits rivalBit across cell
+  no-bits n x y = some-none (λ i. rivalBit h level t3 t2 i x y) (opCount h + 1) 1 (λ i a b. and-no-left _ _ (n .none i a (omega arith)))
+
   pub rival-none : {v : List ℕ} (E : ℕ → ℕ → Bool) → NoRival h level t2 t3 → Holds v E → Holds v (either E (rivalBits h level t3 t2))
-  unfolding either rivalBits rivalBit across cell
-  rival-none E n k =
-      holds-same k
-      (λ x y hx hy.
-      sym (or-off _ _ (some-none (λ i. rivalBit h level t3 t2 i x y) (opCount h + 1) 1 (λ i a b. and-no-left _ _ (n .none i a (omega arith))))))
+  unfolding either
+  rival-none E n k = holds-same k (λ x y hx hy. sym (or-off _ _ (no-bits n x y)))
 
   pub rival-hits : {v : List ℕ} {r : ℕ} (E : ℕ → ℕ → Bool) → 1 ≤ level → level ≤ 3 → (t2 ≡ t3 → ⊥) → committed h t2 ≡ true
       → r ≡ seenFrom h level t2 t3 → Holds v (either E (hitBits h t2 t3 r)) → Holds v (either E (rivalBits h level t3 t2))
@@ -191,6 +193,25 @@ module _ (h : History) (level t2 t3 : ℕ) where
       ap (λ (b : Bool). E x y or b)
       (some-same (λ i. hitBit h t2 t3 r i x y) (λ i. rivalBit h level t3 t2 i x y) (opCount h + 1) 1
       (λ i a b. ap (λ (b : Bool). cell b (sourceOf h i) t2 x y) (rw e (fits-settles n c i (sees-above h t2 t3 level from to i a (omega arith)))))))
+
+-- the rivals from a on are those from b on, the smallest bit of row t3 from a on
+module _ {h k s : List ℕ} {level : ℕ} (p : Told h k s level) {t3 : ℕ} (o : HasTx h t3) {a b : ℕ} (l : Least (rowOf (getD s (2 * t3) 0) (getD s (2 * t3 + 1) 0)) a 128 b) where
+  row-bit : (y : ℕ) → y < 128 → rowOf (getD s (2 * t3) 0) (getD s (2 * t3 + 1) 0) y ≡ bitOf s t3 y
+  row-bit y = row-own s t3 y
+
+  pub row-told : b ≤ txCount (historyOf h) → pairsFor (historyOf h) level b t3 ≡ true
+  row-told m =
+      let few : b < 128 = omega (arith, p .ready .settled .held .few) in
+      told-bit p o m ∙ sym (row-bit b few) ∙ l .hit few
+
+  pub row-skip : {w : ℕ → ℕ → Bool} {v : List ℕ} → Marking (rivalBits (historyOf h) level t3) w a (size (historyOf h)) v
+      → Marking (rivalBits (historyOf h) level t3) w b (size (historyOf h)) v
+  row-skip =
+      mark-skip (rivalBits (historyOf h) level t3) (l .from)
+      (λ i x y f m n.
+      let few : i < 128 = omega (arith, p .ready .settled .held .few) in
+      no-bits (historyOf h) level i t3
+      (not-told (historyOf h) level i t3 (p .from) (p .to) (told-bit p o (omega arith) ∙ sym (row-bit i few) ∙ l .none i f m few)) x y)
 
 -- ── all rivals ──
 

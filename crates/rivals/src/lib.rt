@@ -140,12 +140,11 @@ fn mark_hits(h: &[u64], k: &[u8], v: &mut [u64], x: u64, t2: usize, t3: usize, f
     }
 }
 
-// The pairs that the reads of t3 settle for t2: "Only committed transactions take part", and a rival is another than t3. Most are none by their words
-// alone: w has the keys that each transaction writes, r those that t3 reads.
+// The pairs that the reads of t3 settle for t2, which the level's pairs have before t3: "Only committed transactions take part", and a rival is another
+// than t3. Most are none by their words alone: w has the keys that each transaction writes, r those that t3 reads.
 fn mark_rival(
     h: &[u64],
     k: &[u8],
-    s: &[u64],
     w: &[u64; 128],
     v: &mut [u64],
     level: u8,
@@ -153,14 +152,11 @@ fn mark_rival(
     t3: usize,
     r: u64,
 )
-    requires { ⌜ Told (now h) (now k) (now s) level × (length (now v) ≡ 256) × HasTx (now h) t3 × (t2 ≤ txCount (historyOf (now h))) × Writers (historyOf (now h)) (opCount (historyOf (now h)) + 1) (now w) × Readers (historyOf (now h)) t3 0 r ⌝ }
+    requires { ⌜ Ready (now h) (now k) × (1 ≤ level) × (level ≤ 3) × (pairsFor (historyOf (now h)) level t2 t3 ≡ true) × (length (now v) ≡ 256) × HasTx (now h) t3 × (t2 ≤ txCount (historyOf (now h))) × Writers (historyOf (now h)) (opCount (historyOf (now h)) + 1) (now w) × Readers (historyOf (now h)) t3 0 r ⌝ }
     ensures { λ r. ⌜ Holds (now (v .exit)) (either (bitOf (now (v .entry))) (rivalBits (historyOf (now (h .entry))) level t3 t2)) ⌝ }
 {
     let x = w[t2];
     if !keys::meet(x, r) {
-        return;
-    }
-    if !bits::bit(s, t3, t2) {
         return;
     }
     if t2 == t3 {
@@ -172,7 +168,7 @@ fn mark_rival(
     mark_hits(h, k, v, x, t2, t3, seen_from(h, k, level, t2, t3));
 }
 
-// .. for any rival, 0 among them.
+// .. for any rival, 0 among them: only what the level's pairs have before t3 is looked at, row t3 of s.
 fn mark_rivals_of(
     h: &[u64],
     k: &[u8],
@@ -187,10 +183,12 @@ fn mark_rivals_of(
 {
     let n = table::txs(h);
     let r = keys::read_by(h, k, t3);
-    let mut t2 = 0;
+    let lo = s[2 * t3];
+    let hi = s[2 * t3 + 1];
+    let mut t2 = bits::least_of(lo, hi, 0);
     while t2 <= n {
-        mark_rival(h, k, s, w, v, level, t2, t3, r);
-        t2 += 1;
+        mark_rival(h, k, w, v, level, t2, t3, r);
+        t2 = bits::least_of(lo, hi, t2 + 1);
     }
 }
 

@@ -1,8 +1,8 @@
 use native.Mathlib.Omega.{arith}
 use borrow.Author.Needs.{needs}
-use Rattle.order.proofs.Smallest.{least-high, least-low, least-over, least-end}
-use Rattle.order.proofs.least_of.Statement.{statement}
-use Rattle.order.proofs.least_of.Tie as tie
+use Rattle.bits.proofs.Smallest.{least-high, least-low, least-over, least-end}
+use Rattle.bits.proofs.least_of.Statement.{statement}
+use Rattle.bits.proofs.least_of.Tie as tie
 
 returns : tie.Need-returns
 returns c = rw (c .if1 .taken) (least-end _)

@@ -1,9 +1,9 @@
 use Prim.Native.Nat.{_/_, _^_}
 use native.Mathlib.Omega.{arith}
 use borrow.Author.Needs.{needs}
-use Rattle.order.proofs.Smallest.{least-from, zeros-few}
-use Rattle.order.proofs.least.Statement.{statement}
-use Rattle.order.proofs.least.Tie as tie
+use Rattle.bits.proofs.Smallest.{least-from, zeros-few}
+use Rattle.bits.proofs.least.Statement.{statement}
+use Rattle.bits.proofs.least.Tie as tie
 
 cast-result : tie.Need-cast-result
 cast-result c = omega (arith, zeros-few (c .args .w / 2 ^ c .args .from))

@@ -2,3 +2,4 @@ pub mod Order
 pub mod Lists
 pub mod Forced
 pub mod Call
+pub mod One

@@ -5,14 +5,36 @@ use mathlib.Core.List.{List}
 use lib.ListN.{length}
 use Rattle.theory.specs.Leads.{via}
 use Rattle.rules.specs.History.{History, size}
-use Rattle.rules.specs.Reading.{read}
+use Rattle.rules.specs.Reading.{read, reading}
 use Rattle.rules.specs.Outcome.{findings, reported, outcome, acceptance, rejection, judgedRead}
 use Rattle.rules.specs.declared.Answer.{Answer}
 use Rattle.table.specs.Table.{historyOf}
 use Rattle.bits.specs.Bits.{bitOf, Holds}
+use Rattle.trace.specs.Trace.{TraceRead}
+use Rattle.trace.specs.declared.Out.{Out}
+use Rattle.trace.specs.declared.Out.the-variants.{Good, Bad}
+use Rattle.settling.specs.Settling.{Settles}
+use Rattle.reads.specs.Verdicts.{Classified}
 use Rattle.pairs.specs.Pairs.{Ready}
 use Rattle.lists.specs.Lists.{pairCount}
 use Rattle.judging.specs.declared.Counts.{Counts}
+
+-- ── what all levels share ──
+
+-- the trace s was read into the history of the table h, which has marks on those that count as committed, and k has what is to be known of its operations
+pub record ReadInto (s h k : List ℕ) : Type 0 where
+  pub ready : Ready h k
+  pub notes : ℕ
+  pub reads : reading s ≡ read (historyOf h) notes
+
+-- the answer r to the trace s, of which the tables h₀ and k₀ became h and k; g is the table as reading leaves it. Every word and byte is told: a refused
+-- trace is not gone on with
+pub record Prepared (r : Out) (s h₀ k₀ h k : List ℕ) : Type 0 where
+  pub g : List ℕ
+  pub read : TraceRead r g h₀ s
+  pub left : (n p : ℕ) → r ≡ Bad n p → (h ≡ g) × (k ≡ k₀)
+  pub settles : (n : ℕ) → r ≡ Good n → Settles g h
+  pub classified : (n : ℕ) → r ≡ Good n → Classified k₀ k (historyOf h)
 
 -- ── what is worked out ──
 

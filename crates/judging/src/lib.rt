@@ -5,12 +5,13 @@ ghost use Rattle.theory.specs.Leads.{via};
 ghost use Rattle.rules.specs.History.{size, committed};
 ghost use Rattle.rules.specs.Levels.{basic, isRival, forced};
 ghost use Rattle.rules.specs.Outcome.{reported, outcome, judged};
-ghost use Rattle.table.specs.Table.{historyOf, Settled};
+ghost use lib.ListN.{length};
+ghost use Rattle.table.specs.Table.{tableWords, historyOf, Settled};
 ghost use Rattle.bits.specs.Bits.{bitOf, Holds, Under};
 ghost use Rattle.order.specs.Sets.{Gathered};
 ghost use Rattle.pairs.specs.Pairs.{Ready, before};
 ghost use Rattle.lists.specs.Lists.{Tables, Listing, Judging};
-ghost use Rattle.judging.specs.Judging.{Known, AtLevel, Counted, OnAcceptance, OnRejection, OnReading};
+ghost use Rattle.judging.specs.Judging.{Known, AtLevel, Counted, OnAcceptance, OnRejection, OnReading, Prepared};
 use order::Words;
 use rules::Answer;
 use trace::Out;
@@ -176,31 +177,45 @@ fn force(h: &[u64], k: &[u8], level: u8, f: &mut [u64; 256], s: &mut [u64; 256],
     lead(f, s, n);
 }
 
-// ── the call ──
+// ── the calls ──
 
-// A trace that was read, with marks on those that count as committed.
-fn judge_history(
+// What all levels share: the trace is read into h, those that count as committed get their marks there, and k gets what is to be known of each operation.
+pub fn prepare(trace: &[u8], h: &mut [u64], k: &mut [u8]) -> Out
+    requires { ⌜ (length (now h) ≡ tableWords) × (length (now k) ≡ 1025) ⌝ }
+    ensures { λ r. ⌜ Prepared r (now (trace .entry)) (now (h .entry)) (now (k .entry)) (now (h .exit)) (now (k .exit)) ⌝ }
+{
+    let read = trace::read_trace(trace, h);
+    match read {
+        Out::Bad(no, place) => Out::Bad(no, place),
+        Out::Good(notes) => {
+            settling::settle(h);
+            reads::classify(h, k);
+            Out::Good(notes)
+        }
+    }
+}
+
+// Judges at a level what was prepared. Whoever asks for several levels prepares once.
+pub fn judge_history(
     h: &[u64],
+    k: &[u8],
     level: u8,
     findings: &mut [u8],
     pairs: &mut [u8],
     order: &mut [u8],
 ) -> Answer
-    requires { ⌜ Settled (now h) × (1 ≤ level) × (level ≤ 3) ⌝ }
+    requires { ⌜ AtLevel (now h) (now k) level ⌝ }
     ensures { λ r. ⌜ OnReading (historyOf (now (h .entry))) level (now (findings .entry)) (now (pairs .entry)) (now (order .entry)) (now (findings .exit)) (now (pairs .exit)) (now (order .exit)) r ⌝ }
 {
-    let mut k = [0u8; 1025];
-    reads::classify(h, &mut k);
     let mut f = [0u64; 256];
     let mut s = [0u64; 256];
     let mut v = [0u64; 256];
-    force(h, &k, level, &mut f, &mut s, &mut v);
-    decide(h, &k, &f, &s, &v, findings, pairs, order)
+    force(h, k, level, &mut f, &mut s, &mut v);
+    decide(h, k, &f, &s, &v, findings, pairs, order)
 }
 
 // Judges the trace at a level: 1 read committed, 2 read atomicity, 3 transactional causal consistency. What each answer means, and what each buffer then
 // holds, is the outcome that the definition gives these bytes, this level and these buffers. "Order: 1, 2, then record by record."
-// Who counts as committed is worked out once, behind the reading.
 pub fn judge(
     trace: &[u8],
     level: u8,
@@ -217,12 +232,10 @@ pub fn judge(
         return Answer::Refused(1, 0);
     }
     let mut h = [0u64; WORDS];
-    let read = trace::read_trace(trace, &mut h);
+    let mut k = [0u8; 1025];
+    let read = prepare(trace, &mut h, &mut k);
     match read {
         Out::Bad(no, place) => Answer::Refused(no, place),
-        Out::Good(_) => {
-            settling::settle(&mut h);
-            judge_history(&h, level, findings, pairs, order)
-        }
+        Out::Good(_) => judge_history(&h, &k, level, findings, pairs, order),
     }
 }

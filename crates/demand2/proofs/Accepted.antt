@@ -8,50 +8,27 @@ use native.Mathlib.Omega.{arith}
 use lib.ListN.{length}
 use lib.Dec.{ltb}
 use borrow.Author.Tests.{ltb-true, lt-ltb}
-use Rattle.base.specs.Base.{_and_, count, those}
-use Rattle.base.proofs.Tests.{clash, is-false, both, and-left, and-right, split}
-use Rattle.theory.specs.Leads.{Leads, step, then, Listed, isListed}
+use Rattle.base.specs.Base.{_and_, count}
+use Rattle.base.proofs.Tests.{both, and-left, and-right, split}
+use Rattle.theory.specs.Leads.{Leads, step, then, Listed}
 use Rattle.theory.specs.Order.{place, Lawful}
-use Rattle.theory.proofs.Leads.{listed-iff, none-listed}
+use Rattle.theory.proofs.Leads.{none-listed}
 use Rattle.theory.proofs.Places.{place-at, place-same}
 use Rattle.theory.proofs.Entries.{number-one, those-all-of, number-those}
 use Rattle.theory.proofs.Order.{rest-is-first, lawful-iff, lawful-length, lex-both}
 use Rattle.rules.specs.History.{History, size, committed}
 use Rattle.rules.specs.Levels.{forced}
 use Rattle.rules.specs.Numbers.{over}
-use Rattle.rules.specs.Outcome.{Pair, pairsOf, pairs, order, isAccepted, Outcome}
+use Rattle.rules.specs.Outcome.{pairs, order, isAccepted, Outcome}
+use Rattle.rules.proofs.Forced.{forces, pairs-iff}
 use Rattle.rules.proofs.Outcome.{accepted-empty}
 use Rattle.demand1.specs.Lawful.{LawfulHistory}
 use Rattle.demand2.specs.Kinds.{AllClean}
 use Rattle.demand2.specs.Axiom.{Member, StrictTotal, Commits, SomeOrder, ByTest, HasOrder, Lists, StandsBefore, Shows, FirstShown}
 use Rattle.demand2.specs.Accepted.{CommittedCount, OrderWritten}
-use Rattle.base.proofs.Empty.{parts-none, those-none, joined-empty}
 use Rattle.demand2.proofs.Kind.{findings-iff}
-use Rattle.demand2.proofs.Pairs.{member, in-members, forces}
+use Rattle.demand2.proofs.Pairs.{member, in-members}
 use Rattle.demand2.proofs.Axiom.{obeys-iff}
-
--- ── listed pairs ──
-
-module _ {h : History} (ok : LawfulHistory h) (level : ℕ) where
-  -- one transaction is the first of no pair
-  pairsOf-iff : (a : ℕ) → (pairsOf h level a ≡ []) ↔ ((b : ℕ) → Listed (forced h level) a b → ⊥)
-  unfolding pairsOf
-  pairsOf-iff a =
-      let w = forces ok level in
-      let test : ℕ → Bool = isListed (size h) (forced h level) a in
-      let j = joined-empty {B = Pair} (λ b. record { one = a; two = b }) (those 0 (size h) test) in (
-        λ e b l. clash (listed-iff w a b .1 l) (those-none test 0 (size h) .0 (j .0 e) b (omega arith) (w .second-in a b (l .forced) .0)),
-        λ f. j .1 (those-none test 0 (size h) .1 (λ b _ l. is-false _ (λ t. f b (listed-iff w a b .0 t)))),
-      )
-
-  -- the list of pairs is empty exactly if no pair is listed
-  pub pairs-iff : (pairs h level ≡ []) ↔ ((a b : ℕ) → Listed (forced h level) a b → ⊥)
-  unfolding pairs
-  pairs-iff =
-      let p = parts-none (pairsOf h level) 0 (size h) in (
-        λ e a b l. pairsOf-iff a .0 (p .0 e a (omega arith) (forces ok level .first-in a b (l .forced) .0)) b l,
-        λ f. p .1 (λ a _ _. pairsOf-iff a .1 (f a)),
-      )
 
 -- ── orders as lists ──
 
@@ -102,7 +79,7 @@ module _ {h : History} (ok : LawfulHistory h) {level : ℕ} (low : 1 ≤ level) 
                 order = lists-total l;
                 obeys =
                     obeys-iff ok clean (StandsBefore o) low high (lists-total l) .1
-                    (λ a b e. let m = forces ok level .second-in a b e in record { earlier = w .before a b e; there = w .has b (m .0) (m .1) });
+                    (λ a b e. let m = forces h level .second-in a b e in record { earlier = w .before a b e; there = w .has b (m .0) (m .1) });
               };
         },
   )
@@ -118,20 +95,20 @@ module _ {h : History} (ok : LawfulHistory h) {level : ℕ} (low : 1 ≤ level) 
   -- no pair is listed exactly if some list shows a commit order
   pub no-pairs-iff : (pairs h level ≡ []) ↔ ((o : List ℕ) × Shows h level o)
   no-pairs-iff =
-      let p = pairs-iff ok level in
-      let l = lawful-iff (forces ok level) in
+      let p = pairs-iff h level in
+      let l = lawful-iff (forces h level) in
       (λ e. let o = l .1 (p .0 e) in (o .0, shows-iff (o .0) .1 (o .1)), λ s. p .1 (l .0 (s .0, shows-iff (s .0) .0 (s .1))))
 
   -- a commit order exists exactly if some list shows one
   pub commits-iff : ((C : ℕ → ℕ → Type 0) × Commits h level C) ↔ ((o : List ℕ) × Shows h level o)
   commits-iff =
-      (λ c. no-pairs-iff .0 (pairs-iff ok level .1 (commits-none (c .0) (c .1))), λ s. (StandsBefore (s .0), s .1 .commits))
+      (λ c. no-pairs-iff .0 (pairs-iff h level .1 (commits-none (c .0) (c .1))), λ s. (StandsBefore (s .0), s .1 .commits))
 
   -- the order that is computed is then the first such list, and has each committed transaction once
   pub order-is-first : {o : List ℕ} → Shows h level o → FirstShown h level (order h level)
   unfolding order
   order-is-first {o} s =
-      let r = rest-is-first (forces ok level) (shows-iff o .0 s) in
+      let r = rest-is-first (forces h level) (shows-iff o .0 s) in
       record { shows = shows-iff _ .1 (r .lawful); first = λ q t. r .first (shows-iff q .0 t) }
 
   pub shown-length : {o : List ℕ} → Shows h level o → length o ≡ count 0 (size h) (committed h)

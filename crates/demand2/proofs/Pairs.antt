@@ -1,4 +1,4 @@
--- Clean external reads, basic pairs and what they lead to, as the axioms speak of them; forced pairs are of committed transactions.
+-- Clean external reads, basic pairs and what they lead to, as the axioms speak of them; forced pairs in parts.
 use Prim.Native.Nat.{ℕ, _+_, _≤_}
 use mathlib.Core.Path.{_≡_, refl, ap, sym, _∙_}
 use mathlib.Core.Bool.{true, not}
@@ -10,13 +10,11 @@ use Rattle.base.specs.Base.{_or_}
 use Rattle.base.proofs.Tests.{ifso, is-true, not-true, both, and-left, and-right, or-cases, or-left, or-right}
 use Rattle.base.proofs.Searches.{some-at, some-of}
 use Rattle.theory.specs.Leads.{Leads, step, then}
-use Rattle.theory.specs.Order.{Forces}
 use Rattle.theory.proofs.Leads.{via-leads, leads-via}
 use Rattle.rules.specs.History.{History, op, opCount, size, originOf, sourceOf, committed}
 use Rattle.rules.specs.Reads.{kindOf, isExternal, readsFrom}
 use Rattle.rules.specs.Levels.{isStart, isSession, isRead, basic, leads, writesKey, sees, settles, isRival, forced}
 use Rattle.rules.proofs.History.{status-0}
-use Rattle.rules.proofs.Committed.{committed-0}
 use Rattle.rules.proofs.Origin.{origin-zero, source-none}
 use Rattle.demand1.specs.Lawful.{LawfulHistory}
 use Rattle.demand2.specs.Counts.{Counts, by-status}
@@ -269,32 +267,10 @@ module _ {h : History} (ok : LawfulHistory h) (level : ℕ) where
       is-rival (member ok (and-left _ _ s)) (settles-at ok level a b (r .at) (r .from) (omega (arith, r .to)) (r .passes)))
       (or-cases _ _ e)
 
-  -- forced pairs are of two different committed transactions
-  forced-members : {a b : ℕ} → ForcedBy h level a b → Member h a × Member h b
-  forced-members (is-basic s) = based-members ok s
-  forced-members (is-rival m s) =
-      let x = s .external in
-      (m, source-member ok (external-reads ok x refl (s .source)) (clean-iff ok (x .judged) .0 (x .kind-0)))
-
+  -- forced pairs are of two different transactions
   forced-differ : {a b : ℕ} → ForcedBy h level a b → a ≡ b → ⊥
   forced-differ (is-basic s) = based-apart s
   forced-differ (is-rival m s) = s .not-source
 
   pub forced-apart : (a b : ℕ) → forced h level a b ≡ true → a ≡ b → ⊥
   forced-apart a b e = forced-differ (forced-at a b e)
-
-  -- 0 before every other
-  forced-start : (b : ℕ) → Member h b → (b ≡ 0 → ⊥) → forced h level 0 b ≡ true
-  unfolding forced basic
-  forced-start b m d = or-left _ _ (or-left _ _ (so-is ok 0 b (from-0 refl (omega arith) m)))
-
-  -- so they are such as the theorems on orders ask for
-  pub forces : Forces (size h) (committed h) (forced h level)
-  forces =
-      record {
-        some = omega arith;
-        zero-in = committed-0 h;
-        first-in = λ a b e. let m = forced-members (forced-at a b e) .0 in (m .below, in-members ok m);
-        second-in = λ a b e. let m = forced-members (forced-at a b e) .1 in (m .below, in-members ok m);
-        start = λ b l m d. forced-start b (member ok m) d;
-      }

@@ -17,8 +17,9 @@ use Rattle.rules.specs.Outcome.{Pair, pairsOf, pairs}
 use Rattle.demand1.specs.Lawful.{LawfulHistory}
 use Rattle.demand2.specs.Kinds.{AllClean}
 use Rattle.demand2.specs.Axiom.{Member, HasOrder}
-use Rattle.demand2.proofs.Pairs.{member, forced-apart, forces}
-use Rattle.demand2.proofs.Accepted.{pairs-iff, empty-pairs-iff}
+use Rattle.rules.proofs.Forced.{forces, pairs-iff}
+use Rattle.demand2.proofs.Pairs.{member, forced-apart}
+use Rattle.demand2.proofs.Accepted.{empty-pairs-iff}
 use Rattle.demand3.specs.Forced.{Way, one, more, IsForced, ListedPair}
 use Rattle.demand3.specs.Lists.{PairBefore, by-first, by-second, Pairs}
 use Rattle.demand3.proofs.Forced.{leads-way, way-leads, forced-iff}
@@ -61,7 +62,7 @@ module _ {h : History} (ok : LawfulHistory h) {level : ℕ} (low : 1 ≤ level) 
   -- the test for a listed pair is right
   pub listed-pair-iff : (a b : ℕ) → (isListed (size h) (forced h level) a b ≡ true) ↔ ListedPair h level a b
   listed-pair-iff a b =
-      let t = listed-iff (forces ok level) a b in
+      let t = listed-iff (forces h level) a b in
       let d = forced-iff ok low high in (
         λ e. let l = t .0 e in record { forced = d a b .0 (l .forced); back = leads-way d (l .back) },
         λ l. t .1 (record { forced = d a b .1 (l .forced); back = way-leads d (l .back) }),
@@ -70,7 +71,7 @@ module _ {h : History} (ok : LawfulHistory h) {level : ℕ} (low : 1 ≤ level) 
   -- a listed pair is of two different committed transactions
   pub listed-members : {a b : ℕ} → ListedPair h level a b → Member h a × Member h b
   listed-members {a} {b} l =
-      let f = forces ok level in
+      let f = forces h level in
       let e = forced-iff ok low high a b .1 (l .forced) in
       (member ok (f .first-in a b e .1), member ok (f .second-in a b e .1))
 
@@ -125,9 +126,9 @@ module _ {h : History} (ok : LawfulHistory h) {level : ℕ} (low : 1 ≤ level) 
   -- when all reads are clean, no pair is listed exactly if there is a commit order
   pub none-listed-iff : AllClean h → ((a b : ℕ) → ListedPair h level a b → ⊥) ↔ HasOrder h level
   none-listed-iff clean =
-      let p = pairs-iff ok level in
+      let p = pairs-iff h level in
       let n = empty-pairs-iff ok low high clean in
-      let t = listed-iff (forces ok level) in (
+      let t = listed-iff (forces h level) in (
         λ f. n .0 (p .1 (λ a b l. f a b (listed-pair-iff a b .0 (t a b .1 l)))),
         λ s a b l. p .0 (n .1 s) a b (t a b .0 (listed-pair-iff a b .1 l)),
       )

@@ -7,4 +7,5 @@ pub mod Meeting
 pub mod Walking
 pub mod Kind
 pub mod Lists
+pub mod Forced
 pub mod Outcome

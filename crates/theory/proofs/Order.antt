@@ -319,6 +319,26 @@ module _ {n : ℕ} {m : ℕ → Bool} {f : ℕ → ℕ → Bool} where
       unfolding rest
       rest-lawful = fits-lawful w starts-none (fill-fits (unplaced n m []) [] refl)
 
+    -- what is filled fits as well where it has as many as are unplaced
+    fill-whole : (k : ℕ) (p : List ℕ) → unplaced n m p ≡ k → length (fill n m f k p) ≡ k → NextFits n m f p (fill n m f k p)
+    unfolding fill
+    fill-whole zero p e g = done (none-unplaced n m p e)
+    fill-whole (suc k) p e g =
+        ⊎-elim
+        (λ l.
+        let z = rw (fill-step n m f p k l) at g in
+        rw (fill-step n m f p k l)
+        (more (next-ready n m f p l) (fill-whole k (p ++ (next n m f p ∷ [])) (omega (arith, unplaced-step n m f p l)) (omega arith))))
+        (λ h. absurd (let z = rw (fill-end n m f p (suc k) h) at g in omega arith)) (split (next n m f p) n)
+
+    rest-whole : length (rest n m f []) ≡ count 0 n m → Lawful n m f (rest n m f [])
+    unfolding rest
+    rest-whole e = fits-lawful w starts-none (fill-whole (unplaced n m []) [] refl (e ∙ sym (unplaced-all n m)))
+
+    -- so no pair is listed exactly if `rest` has every member
+    pub whole-iff : (length (rest n m f []) ≡ count 0 n m) ↔ ((a b : ℕ) → Listed f a b → ⊥)
+    whole-iff = (λ e. none-listed (lawful-free (rest-whole e)), λ h. lawful-length (rest-lawful (listed-none h)))
+
     -- a lawful order exists exactly if no pair is listed
     pub lawful-iff : ((o : List ℕ) × Lawful n m f o) ↔ ((a b : ℕ) → Listed f a b → ⊥)
     lawful-iff = (λ l. none-listed (lawful-free (l .1)), λ h. (rest n m f [], rest-lawful (listed-none h)))

@@ -1,23 +1,23 @@
 -- What a level forces, as the tables have it.
 use Prim.Native.Nat.{ℕ, _+_}
-use mathlib.Core.Path.{_≡_}
+use mathlib.Core.Path.{_≡_, ap}
+use mathlib.Core.Bool.{Bool}
 use mathlib.Core.List.{List}
 use lib.Dec.{eqb}
-use borrow.Author.Tests.{eqb-true, eqb-false}
-use Rattle.base.proofs.Tests.{ifso}
+use borrow.Author.Tests.{eqb-true, eqb-false, ne-eqb}
+use Rattle.base.proofs.Tests.{ifso, pick-off}
 use Rattle.theory.specs.Leads.{via}
 use Rattle.rules.specs.History.{txCount, size}
-use Rattle.rules.specs.Levels.{basic, isRival, forced}
+use Rattle.rules.specs.Levels.{basic, leads, isRival}
 use Rattle.table.specs.Table.{historyOf}
 use Rattle.bits.specs.Bits.{bitOf, Holds, Under, either}
 use Rattle.pairs.specs.Pairs.{before}
 use Rattle.pairs.proofs.Pairs.{basic-closes, basic-leads}
-use Rattle.rivals.specs.Rivals.{Told}
+use Rattle.rivals.specs.Rivals.{pairsFor, Told}
 use Rattle.rivals.proofs.Seen.{goes-by-basic, goes-by-leads}
 use Rattle.rivals.proofs.Rivals.{forced-closes, forced-leads, basic-joined}
-use Rattle.lists.specs.Lists.{Listing, Judging}
-use Rattle.lists.proofs.Levels.{told-listing}
-use Rattle.judging.specs.Judging.{Known, AtLevel}
+use Rattle.lists.specs.Lists.{Judging}
+use Rattle.judging.specs.Judging.{Known, AtLevel, Forcing}
 
 -- x: the number of transactions; b: basic pairs
 module _ {h k : List ℕ} {level : ℕ} (a : AtLevel h k level) {x : ℕ} (e : x ≡ txCount (historyOf h)) {b : List ℕ}
@@ -37,18 +37,27 @@ module _ {h k : List ℕ} {level : ℕ} (a : AtLevel h k level) {x : ℕ} (e : x
             (λ t. goes-by-basic (historyOf h) level (eqb-false level 3 t) (rw (w .same (eqb-false level 3 t)) basics));
       }
 
-  -- f: these and the rivals v
-  module _ {f v : List ℕ} (rivals : Holds v (before (isRival (historyOf h) level))) (both : Holds f (either (bitOf b) (bitOf v))) where
-    forces : Holds f (before (forced (historyOf h) level))
-    forces = basic-joined (historyOf h) level basics rivals both
+-- the basic pairs that s has but at level 3
+pub told-basic : {h k s : List ℕ} {level : ℕ} → Told h k s level → (level ≡ 3 → ⊥) → Holds s (before (basic (historyOf h)))
+unfolding pairsFor
+told-basic {h} {level = level} t n =
+    rw (ap (λ (f : ℕ → ℕ → Bool). before f) (pick-off (eqb level 3) (leads (historyOf h)) (basic (historyOf h)) (ne-eqb level 3 n))) at (t .seen)
 
-    pub forced-below : Under (x + 1) f
-    forced-below = rw e (forced-closes (a .ready .settled .held) level forces)
+-- f: basic pairs b and the rivals v
+pub forcing : {h k b f v : List ℕ} {level : ℕ} → AtLevel h k level → Holds b (before (basic (historyOf h))) → Holds v (before (isRival (historyOf h) level))
+    → Holds f (either (bitOf b) (bitOf v)) → Forcing h k f v level
+forcing {h} {level = level} a basics rivals both =
+    record { ready = a .ready; forces = basic-joined (historyOf h) level basics rivals both; rivals = rivals }
+
+-- x: the number of transactions; s: what leads to what through f
+module _ {h k f v : List ℕ} {level : ℕ} (w : Forcing h k f v level) where
+  pub forced-below : Under (size (historyOf h)) f
+  forced-below = forced-closes (w .ready .settled .held) level (w .forces)
+
+  module _ {x : ℕ} (e : x ≡ txCount (historyOf h)) where
+    pub forced-under : Under (x + 1) f
+    forced-under = rw e forced-below
 
     pub judging : {s : List ℕ} → Holds s (via (bitOf f) (x + 1)) → Judging h k f s v level
     judging l =
-        record { ready = a .ready; forces = forces; leads = forced-leads (a .ready .settled .held) level forces (rw e at l); rivals = rivals }
-
--- what deciding asks for
-pub decidable : {h k f s v : List ℕ} {level : ℕ} → Judging h k f s v level → Listing h k f s v × Under (size (historyOf h)) f
-decidable {level = level} j = (told-listing j, forced-closes (j .ready .settled .held) level (j .forces))
+        record { ready = w .ready; forces = w .forces; leads = forced-leads (w .ready .settled .held) level (w .forces) (rw e at l); rivals = w .rivals }

@@ -2,11 +2,12 @@
 use Prim.Native.Nat.{ℕ, _≤_}
 use mathlib.Core.Path.{_≡_}
 use mathlib.Core.List.{List}
-use lib.ListN.{length}
+use lib.ListN.{length, take}
 use Rattle.theory.specs.Leads.{via}
 use Rattle.rules.specs.History.{History, size}
 use Rattle.rules.specs.Reading.{read, reading}
-use Rattle.rules.specs.Outcome.{findings, reported, outcome, acceptance, rejection, judgedRead}
+use Rattle.rules.specs.Levels.{isRival, forced}
+use Rattle.rules.specs.Outcome.{findings, order, reported, outcome, acceptance, rejection, judgedRead}
 use Rattle.rules.specs.declared.Answer.{Answer}
 use Rattle.table.specs.Table.{historyOf}
 use Rattle.bits.specs.Bits.{bitOf, Holds}
@@ -15,7 +16,7 @@ use Rattle.trace.specs.declared.Out.{Out}
 use Rattle.trace.specs.declared.Out.the-variants.{Good, Bad}
 use Rattle.settling.specs.Settling.{Settles}
 use Rattle.reads.specs.Verdicts.{Classified}
-use Rattle.pairs.specs.Pairs.{Ready}
+use Rattle.pairs.specs.Pairs.{Ready, before}
 use Rattle.lists.specs.Lists.{pairCount}
 use Rattle.judging.specs.declared.Counts.{Counts}
 
@@ -49,12 +50,24 @@ pub record AtLevel (h k : List ℕ) (level : ℕ) : Type 0 where
   pub from : 1 ≤ level
   pub to : level ≤ 3
 
+-- .. with the pairs that it forces, f, of which v are the rivals
+pub record Forcing (h k f v : List ℕ) (level : ℕ) : Type 0 where
+  pub ready : Ready h k
+  pub forces : Holds f (before (forced (historyOf h) level))
+  pub rivals : Holds v (before (isRival (historyOf h) level))
+
 -- how many findings and listed pairs there are, where f has the forced pairs, and c what leads to what through them
 pub record Counted (h f c : List ℕ) (n : Counts) : Type 0 where
   pub found : n .findings ≡ length (findings (historyOf h))
   pub found-few : n .findings ≤ 1024
   pub listed : n .pairs ≡ pairCount f c (size (historyOf h))
   pub listed-few : n .pairs ≤ 16384
+
+-- the order by the document's rule fills the first n bytes of b
+pub record Arranged (h : History) (level : ℕ) (b : List ℕ) (n : ℕ) : Type 0 where
+  pub long : n ≡ length (order h level)
+  pub shown : take n b ≡ order h level
+  pub room : n ≤ length b
 
 -- ── what is answered ──
 

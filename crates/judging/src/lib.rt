@@ -1,17 +1,20 @@
 // The judge: a trace, a level and three lent buffers in; the answer out, and the buffers as the definition's outcome says.
 ghost use mathlib.Core.Path.{_≡_};
+ghost use mathlib.Core.List.{List, []};
 ghost use Prim.Native.Nat.{ℕ, _+_, _≤_, _<_};
-ghost use Rattle.theory.specs.Leads.{via};
-ghost use Rattle.rules.specs.History.{size, committed};
-ghost use Rattle.rules.specs.Levels.{basic, isRival, forced};
-ghost use Rattle.rules.specs.Outcome.{reported, outcome, judged};
 ghost use lib.ListN.{length};
+ghost use Rattle.base.specs.Base.{pick, count};
+ghost use Rattle.theory.specs.Leads.{via};
+ghost use Rattle.rules.specs.History.{History, size, committed};
+ghost use Rattle.rules.specs.Levels.{basic, forced};
+ghost use Rattle.rules.specs.Outcome.{findings, pairs, reported, outcome, judged};
 ghost use Rattle.table.specs.Table.{tableWords, historyOf, Settled};
 ghost use Rattle.bits.specs.Bits.{bitOf, Holds, Under};
 ghost use Rattle.order.specs.Sets.{Gathered};
 ghost use Rattle.pairs.specs.Pairs.{Ready, before};
+ghost use Rattle.rivals.specs.Rivals.{Told};
 ghost use Rattle.lists.specs.Lists.{Tables, Listing, Judging};
-ghost use Rattle.judging.specs.Judging.{Known, AtLevel, Counted, OnAcceptance, OnRejection, OnReading, Prepared};
+ghost use Rattle.judging.specs.Judging.{Known, AtLevel, Forcing, Counted, Arranged, OnAcceptance, OnRejection, OnReading, Prepared};
 use order::Words;
 use rules::Answer;
 use trace::Out;
@@ -47,19 +50,51 @@ fn members(h: &[u64]) -> Words
     w
 }
 
+// n and, where transaction t counts as committed, one more.
+fn count_on(h: &[u64], n: usize, t: usize) -> usize
+    requires { ⌜ Settled (now h) × (n ≤ 127) ⌝ }
+    ensures { λ r. ⌜ r ≡ n + pick (committed (historyOf (now (h .entry))) t) 1 0 ⌝ }
+{
+    if reads::is_committed(h, t) {
+        return n + 1;
+    }
+    n
+}
+
+// How many transactions count as committed, 0 among them.
+fn count_members(h: &[u64]) -> usize
+    requires { ⌜ Settled (now h) ⌝ }
+    ensures { λ r. ⌜ r ≡ count 0 (size (historyOf (now (h .entry)))) (committed (historyOf (now (h .entry)))) ⌝ }
+{
+    let last = table::txs(h);
+    let mut n = 0;
+    let mut t = 0;
+    while t <= last {
+        n = count_on(h, n, t);
+        t += 1;
+    }
+    n
+}
+
 // ── acceptance ──
 
-// The order is worked out beside the caller's buffer, so that one that is too short is not touched: "on acceptance only, 14".
-fn accept(h: &[u64], f: &[u64; 256], out: &mut [u8]) -> Answer
-    requires { ⌜ Settled (now h) × Under (size (historyOf (now h))) (now f) ⌝ }
-    ensures { λ r. ⌜ ((level : ℕ) → Holds (now (f .entry)) (before (forced (historyOf (now (h .entry))) level)) → OnAcceptance (historyOf (now (h .entry))) level (now (out .entry)) (now (out .exit)) r) ⌝ }
+// The order by the document's rule, beside the caller's buffer, so that one that is too short is not touched. Answers how many places it fills.
+fn arrange(h: &[u64], f: &[u64; 256], shown: &mut [u8; 128]) -> usize
+    requires { ⌜ Settled (now h) × Under (size (historyOf (now h))) (now f) × (length (now shown) ≡ 128) ⌝ }
+    ensures { λ r. ⌜ ((level : ℕ) → Holds (now (f .entry)) (before (forced (historyOf (now (h .entry))) level)) → Arranged (historyOf (now (h .entry))) level (now (shown .exit)) r) ⌝ }
 {
-    let mut shown = [0u8; 128];
-    let n = order::order_all(f, table::txs(h) + 1, members(h), &mut shown);
+    order::order_all(f, table::txs(h) + 1, members(h), shown)
+}
+
+// "on acceptance only, 14"
+fn accept(shown: &[u8; 128], n: usize, out: &mut [u8]) -> Answer
+    requires { ⌜ n ≤ length (now shown) ⌝ }
+    ensures { λ r. ⌜ ((h : History) (level : ℕ) → Arranged h level (now (shown .entry)) n → OnAcceptance h level (now (out .entry)) (now (out .exit)) r) ⌝ }
+{
     if out.len() < n {
         return Answer::Refused(14, n);
     }
-    copying::copy(&shown, n, out);
+    copying::copy(shown, n, out);
     Answer::Accepted(n)
 }
 
@@ -108,10 +143,8 @@ fn reject(
     Answer::Rejected(n.findings, n.pairs)
 }
 
-// ── deciding ──
-
-// "Accepted: no finding and no listed pair"
-fn decide(
+// .. where a pair is listed, so that both lists have to be told.
+fn reject_listed(
     h: &[u64],
     k: &[u8],
     f: &[u64; 256],
@@ -119,16 +152,45 @@ fn decide(
     v: &[u64; 256],
     findings: &mut [u8],
     pairs: &mut [u8],
-    order: &mut [u8],
 ) -> Answer
-    requires { ⌜ Listing (now h) (now k) (now f) (now c) (now v) × Under (size (historyOf (now h))) (now f) ⌝ }
-    ensures { λ r. ⌜ ((level : ℕ) → Judging (now (h .entry)) (now (k .entry)) (now (f .entry)) (now (c .entry)) (now (v .entry)) level → OnReading (historyOf (now (h .entry))) level (now (findings .entry)) (now (pairs .entry)) (now (order .entry)) (now (findings .exit)) (now (pairs .exit)) (now (order .exit)) r) ⌝ }
+    requires { ⌜ Listing (now h) (now k) (now f) (now c) (now v) ⌝ }
+    ensures { λ r. ⌜ ((level : ℕ) → Judging (now (h .entry)) (now (k .entry)) (now (f .entry)) (now (c .entry)) (now (v .entry)) level → OnRejection (historyOf (now (h .entry))) level (now (findings .entry)) (now (pairs .entry)) (now (findings .exit)) (now (pairs .exit)) r) ⌝ }
 {
     let n = count(h, k, f, c);
-    if n.findings + n.pairs == 0 {
-        return accept(h, f, order);
-    }
     reject(h, k, f, c, v, n, findings, pairs)
+}
+
+// .. for its n findings alone, where no pair is listed: the list of pairs is empty, and fits.
+fn reject_reads(h: &[u64], k: &[u8], n: usize, out: &mut [u8]) -> Answer
+    requires { ⌜ Ready (now h) (now k) × (n ≡ length (findings (historyOf (now h)))) × (n ≤ 1024) ⌝ }
+    ensures { λ r. ⌜ ((level : ℕ) (p : List ℕ) → (pairs (historyOf (now (h .entry))) level ≡ []) → OnRejection (historyOf (now (h .entry))) level (now (out .entry)) p (now (out .exit)) p r) ⌝ }
+{
+    if out.len() < 6 * n {
+        return Answer::Refused(12, 6 * n);
+    }
+    lists::put_findings(h, k, out);
+    Answer::Rejected(n, 0)
+}
+
+// ── deciding ──
+
+// Where no pair is listed, and the order fills n places: "Accepted: no finding and no listed pair".
+fn decide_placed(
+    h: &[u64],
+    k: &[u8],
+    shown: &[u8; 128],
+    n: usize,
+    findings: &mut [u8],
+    order: &mut [u8],
+) -> Answer
+    requires { ⌜ Ready (now h) (now k) × (n ≤ length (now shown)) ⌝ }
+    ensures { λ r. ⌜ ((level : ℕ) (p : List ℕ) → (pairs (historyOf (now (h .entry))) level ≡ []) → Arranged (historyOf (now (h .entry))) level (now (shown .entry)) n → OnReading (historyOf (now (h .entry))) level (now (findings .entry)) p (now (order .entry)) (now (findings .exit)) p (now (order .exit)) r) ⌝ }
+{
+    let found = lists::count_findings(h, k);
+    if found == 0 {
+        return accept(shown, n, order);
+    }
+    reject_reads(h, k, found, findings)
 }
 
 // ── what a level forces ──
@@ -143,38 +205,47 @@ fn lead(f: &[u64; 256], s: &mut [u64; 256], n: usize)
     bits::close(s, n);
 }
 
-// f: basic pairs; s gets what the search for rivals goes by. Levels 1 and 2 ask for one of them: "an earlier clean external read in t3, of any key, came
-// from t2", or "(t2, t3) is a basic pair". Level 3: "t2 leads to t3 through one or more basic pairs".
-fn know(level: u8, f: &[u64; 256], s: &mut [u64; 256], n: usize)
-    requires { ⌜ Under n (now f) ⌝ }
-    ensures { λ r. ⌜ Known level n (now (f .entry)) (now (s .exit)) ⌝ }
+// s: basic pairs, which become what the search for rivals goes by. Levels 1 and 2 ask for one of them: "an earlier clean external read in t3, of any key,
+// came from t2", or "(t2, t3) is a basic pair". Level 3: "t2 leads to t3 through one or more basic pairs".
+fn know(level: u8, s: &mut [u64; 256], n: usize)
+    requires { ⌜ Under n (now s) ⌝ }
+    ensures { λ r. ⌜ Known level n (now (s .entry)) (now (s .exit)) ⌝ }
 {
     if level == 3 {
-        lead(f, s, n);
-    } else {
-        bits::copy(f, s);
+        bits::close(s, n);
     }
 }
 
-// f: basic pairs; v gets the pairs that "the level adds". s: what the search goes by
-fn oppose(h: &[u64], k: &[u8], level: u8, f: &[u64; 256], s: &mut [u64; 256], v: &mut [u64; 256])
-    requires { ⌜ AtLevel (now h) (now k) level × Holds (now f) (before (basic (historyOf (now h)))) ⌝ }
-    ensures { λ r. ⌜ Holds (now (v .exit)) (before (isRival (historyOf (now (h .entry))) level)) ⌝ }
+// s gets what the search for rivals goes by.
+fn tell(h: &[u64], k: &[u8], level: u8, s: &mut [u64; 256])
+    requires { ⌜ AtLevel (now h) (now k) level × (length (now s) ≡ 256) ⌝ }
+    ensures { λ r. ⌜ Told (now (h .entry)) (now (k .entry)) (now (s .exit)) level ⌝ }
 {
-    know(level, f, s, table::txs(h) + 1);
-    rivals::fill_rivals(h, k, s, v, level);
+    pairs::fill_basic(h, k, s);
+    know(level, s, table::txs(h) + 1);
 }
 
-// f: forced pairs; v: rivals; s: what leads to what through forced pairs
-fn force(h: &[u64], k: &[u8], level: u8, f: &mut [u64; 256], s: &mut [u64; 256], v: &mut [u64; 256])
-    requires { ⌜ AtLevel (now h) (now k) level ⌝ }
-    ensures { λ r. ⌜ Judging (now (h .entry)) (now (k .entry)) (now (f .exit)) (now (s .exit)) (now (v .exit)) level ⌝ }
+// f gets the basic pairs, which s has but at level 3.
+fn put_basic(h: &[u64], k: &[u8], level: u8, s: &[u64; 256], f: &mut [u64; 256])
+    requires { ⌜ Told (now h) (now k) (now s) level × (length (now f) ≡ 256) ⌝ }
+    ensures { λ r. ⌜ Holds (now (f .exit)) (before (basic (historyOf (now (h .entry))))) ⌝ }
 {
-    let n = table::txs(h) + 1;
-    pairs::fill_basic(h, k, f);
-    oppose(h, k, level, f, s, v);
+    if level == 3 {
+        pairs::fill_basic(h, k, f);
+    } else {
+        bits::copy(s, f);
+    }
+}
+
+// f: forced pairs; v: "The level adds the pair t2 before t1"; s: what the search for these went by.
+fn force(h: &[u64], k: &[u8], level: u8, f: &mut [u64; 256], s: &mut [u64; 256], v: &mut [u64; 256])
+    requires { ⌜ AtLevel (now h) (now k) level × (length (now f) ≡ 256) × (length (now s) ≡ 256) × (length (now v) ≡ 256) ⌝ }
+    ensures { λ r. ⌜ Forcing (now (h .entry)) (now (k .entry)) (now (f .exit)) (now (v .exit)) level ⌝ }
+{
+    tell(h, k, level, s);
+    rivals::fill_rivals(h, k, s, v, level);
+    put_basic(h, k, level, s, f);
     bits::join(v, f);
-    lead(f, s, n);
 }
 
 // ── the calls ──
@@ -211,7 +282,14 @@ pub fn judge_history(
     let mut s = [0u64; 256];
     let mut v = [0u64; 256];
     force(h, k, level, &mut f, &mut s, &mut v);
-    decide(h, k, &f, &s, &v, findings, pairs, order)
+    let mut shown = [0u8; 128];
+    let n = arrange(h, &f, &mut shown);
+    // an order that has them all shows that no pair is listed: what leads to what through forced pairs is then not needed
+    if n == count_members(h) {
+        return decide_placed(h, k, &shown, n, findings, order);
+    }
+    lead(&f, &mut s, table::txs(h) + 1);
+    reject_listed(h, k, &f, &s, &v, findings, pairs)
 }
 
 // Judges the trace at a level: 1 read committed, 2 read atomicity, 3 transactional causal consistency. What each answer means, and what each buffer then

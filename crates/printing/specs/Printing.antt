@@ -1,16 +1,14 @@
 -- What the functions that put a trace's text together say of their parts.
 use Prim.Native.Nat.{ℕ, _+_, _*_, _≤_}
 use mathlib.Core.Path.{_≡_}
-use mathlib.Core.Bool.{Bool, true, false}
 use mathlib.Core.List.{List, _++_}
 use lib.ListN.{length, getD, take}
 use Rattle.base.specs.Base.{listed}
 use Rattle.rules.specs.Numbers.{le, over}
-use Rattle.rules.specs.Reading.{Reading, refused, read, reading}
-use Rattle.text.specs.Lines.{refusedLine, rejectedLine, readLine, pairLine}
+use Rattle.rules.specs.History.{History}
+use Rattle.text.specs.Lines.{rejectedLine, readLine, pairLine}
 use Rattle.text.specs.Answer.{blockText, answerText}
-use Rattle.show.specs.Laid.{Put}
-use Rattle.printing.specs.declared.Block.{Block}
+use Rattle.judging.specs.Judging.{ReadInto}
 use Rattle.printing.specs.declared.Lines.{Lines}
 use Rattle.printing.specs.declared.Lines.the-variants.{ReadLines, PairLines}
 
@@ -20,21 +18,16 @@ pub record Written (s o b : List ℕ) (n : ℕ) : Type 0 where
   pub short : n ≤ 1048576
   pub is : b ≡ over (take (length o) (answerText s)) o
 
--- ── a block ──
+-- ── the blocks ──
 
--- the text of one level's block, or the one line of a refused trace
-unfoldable pub blockOf : Reading → ℕ → List ℕ
-blockOf (refused n p) level = refusedLine n p
-blockOf (read h notes) level = blockText h level
+-- some trace was read into the tables h and k
+pub record Taken (h k : List ℕ) : Type 0 where
+  pub s : List ℕ
+  pub from : ReadInto s h k
 
-unfoldable pub isRefused : Reading → Bool
-isRefused (refused n p) = true
-isRefused (read h notes) = false
-
--- the block of a level was put into o at `at`; r says where it ends, and whether the trace was refused
-pub record BlockPut (s : List ℕ) (level : ℕ) (o : List ℕ) (at : ℕ) (b : List ℕ) (r : Block) : Type 0 where
-  pub text : Put o at b (r .end) (blockOf (reading s) level)
-  pub told : r .refused ≡ isRefused (reading s)
+-- "one block a level": those of a history, one behind the other
+abbrev pub blocksText : History → List ℕ
+blocksText h = blockText h 1 ++ (blockText h 2 ++ blockText h 3)
 
 -- ── a list in a buffer ──
 

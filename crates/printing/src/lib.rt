@@ -3,56 +3,63 @@ ghost use mathlib.Core.Path.{_≡_};
 ghost use Prim.Native.Nat.{_+_, _*_, _≤_, _<_};
 ghost use lib.ListN.{length, getD};
 ghost use Rattle.rules.specs.Numbers.{le};
-ghost use Rattle.rules.specs.Reading.{reading};
+ghost use Rattle.text.specs.Answer.{blockText};
+ghost use Rattle.table.specs.Table.{historyOf};
 ghost use Rattle.show.specs.Laid.{Put, Short};
-ghost use Rattle.printing.specs.Printing.{Written, blockOf, BlockPut, width, entryLine, listText, rejectedText};
+ghost use Rattle.printing.specs.Printing.{Written, Taken, blocksText, width, entryLine, listText, rejectedText};
 ghost use Rattle.printing.specs.declared.Lines.the-variants.{ReadLines, PairLines};
 use rules::Answer;
+use trace::Out;
 
-// The text of a trace's answer, as far as the buffer reaches. Answers how long it is.
+// The text of a trace's answer, as far as the buffer reaches. Answers how long it is. The trace is read once for all levels.
 pub fn put_answer(trace: &[u8], out: &mut [u8]) -> usize
     ensures { λ r. ⌜ Written (now (trace .entry)) (now (out .entry)) (now (out .exit)) r ⌝ }
 {
-    let first = put_block(trace, 1, out, 0);
-    if first.refused {
-        return first.end;
+    // The words of a history's table, and a byte for each of 1,024 operations behind that of number 0.
+    let mut h = [0u64; 2306];
+    let mut k = [0u8; 1025];
+    let read = judging::prepare(trace, &mut h, &mut k);
+    match read {
+        Out::Bad(no, place) => show::put_refused(out, 0, no as usize, place),
+        Out::Good(_) => put_blocks(&h, &k, out),
     }
-    let second = put_block(trace, 2, out, first.end);
-    let third = put_block(trace, 3, out, second.end);
-    third.end
 }
 
 // ── a block ──
 
-// Where a block's text ends, and whether it is that of a refusal.
-struct Block {
-    end: usize,
-    refused: bool,
+// The blocks of the three levels, each at the end of the one before.
+fn put_blocks(h: &[u64], k: &[u8], out: &mut [u8]) -> usize
+    requires { ⌜ Taken (now h) (now k) × Short 0 (blocksText (historyOf (now h))) ⌝ }
+    ensures { λ r. ⌜ Put (now (out .entry)) 0 (now (out .exit)) r (blocksText (historyOf (now (h .entry)))) ⌝ }
+{
+    let first = put_block(h, k, 1, out, 0);
+    let second = put_block(h, k, 2, out, first);
+    put_block(h, k, 3, out, second)
 }
 
 // Judges at one level and puts its block.
-fn put_block(trace: &[u8], level: u8, out: &mut [u8], at: usize) -> Block
-    requires { ⌜ (1 ≤ level) × (level ≤ 3) × Short at (blockOf (reading (now trace)) level) ⌝ }
-    ensures { λ r. ⌜ BlockPut (now (trace .entry)) level (now (out .entry)) at (now (out .exit)) r ⌝ }
+fn put_block(h: &[u64], k: &[u8], level: u8, out: &mut [u8], at: usize) -> usize
+    requires { ⌜ Taken (now h) (now k) × (1 ≤ level) × (level ≤ 3) × Short at (blockText (historyOf (now h)) level) ⌝ }
+    ensures { λ r. ⌜ Put (now (out .entry)) at (now (out .exit)) r (blockText (historyOf (now (h .entry))) level) ⌝ }
 {
     // Enough for 1,024 findings, for every pair of 128 transactions, and for an order of them.
     let mut findings = [0u8; 6144];
     let mut pairs = [0u8; 65536];
     let mut order = [0u8; 128];
-    let answer = judging::judge(trace, level, &mut findings, &mut pairs, &mut order);
+    let answer = judging::judge_history(h, k, level, &mut findings, &mut pairs, &mut order);
     match answer {
-        Answer::Refused(no, place) => Block {
-            end: show::put_refused(out, at, no as usize, place),
-            refused: true,
-        },
-        Answer::Rejected(reads, listed) => Block {
-            end: put_rejected(level, reads, listed, &findings, &pairs, out, at),
-            refused: false,
-        },
-        Answer::Accepted(n) => Block {
-            end: show::put_accepted(out, at, level, &order[..n]),
-            refused: false,
-        },
+        // Never given: the trace was read, and the buffers are long enough.
+        Answer::Refused(_, _) => at,
+        Answer::Rejected(reads, listed) => put_rejected(
+            level,
+            reads,
+            listed,
+            &findings,
+            &pairs,
+            out,
+            at,
+        ),
+        Answer::Accepted(n) => show::put_accepted(out, at, level, &order[..n]),
     }
 }
 

@@ -47,7 +47,7 @@ module _ (s : List ℕ) where
   at-read level e t = rw e t
 
   -- and none accepts what was not
-  at-none : {n p : ℕ} → reading s ≡ refused n p → (x : ℕ) → isAcceptedAt s x ≡ false
+  pub at-none : {n p : ℕ} → reading s ≡ refused n p → (x : ℕ) → isAcceptedAt s x ≡ false
   unfolding isAcceptedAt acceptedRead
   at-none e x = rw e
 

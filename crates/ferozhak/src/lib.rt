@@ -1,15 +1,19 @@
-// The calls for the index daemon, a C program: numbers and byte slices in, a number out. They know nothing of the judge but its contract.
+// The calls for the index daemon, a C program: numbers and byte slices in, a number out. They know nothing of the judge but its contracts.
 // include/ferozhak.h has them as C sees them.
 ghost use mathlib.Core.Path.{_≡_};
-ghost use Prim.Native.Nat.{_≤_};
+ghost use Prim.Native.Nat.{ℕ, _≤_};
+ghost use mathlib.Core.List.{List};
 ghost use lib.ListN.{length};
 ghost use Rattle.base.proofs.Fill.{Appended};
 ghost use Rattle.rules.specs.Outcome.{reported};
 ghost use Rattle.deciding.specs.Deciding.{decisionNo, decisionOf, wholeCounts, fiveBytes, countBytes, countsPut, decidedAs, decided, strongestNo, isAcceptedAt, strongest};
+ghost use Rattle.pairs.specs.Pairs.{Ready};
+ghost use Rattle.judging.specs.Judging.{ReadInto, AtLevel};
 ghost use Rattle.ferozhak.specs.Calls.{levelByte, LookSays, withoutLists, belowCausal};
 use deciding::Decision;
 use deciding::Strongest;
 use rules::Answer;
+use trace::Out;
 
 // ── the first call ──
 
@@ -135,36 +139,52 @@ fn strongest_number(level: Strongest) -> u32
     }
 }
 
-// A trace that no level accepts, for its reading or for an unclean read, shows at the first look: it is judged once.
+// The trace is read once for all levels; one that cannot be read is accepted by none.
 fn strongest_of(trace: &[u8]) -> Strongest
     ensures { λ r. ⌜ r ≡ strongest (now (trace .entry)) ⌝ }
 {
-    let third = look(trace, 3);
+    // The words of a history's table, and a byte for each number that an operation can have.
+    let mut h = [0u64; 2306];
+    let mut k = [0u8; 1025];
+    let read = judging::prepare(trace, &mut h, &mut k);
+    match read {
+        Out::Bad(_, _) => Strongest::NoLevel,
+        Out::Good(_) => strongest_of_history(&h, &k),
+    }
+}
+
+// A trace that no level accepts for an unclean read shows at the first look: it is judged once.
+fn strongest_of_history(h: &[u64], k: &[u8]) -> Strongest
+    requires { ⌜ Ready (now h) (now k) ⌝ }
+    ensures { λ r. ⌜ ((s : List ℕ) → ReadInto s (now (h .entry)) (now (k .entry)) → r ≡ strongest s) ⌝ }
+{
+    let third = look(h, k, 3);
     match third {
         Seen::Here => Strongest::Causal,
-        Seen::NotHere => below_causal(trace),
+        Seen::NotHere => below_causal(h, k),
         Seen::Nowhere => Strongest::NoLevel,
     }
 }
 
 // The stronger of the two other levels that accepts.
-fn below_causal(trace: &[u8]) -> Strongest
-    ensures { λ r. ⌜ r ≡ belowCausal (now (trace .entry)) ⌝ }
+fn below_causal(h: &[u64], k: &[u8]) -> Strongest
+    requires { ⌜ Ready (now h) (now k) ⌝ }
+    ensures { λ r. ⌜ ((s : List ℕ) → ReadInto s (now (h .entry)) (now (k .entry)) → r ≡ belowCausal s) ⌝ }
 {
-    if accepts(trace, 2) {
+    if accepts(h, k, 2) {
         return Strongest::ReadAtomicity;
     }
-    if accepts(trace, 1) {
+    if accepts(h, k, 1) {
         return Strongest::ReadCommitted;
     }
     Strongest::NoLevel
 }
 
-fn accepts(trace: &[u8], level: u8) -> bool
-    requires { ⌜ (1 ≤ level) × (level ≤ 3) ⌝ }
-    ensures { λ r. ⌜ r ≡ isAcceptedAt (now (trace .entry)) level ⌝ }
+fn accepts(h: &[u64], k: &[u8], level: u8) -> bool
+    requires { ⌜ AtLevel (now h) (now k) level ⌝ }
+    ensures { λ r. ⌜ ((s : List ℕ) → ReadInto s (now (h .entry)) (now (k .entry)) → r ≡ isAcceptedAt s level) ⌝ }
 {
-    let seen = look(trace, level);
+    let seen = look(h, k, level);
     match seen {
         Seen::Here => true,
         Seen::NotHere => false,
@@ -180,16 +200,16 @@ enum Seen {
 }
 
 // Judges at one level, with room for an order and none for lists. That is sound: a trace that is rejected has a finding or a pair, which needs 6 bytes or 4,
-// so its rejection shows as 12 or 13 and never as an acceptance; one that is accepted has an order of at most 128 bytes, so its acceptance never shows as 14;
-// and a trace that cannot be read is refused with 2 to 11, whatever is lent.
-fn look(trace: &[u8], level: u8) -> Seen
-    requires { ⌜ (1 ≤ level) × (level ≤ 3) ⌝ }
-    ensures { λ r. ⌜ LookSays (now (trace .entry)) level r ⌝ }
+// so its rejection shows as 12 or 13 and never as an acceptance; and one that is accepted has an order of at most 128 bytes, so its acceptance never shows as
+// 14.
+fn look(h: &[u64], k: &[u8], level: u8) -> Seen
+    requires { ⌜ AtLevel (now h) (now k) level ⌝ }
+    ensures { λ r. ⌜ ((s : List ℕ) → ReadInto s (now (h .entry)) (now (k .entry)) → LookSays s level r) ⌝ }
 {
     let mut findings = [0u8; 0];
     let mut pairs = [0u8; 0];
     let mut order = [0u8; 128];
-    let answer = judging::judge(trace, level, &mut findings, &mut pairs, &mut order);
+    let answer = judging::judge_history(h, k, level, &mut findings, &mut pairs, &mut order);
     match answer {
         Answer::Refused(no, _) => without_lists(no),
         Answer::Rejected(_, _) => Seen::NotHere,

@@ -15,7 +15,7 @@ use trace::Out;
 pub fn put_answer(trace: &[u8], out: &mut [u8]) -> usize
     ensures { λ r. ⌜ Written (now (trace .entry)) (now (out .entry)) (now (out .exit)) r ⌝ }
 {
-    // The words of a history's table, and a byte for each of 1,024 operations behind that of number 0.
+    // The words of a history's table, and a byte for each number that an operation can have.
     let mut h = [0u64; 2306];
     let mut k = [0u8; 1025];
     let read = judging::prepare(trace, &mut h, &mut k);
@@ -25,7 +25,7 @@ pub fn put_answer(trace: &[u8], out: &mut [u8]) -> usize
     }
 }
 
-// ── a block ──
+// ── the blocks ──
 
 // The blocks of the three levels, each at the end of the one before.
 fn put_blocks(h: &[u64], k: &[u8], out: &mut [u8]) -> usize

@@ -7,6 +7,6 @@ pub accepts-spec : {M : Type 1} → statement M
 accepts-spec =
     tie.close
     (tie.spec (λ c κs. search needs) (λ c. search needs) (λ c. search needs) (λ c. search needs)
-    (λ c. sym (rw (c .enum-told .given .1) at (c .before .before .look .ensures)))
-    (λ c. sym (rw (c .enum-told2 .given .1) at (c .before .before .look .ensures)))
-    (λ c. sym ((rw (c .enum-told3 .given .1) at (c .before .before .look .ensures)) _)))
+    (λ c s x. sym (rw (c .enum-told .given .1) at (c .before .before .look .ensures s x)))
+    (λ c s x. sym (rw (c .enum-told2 .given .1) at (c .before .before .look .ensures s x)))
+    (λ c s x. sym ((rw (c .enum-told3 .given .1) at (c .before .before .look .ensures s x)) _)))

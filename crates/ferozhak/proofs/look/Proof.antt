@@ -1,6 +1,7 @@
 use Prim.Native.Nat.{ℕ, _≤_}
 use native.Mathlib.Omega.{arith}
 use lib.ListN.{length, replicate, length-replicate}
+use Rattle.judging.proofs.Call.{call-read}
 use Rattle.ferozhak.proofs.Verdicts.{look-refused, look-rejected, look-accepted}
 use borrow.Author.Needs.{needs}
 use Rattle.ferozhak.proofs.look.Statement.{statement}
@@ -10,24 +11,27 @@ use Rattle.ferozhak.proofs.look.Tie as tie
 order-room : 128 ≤ length (replicate {A = ℕ} 128 0)
 order-room = omega (arith, length-replicate {A = ℕ} 128 0)
 
--- all that is known of the judge is its contract
+-- all that is known of the judge is its contracts
 returns : tie.Need-returns
-returns c =
+returns c s x =
     let judged = c .before .before .before .before .before .before .before in
-    let pre = judged .before .before .before .before .before .pre in
-    look-refused _ _ _ _ _ (pre .0) (pre .1) order-room _ (judged .judge .ensures) (c .before .before .answer .given .1) (c .without-lists .ensures)
+    let pre = judged .before .before .before .before .before .before .pre in
+    let is = call-read s (pre .from) (pre .to) _ _ _ x (judged .judge-history .ensures) in
+    look-refused s _ _ _ _ (pre .from) (pre .to) order-room _ is (c .before .before .answer .given .1) (c .without-lists .ensures)
 
 returns-2 : tie.Need-returns-2
-returns-2 c =
+returns-2 c s x =
     let judged = c .before .before .before .before .before in
-    let pre = judged .before .before .before .before .before .pre in
-    look-rejected _ _ _ _ _ (pre .0) (pre .1) order-room _ (judged .judge .ensures) (c .enum-told .given .1)
+    let pre = judged .before .before .before .before .before .before .pre in
+    let is = call-read s (pre .from) (pre .to) _ _ _ x (judged .judge-history .ensures) in
+    look-rejected s _ _ _ _ (pre .from) (pre .to) order-room _ is (c .enum-told .given .1)
 
 returns-3 : tie.Need-returns-3
-returns-3 c =
+returns-3 c s x =
     let judged = c .before .before .before .before .before in
-    let pre = judged .before .before .before .before .before .pre in
-    look-accepted _ _ _ _ _ (pre .0) (pre .1) order-room _ (judged .judge .ensures) (c .enum-told2 .given .1)
+    let pre = judged .before .before .before .before .before .before .pre in
+    let is = call-read s (pre .from) (pre .to) _ _ _ x (judged .judge-history .ensures) in
+    look-accepted s _ _ _ _ (pre .from) (pre .to) order-room _ is (c .enum-told2 .given .1)
 
 pub look-spec : {M : Type 1} → statement M
 look-spec =

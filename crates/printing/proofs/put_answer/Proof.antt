@@ -30,4 +30,5 @@ returns-2 c =
 pub put-answer-spec : {M : Type 1} → statement M
 put-answer-spec =
     tie.close
-    (tie.spec (λ c. search needs) (λ c. search needs) (λ c κs. search needs) (λ c. search needs) (λ c. search needs) put-refused-requires (λ c. search needs) (λ c. search needs) (λ c. search needs) put-blocks-requires (λ c. search needs) returns (λ c. search needs) returns-2)
+    (tie.spec (λ c. search needs) (λ c. search needs) (λ c κs. search needs) (λ c. search needs) (λ c. search needs) put-refused-requires
+    (λ c. search needs) (λ c. search needs) (λ c. search needs) put-blocks-requires (λ c. search needs) returns (λ c. search needs) returns-2)

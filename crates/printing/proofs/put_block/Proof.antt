@@ -57,4 +57,6 @@ returns-3 c =
 pub put-block-spec : {M : Type 1} → statement M
 put-block-spec =
     tie.close
-    (tie.spec (λ c. search needs) (λ c. search needs) (λ c. search needs) (λ c κs. search needs) (λ c. search needs) (λ c. search needs) (λ c. search needs) (λ c. search needs) put-rejected-requires (λ c. search needs) array-share-prefix-order slice-aggregate-put-accepted put-accepted-requires returns (λ c. search needs) returns-2 (λ c. search needs) returns-3)
+    (tie.spec (λ c. search needs) (λ c. search needs) (λ c. search needs) (λ c κs. search needs) (λ c. search needs) (λ c. search needs)
+    (λ c. search needs) (λ c. search needs) put-rejected-requires (λ c. search needs) array-share-prefix-order slice-aggregate-put-accepted
+    put-accepted-requires returns (λ c. search needs) returns-2 (λ c. search needs) returns-3)

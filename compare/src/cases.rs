@@ -1,7 +1,9 @@
 //! Traces whose answers are known: those of the specification, worked there by
-//! hand, its edges, unanswered commits, the writes of unclean reads, those of
-//! edition 2 and those with notes, each with what `judge` has to print.
+//! hand, its edges, unanswered commits, the writes of unclean reads, those whose
+//! keys share a bucket, those of edition 2 and those with notes, each with what
+//! `judge` has to print.
 
+use crate::bucket_cases;
 use crate::encode::Writer;
 use crate::note_cases;
 use crate::overlap_cases;
@@ -29,6 +31,7 @@ pub fn all() -> Vec<Case> {
     cases.extend(limits());
     cases.extend(framing());
     cases.extend(order_of_checks());
+    cases.extend(bucket_cases::all());
     cases.extend(overlap_cases::all());
     cases.extend(note_cases::all().into_iter().map(|known| known.case));
     cases

@@ -95,6 +95,7 @@ fn records(random: &mut Random, edition: Edition) -> Vec<u8> {
     // Most of these traces would stop at their first fault, so each trace has
     // its own readiness to make one.
     let fault = *random.pick(&[0, 1, 5, 20]);
+    let buckets = Buckets::drawn(random);
     for _ in 0..random.below(24) {
         let session = random.below(4) as u16;
         let is_inside = match edition {
@@ -105,7 +106,7 @@ fn records(random: &mut Random, edition: Edition) -> Vec<u8> {
             true => any_kind(random),
             false => lawful_kind(random, edition, is_inside),
         };
-        any_record(random, &mut writer, kind, session, fault);
+        any_record(random, &mut writer, kind, session, buckets, fault);
         match (kind, edition) {
             (trace::OPEN, _) => open.push(session),
             (trace::CLOSE, Edition::One) => open.clear(),
@@ -145,15 +146,22 @@ fn lawful_kind(random: &mut Random, edition: Edition, is_inside: bool) -> u16 {
 }
 
 /// A record of this kind, with the chance in percent to have a fault.
-fn any_record(random: &mut Random, writer: &mut Writer, kind: u16, session: u16, fault: usize) {
-    let small = |random: &mut Random| random.below(4) as u8;
+fn any_record(
+    random: &mut Random,
+    writer: &mut Writer,
+    kind: u16,
+    session: u16,
+    buckets: Option<Buckets>,
+    fault: usize,
+) {
+    let key = |random: &mut Random| numbered(buckets, random.below(4));
     match kind {
         trace::OPEN => writer.open(session),
-        trace::READ => writer.read_in(session, small(random).into(), small(random).into()),
+        trace::READ => writer.read_in(session, key(random), random.below(4) as u64),
         trace::WRITE => {
             let lowest = usize::from(!random.percent(fault));
             let value = random.from_to(lowest, 30) as u64;
-            writer.write_in(session, small(random).into(), value);
+            writer.write_in(session, key(random), value);
         }
         trace::CLOSE => {
             let most = if random.percent(fault) { 3 } else { 2 };
@@ -275,6 +283,55 @@ fn with_notes(random: &mut Random, bytes: &[u8], texts: Vec<Vec<u8>>) -> Vec<u8>
     writer.bytes
 }
 
+/// Numbers of keys by which different keys share a bucket: they are equal modulo
+/// 64 or 128, as a judge may sort them to rule out most rivals at once.
+#[derive(Clone, Copy, Debug, PartialEq, Eq)]
+pub struct Buckets {
+    /// From a key to the next one of its bucket.
+    step: u32,
+    /// How many keys stand side by side before the next step.
+    beside: u32,
+    /// The number of the first key.
+    first: u32,
+    /// Whether they count down from 4,294,967,295 and not up from 0.
+    downwards: bool,
+}
+
+impl Buckets {
+    /// For one trace in four. They are drawn aside, so that but for its keys each
+    /// trace remains what it was without them.
+    fn drawn(random: &Random) -> Option<Buckets> {
+        let mut random = random.aside();
+        random.percent(25).then(|| Buckets {
+            // Half of a bucket, a bucket, two; or only the highest bits differ.
+            step: *random.pick(&[64, 128, 128, 128, 256, 1 << 25]),
+            beside: *random.pick(&[1, 1, 2, 3]),
+            first: match random.percent(30) {
+                true => 0,
+                false => random.below(128) as u32,
+            },
+            downwards: random.percent(50),
+        })
+    }
+
+    /// The key of this place, from 0. Up to 128 of them are all different.
+    fn key(&self, place: usize) -> u32 {
+        let place = place as u32;
+        let (steps, beside) = (place / self.beside, place % self.beside);
+        let further = steps.wrapping_mul(self.step).wrapping_add(beside);
+        let key = self.first.wrapping_add(further);
+        match self.downwards {
+            true => !key,
+            false => key,
+        }
+    }
+}
+
+/// The key of this place, from 0: by the buckets, or else the place itself.
+fn numbered(buckets: Option<Buckets>, place: usize) -> u32 {
+    buckets.map_or(place as u32, |buckets| buckets.key(place))
+}
+
 /// What a plausible trace is like. The store it imitates answers each read
 /// rightly, or with an older value, or with any value at all.
 pub struct Shape {
@@ -283,6 +340,8 @@ pub struct Shape {
     pub transactions: usize,
     pub sessions: usize,
     pub keys: usize,
+    /// Few buckets for the keys; without them keys are small or random numbers.
+    pub buckets: Option<Buckets>,
     /// Least and most operations of a transaction, and most of the trace.
     pub operations_least: usize,
     pub operations_each: usize,
@@ -324,6 +383,7 @@ impl Shape {
             transactions,
             sessions: random.from_to(least_sessions, transactions.max(least_sessions)),
             keys: random.from_to(1, (transactions / 2).max(3)),
+            buckets: Buckets::drawn(random),
             operations_least: 0,
             operations_each,
             operations: trace::MAX_OPERATIONS,
@@ -389,13 +449,14 @@ impl Shape {
     /// Everything but the values read.
     fn plan(&self, random: &mut Random) -> Vec<Planned> {
         let small_numbers = random.percent(70);
-        let keys: Vec<u32> = (1..=self.keys as u32)
-            .map(|n| {
-                if small_numbers {
-                    n
+        let keys: Vec<u32> = (0..self.keys)
+            .map(|place| {
+                let any = if small_numbers {
+                    place as u32 + 1
                 } else {
                     random.draw() as u32
-                }
+                };
+                self.buckets.map_or(any, |buckets| buckets.key(place))
             })
             .collect();
         // Values count up key by key, so different keys share values.
@@ -631,6 +692,7 @@ struct Web {
     sessions: usize,
     /// As many as transactions, or few, so that writers are rivals.
     keys: usize,
+    buckets: Option<Buckets>,
     /// Chances in percent.
     aborted: usize,
     unanswered: usize,
@@ -656,6 +718,7 @@ impl Web {
             transactions,
             sessions: *random.pick(&[2, transactions, 10 * transactions]),
             keys: *random.pick(&[1, 2, transactions, transactions, transactions]),
+            buckets: Buckets::drawn(random),
             aborted: *random.pick(&[0, 0, 10, 30]),
             unanswered: *random.pick(&[60, 80, 95, 100, 100]),
             intermediate: *random.pick(&[0, 0, 10, 50]),
@@ -762,7 +825,7 @@ impl Web {
     fn writes(&self, writer: usize) -> [Access; 2] {
         [1, 2].map(|which| Access {
             is_write: true,
-            key: (writer % self.keys) as u32,
+            key: numbered(self.buckets, writer % self.keys),
             value: 2 * writer as u64 + which,
         })
     }

@@ -20,12 +20,13 @@
 //! * [`writing`] writes traces from steps and turns traces into steps;
 //! * [`moving`] moves traces between the editions;
 //! * [`encode`], [`text`], [`weave`], [`notes`], [`generate`], [`cases`],
-//!   [`overlap_cases`] and [`note_cases`] make traces, [`sequences`] and
-//!   [`sequence_cases`] sequences of steps;
+//!   [`bucket_cases`], [`overlap_cases`] and [`note_cases`] make traces,
+//!   [`sequences`] and [`sequence_cases`] sequences of steps;
 //! * [`process`], [`workers`], [`scribes`], [`moves`], [`calls`] and [`daemon`]
 //!   compare.
 
 pub mod brute;
+pub mod bucket_cases;
 pub mod calls;
 pub mod cases;
 pub mod daemon;

@@ -11,6 +11,11 @@ impl Random {
         random
     }
 
+    /// Another source, which leaves this one as it is.
+    pub fn aside(&self) -> Random {
+        Random::new(self.0, 1)
+    }
+
     pub fn draw(&mut self) -> u64 {
         self.0 = self.0.wrapping_add(0x9e37_79b9_7f4a_7c15);
         let mut z = self.0;

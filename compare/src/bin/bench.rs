@@ -161,6 +161,8 @@ fn traces() -> Vec<(String, Vec<u8>)> {
         ("slow-chain".into(), chain()),
         ("slow-sources".into(), sources()),
         ("slow-unsettled".into(), unsettled()),
+        ("slow-one-bucket".into(), one_bucket()),
+        ("one-reader".into(), one_reader()),
         ("slow-thin-air".into(), thin_air()),
         ("slow-cycle".into(), cycle()),
         ("slow-session-cycle".into(), session_cycle()),
@@ -238,6 +240,7 @@ fn shaped(transactions: usize, change: impl Fn(&mut Shape)) -> Vec<u8> {
         transactions,
         sessions: transactions / 8,
         keys: transactions,
+        buckets: None,
         operations_least: 8,
         operations_each: 9,
         operations: transactions * MAX_OPERATIONS / MAX_TRANSACTIONS,
@@ -412,6 +415,43 @@ fn unsettled() -> Vec<u8> {
             (0..8).map(|n| Read(key(t + 8 * n, n), 1)).collect()
         };
         (1, steps)
+    })
+}
+
+/// The same where keys can not be told apart by their buckets: all of them are
+/// multiples of 128. In one session each writes and the later ones read, the later
+/// the more, each read from another source; and no key is written twice.
+fn one_bucket() -> Vec<u8> {
+    let key = |writer: u32, n: u32| 128 * (16 * writer + n);
+    let reads = |t: u32| t / 16;
+    // One more for the first eight, so that all 1,024 are in the bucket.
+    let writes = |t: u32| 8 - reads(t) + u32::from(t <= 8);
+    planned(|t| {
+        let source = |n: u32| t - 15 * n;
+        let read = |n: u32| Read(key(source(n), n % writes(source(n))), 1);
+        let mut steps: Vec<Step> = (1..=reads(t)).map(read).collect();
+        steps.extend((0..writes(t)).map(|n| Write(key(t, n), 1)));
+        (1, steps)
+    })
+}
+
+/// One reader and 126 writers, all of keys that are multiples of 128: the reader
+/// reads 520 of them, each once, in turn from all writers and then 16 that nobody
+/// wrote. No source of one read writes the key of another.
+fn one_reader() -> Vec<u8> {
+    const WRITERS: u32 = 126;
+    const WRITTEN: u32 = 4 * WRITERS;
+    planned(|t| {
+        let steps = if t <= WRITERS {
+            (0..4)
+                .map(|n| Write(128 * (t - 1 + n * WRITERS), 1))
+                .collect()
+        } else {
+            (0..MAX_OPERATIONS as u32 - WRITTEN)
+                .map(|n| Read(128 * n, u64::from(n < WRITTEN)))
+                .collect()
+        };
+        (t as u16, steps)
     })
 }
 

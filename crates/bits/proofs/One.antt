@@ -6,8 +6,12 @@ use mathlib.Core.List.{List}
 use native.Mathlib.Omega.{arith}
 use lib.ListN.{getD}
 use lib.Seq.{ext-getD}
-use Rattle.bits.specs.Bits.{testBit, bitOf, Holds}
+use Rattle.bits.specs.Bits.{testBit, Minus, bitOf, Holds}
 use Rattle.bits.proofs.Words.{word-one}
+
+-- of `without`
+pub without-one : {u v r s : ℕ} → Minus u v r → Minus u v s → r < 2 ^ 64 → s < 2 ^ 64 → r ≡ s
+without-one {r = r} {s = s} p q hr hs = word-one 64 r s hr hs (λ k l. p .is k ∙ sym (q .is k))
 
 -- a table's words are machine words
 pub record MachineWords (t : List ℕ) : Type 0 where

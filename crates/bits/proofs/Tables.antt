@@ -38,7 +38,7 @@ module _ (f : ℕ → ℕ) where
   pub rewritten-start : (o : List ℕ) → Rewritten f o o 0
   rewritten-start o = record { room = refl; done = λ k l. absurd (omega arith); left = λ k l. refl }
 
-  rewritten-step : {o b : List ℕ} (i v : ℕ) → Rewritten f o b i → i < length b → v ≡ f i → Rewritten f o (set b i v) (i + 1)
+  pub rewritten-step : {o b : List ℕ} (i v : ℕ) → Rewritten f o b i → i < length b → v ≡ f i → Rewritten f o (set b i v) (i + 1)
   rewritten-step {o} {b} i v r h e =
       record {
         room = length-set b i v ∙ r .room;

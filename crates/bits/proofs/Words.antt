@@ -1,18 +1,18 @@
 -- The bits of a word.
-use Prim.Native.Nat.{ℕ, zero, suc, _+_, _-_, _*_, _/_, _%_, _^_, _<_, max}
+use Prim.Native.Nat.{ℕ, zero, suc, _+_, _-_, _*_, _/_, _%_, _^_, _<_, min, max}
 use mathlib.Core.Path.{_≡_, refl, sym, ap, _∙_}
-use mathlib.Core.Bool.{true, false}
+use mathlib.Core.Bool.{Bool, true, false, not}
 use mathlib.Core.Logic.{⊎-elim}
 use native.Mathlib.Omega.{arith}
 use native.Mathlib.Nat.{mod-lt, mul-mod-left, div-eq-of-lt, pow-suc, one-mul}
 use lib.Arith.{digits-mod}
-use lib.Bits.{bitOr, or-shr, or-step}
+use lib.Bits.{bitAnd, bitOr, bitXor, differ, and-shr, and-step, or-shr, or-step, xor-shr, xor-step}
 use lib.Dec.{eqb}
 use lib.Pow.{shl-shr, shr-shr, shl-exact, pow-add, pow-lt, pow-pos}
 use borrow.Author.Tests.{eqb-true, eqb-false, eq-eqb, ne-eqb}
-use Rattle.base.specs.Base.{_or_}
+use Rattle.base.specs.Base.{_and_, _or_}
 use Rattle.base.proofs.Tests.{ifso, split}
-use Rattle.bits.specs.Bits.{testBit}
+use Rattle.bits.specs.Bits.{testBit, lacks, Minus}
 
 -- no bit of 0
 pub testBit-zero : (k : ℕ) → testBit 0 k ≡ false
@@ -40,6 +40,68 @@ pub testBit-or : (x y k : ℕ) → testBit (bitOr x y) k ≡ testBit x k or test
 unfolding testBit
 testBit-or x y k =
     rw (or-shr x y k, or-low (x / 2 ^ k) (y / 2 ^ k)) (max-bit (x / 2 ^ k % 2) (y / 2 ^ k % 2) (mod-lt _ (omega arith)) (mod-lt _ (omega arith)))
+
+-- ── what both words have ──
+
+min-bit : (p q : ℕ) → p < 2 → q < 2 → eqb (min p q) 1 ≡ eqb p 1 and eqb q 1
+unfolding _and_
+min-bit zero zero hp hq = refl
+min-bit zero (suc zero) hp hq = refl
+min-bit (suc zero) zero hp hq = refl
+min-bit (suc zero) (suc zero) hp hq = refl
+min-bit zero (suc (suc q)) hp hq = absurd (omega arith)
+min-bit (suc zero) (suc (suc q)) hp hq = absurd (omega arith)
+min-bit (suc (suc p)) q hp hq = absurd (omega arith)
+
+and-low : (u v : ℕ) → bitAnd u v % 2 ≡ min (u % 2) (v % 2)
+and-low u v =
+    ap (λ (n : ℕ). n % 2) (and-step u v)
+    ∙ digits-mod (bitAnd (u / 2) (v / 2)) (omega (arith, mod-lt u {m = 2} (omega arith), mod-lt v {m = 2} (omega arith)))
+
+pub testBit-and : (x y k : ℕ) → testBit (bitAnd x y) k ≡ testBit x k and testBit y k
+unfolding testBit
+testBit-and x y k =
+    rw (and-shr x y k, and-low (x / 2 ^ k) (y / 2 ^ k)) (min-bit (x / 2 ^ k % 2) (y / 2 ^ k % 2) (mod-lt _ (omega arith)) (mod-lt _ (omega arith)))
+
+-- ── a word without the bits of another ──
+
+differ-bit : (x y : ℕ) → x < 2 → y < 2 → eqb (differ x y) 1 ≡ (eqb x 1 and not (eqb y 1)) or (eqb y 1 and not (eqb x 1))
+unfolding _and_ _or_
+differ-bit zero zero hx hy = refl
+differ-bit zero (suc zero) hx hy = refl
+differ-bit (suc zero) zero hx hy = refl
+differ-bit (suc zero) (suc zero) hx hy = refl
+differ-bit zero (suc (suc y)) hx hy = absurd (omega arith)
+differ-bit (suc zero) (suc (suc y)) hx hy = absurd (omega arith)
+differ-bit (suc (suc x)) y hx hy = absurd (omega arith)
+
+differ-few : (x y : ℕ) → x < 2 → y < 2 → differ x y < 2
+differ-few zero y hx hy = hy
+differ-few (suc zero) zero hx hy = hx
+differ-few (suc zero) (suc zero) hx hy = omega arith
+differ-few (suc zero) (suc (suc y)) hx hy = absurd (omega arith)
+differ-few (suc (suc x)) y hx hy = absurd (omega arith)
+
+xor-low : (u v : ℕ) → bitXor u v % 2 ≡ differ (u % 2) (v % 2)
+xor-low u v =
+    ap (λ (n : ℕ). n % 2) (xor-step u v) ∙ digits-mod (bitXor (u / 2) (v / 2)) (differ-few (u % 2) (v % 2) (mod-lt u (omega arith)) (mod-lt v (omega arith)))
+
+testBit-xor : (u v k : ℕ) → testBit (bitXor u v) k ≡ (testBit u k and not (testBit v k)) or (testBit v k and not (testBit u k))
+unfolding testBit
+testBit-xor u v k =
+    rw (xor-shr u v k, xor-low (u / 2 ^ k) (v / 2 ^ k))
+    (differ-bit (u / 2 ^ k % 2) (v / 2 ^ k % 2) (mod-lt _ (omega arith)) (mod-lt _ (omega arith)))
+
+or-then-not : (a b : Bool) → ((a or b) and not b) or (b and not (a or b)) ≡ a and not b
+unfolding _and_ _or_
+or-then-not true true = refl
+or-then-not true false = refl
+or-then-not false true = refl
+or-then-not false false = refl
+
+pub minus-bits : (m p : ℕ) → Minus m p (bitXor (bitOr m p) p)
+unfolding lacks
+minus-bits m p = record { is = λ k. testBit-xor (bitOr m p) p k ∙ rw (testBit-or m p k) (or-then-not (testBit m k) (testBit p k)) }
 
 -- ── the word with the one bit j ──
 

@@ -1,7 +1,7 @@
 -- A table of bits: 128 rows of two words of 64 bits.
 use Prim.Native.Nat.{ℕ, _+_, _*_, _/_, _%_, _^_, _≤_, _<_}
 use mathlib.Core.Path.{_≡_}
-use mathlib.Core.Bool.{Bool, true, false}
+use mathlib.Core.Bool.{Bool, true, false, not}
 use mathlib.Core.List.{List, [], _∷_}
 use lib.Dec.{eqb}
 use lib.ListN.{length, getD}
@@ -10,6 +10,14 @@ use Rattle.base.specs.Base.{_and_, _or_}
 -- bit k of the word w
 unfoldable pub testBit : ℕ → ℕ → Bool
 testBit w k = eqb (w / 2 ^ k % 2) 1
+
+-- the word u has the bit k, and v has not
+unfoldable pub lacks : ℕ → ℕ → ℕ → Bool
+lacks u v k = testBit u k and not (testBit v k)
+
+-- r is u without the bits of v
+pub record Minus (u v r : ℕ) : Type 0 where
+  pub is : (k : ℕ) → testBit r k ≡ lacks u v k
 
 -- bit b of row a
 unfoldable pub bitOf : List ℕ → ℕ → ℕ → Bool

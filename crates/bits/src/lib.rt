@@ -3,7 +3,14 @@ ghost use mathlib.Core.Path.{_≡_};
 ghost use Prim.Native.Nat.{_≤_, _<_};
 ghost use lib.ListN.{length};
 ghost use Rattle.theory.specs.Leads.{via};
-ghost use Rattle.bits.specs.Bits.{testBit, bitOf, Holds, Under, nothing, either, plusBit, plusRow, rowOf, whereLed, onceMore, Least};
+ghost use Rattle.bits.specs.Bits.{testBit, Minus, bitOf, Holds, Under, nothing, either, plusBit, plusRow, rowOf, whereLed, onceMore, Least};
+
+// The word m without the bits of p.
+pub fn without(m: u64, p: u64) -> u64
+    ensures { λ r. ⌜ Minus m p r ⌝ }
+{
+    (m | p) ^ p
+}
 
 // Whether row a has bit b.
 pub fn bit(t: &[u64], a: usize, b: usize) -> bool

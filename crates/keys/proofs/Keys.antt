@@ -1,164 +1,94 @@
--- What words of key bits say.
-use Prim.Native.Nat.{ℕ, suc, _+_, _-_, _*_, _/_, _%_, _^_, _<_, _≤_, min}
-use mathlib.Core.Path.{_≡_, refl, sym, ap, _∙_}
-use mathlib.Core.Bool.{Bool, true, false}
+-- What was marked is who writes a key of which bucket; who writes a key has the bit of its bucket.
+use Prim.Native.Nat.{ℕ, _+_, _-_, _*_, _/_, _%_, _<_, _≤_}
+use mathlib.Core.Path.{_≡_, sym, ap, _∙_}
+use mathlib.Core.Bool.{Bool, true}
 use mathlib.Core.List.{List}
 use mathlib.Core.Logic.{⊎-elim}
 use native.Mathlib.Omega.{arith}
-use native.Mathlib.Nat.{mod-lt, div-eq-of-lt, pow-suc}
-use lib.Bits.{bitAnd, bitOr, and-shr, and-step}
 use lib.Dec.{eqb}
-use lib.ListN.{length, getD, set, length-set}
-use lib.Pow.{pow-pos, ones-split, ones-lt, high}
-use lib.Seq.{getD-set-same, getD-set-other}
-use borrow.Author.Tests.{eqb-true, eqb-false, eq-eqb}
-use Rattle.base.proofs.Tests.{ifso, split, clash, is-false, and-left, and-right, or-left, or-right, or-cases}
-use Rattle.base.proofs.Searches.{some-at}
-use Rattle.base.proofs.Chains.{last-none}
+use lib.ListN.{length, set}
+use borrow.Author.Tests.{eqb-true, eq-eqb, ne-eqb}
+use Rattle.base.specs.Base.{_or_}
+use Rattle.base.proofs.Tests.{split, same-test, both, and-left, and-right, or-cases, or-left, or-right}
+use Rattle.base.proofs.Searches.{some-at, some-of, some-same}
 use Rattle.rules.specs.History.{History, op, opCount}
-use Rattle.rules.specs.Reads.{writesAt, wroteBetween, isExternal}
+use Rattle.rules.specs.Reads.{writesAt, wroteBetween}
 use Rattle.rules.specs.Levels.{writesKey}
-use Rattle.table.specs.Table.{ofTx, lastBelow, lastOf, prevOf, Below}
-use Rattle.bits.specs.Bits.{testBit}
-use Rattle.bits.proofs.Words.{testBit-or, testBit-one}
-use Rattle.keys.specs.Keys.{hasKey, Gains, Apart, Writes, Writers, Readers}
+use Rattle.bits.specs.Bits.{testBit, bitOf, Holds}
+use Rattle.bits.proofs.Words.{testBit-zero, testBit-one}
+use Rattle.bits.proofs.Tables.{Rewritten, rewritten-step}
+use Rattle.pairs.specs.Pairs.{across}
+use Rattle.pairs.proofs.Marking.{cell-is, cell-has, Marking}
+use Rattle.keys.specs.Keys.{bucketOf, writesInto, wrote, zeroOnly, writeBit}
 
--- ── one word ──
+-- ── transaction 0 in every row ──
 
--- all of its bits
-ones-bit : (j k : ℕ) → testBit (2 ^ (suc j + k) - 1) k ≡ true
-unfolding testBit
-ones-bit j k =
-    let p = pow-suc 2 j in
-    let e : (2 ^ (suc j + k) - 1) / 2 ^ k ≡ 2 ^ suc j - 1 = ap (λ (n : ℕ). n / 2 ^ k) (ones-split (suc j) k) ∙ high (2 ^ suc j - 1) k (ones-lt k) in
-    rw e (eq-eqb ((2 ^ suc j - 1) % 2) 1 (omega (arith, pow-pos j)))
+-- the words of rows that have bit 0 alone
+unfoldable pub zeroWord : ℕ → ℕ
+zeroWord k = 1 - k % 2
 
-pub has-all : (x : ℕ) → hasKey 18446744073709551615 x ≡ true
-unfolding hasKey
-has-all x =
-    let l : x % 64 < 64 = mod-lt x (omega arith) in
-    let e : suc (63 - x % 64) + x % 64 ≡ 64 = omega arith in
-    rw e at (ones-bit (63 - x % 64) (x % 64))
+pub rows-step : {o w : List ℕ} (b : ℕ) → b < 128 → length o ≡ 256 → Rewritten zeroWord o w (2 * b)
+    → Rewritten zeroWord o (set (set w (2 * b) 1) (2 * b + 1) 0) (2 * (b + 1))
+unfolding zeroWord
+rows-step {o} {w} b l room r =
+    let p = rewritten-step zeroWord (2 * b) 1 r (omega (arith, r .room)) (omega arith) in
+    let e : 2 * b + 1 + 1 ≡ 2 * (b + 1) = omega arith in
+    rw e at (rewritten-step zeroWord (2 * b + 1) 0 p (omega (arith, p .room)) (omega arith))
 
--- with a bit more
-pub gains-bit : (w x : ℕ) → Gains true w x (bitOr w ((1 * 2 ^ (x % 64)) % 2 ^ 64))
-unfolding hasKey
-gains-bit w x =
+first-bit : (y : ℕ) → y < 64 → testBit 1 (y % 64) ≡ eqb y 0
+first-bit y l = let e : y % 64 ≡ y = omega arith in rw e (testBit-one 0 y (omega arith))
+
+pub rows-end : {o w : List ℕ} {b : ℕ} → 128 ≤ b → length o ≡ 256 → Rewritten zeroWord o w (2 * b) → Holds w zeroOnly
+unfolding zeroWord zeroOnly bitOf
+rows-end l room r =
     record {
-      keeps = λ y e. testBit-or w ((1 * 2 ^ (x % 64)) % 2 ^ 64) (y % 64) ∙ or-left _ _ e;
-      has =
-          λ _.
-          testBit-or w ((1 * 2 ^ (x % 64)) % 2 ^ 64) (x % 64)
-          ∙ or-right _ _ (testBit-one (x % 64) (x % 64) (mod-lt x (omega arith)) ∙ eq-eqb (x % 64) (x % 64) refl);
+      room = r .room ∙ room;
+      is =
+          λ x y hx hy.
+          ap (λ (n : ℕ). testBit n (y % 64)) (r .done (2 * x + y / 64) (omega arith))
+          ∙ ⊎-elim (λ m. let e : 1 - (2 * x + y / 64) % 2 ≡ 1 = omega arith in rw e (first-bit y m))
+          (λ m. let e : 1 - (2 * x + y / 64) % 2 ≡ 0 = omega arith in rw e (testBit-zero (y % 64) ∙ sym (ne-eqb y 0 (λ q. omega arith)))) (split y 64);
     }
 
-pub gains-not : {p : Bool} (w x : ℕ) → p ≡ false → Gains p w x w
-gains-not w x e = record { keeps = λ y q. q; has = λ t. absurd (clash t e) }
+-- ── the writes ──
 
-pub gains-if : {p : Bool} {w x r : ℕ} → Gains true w x r → Gains p w x r
-gains-if g = record { keeps = g .keeps; has = λ _. g .has refl }
+write-bit : (h : History) (i b t : ℕ) → writeBit h i b t ≡ writesInto h b t i
+unfolding writeBit writesInto
+write-bit h i b t =
+    same-test _ _
+    (λ e.
+    let r = cell-is (op h i .isWrite) (bucketOf (op h i .key)) (op h i .tx) b t e in
+    both _ _ (both _ _ (r .0) (eq-eqb (op h i .tx) t (sym (r .2)))) (eq-eqb (bucketOf (op h i .key)) b (sym (r .1))))
+    (λ e.
+    let p = and-left _ _ e in
+    let q = eqb-true (op h i .tx) t (and-right _ _ p) in
+    let s = eqb-true (bucketOf (op h i .key)) b (and-right _ _ e) in
+    rw (← q, ← s) (cell-has (op h i .isWrite) (bucketOf (op h i .key)) (op h i .tx) (and-left _ _ p)))
 
--- a bit of both is one of what both have
-low-of-both : (u w : ℕ) → u % 2 ≡ 1 → w % 2 ≡ 1 → bitAnd u w ≡ 0 → ⊥
-low-of-both u w a b e =
-    let s : bitAnd (u / 2) (w / 2) * 2 + min (u % 2) (w % 2) ≡ 0 = sym (and-step u w) ∙ e in
-    omega (arith, rw (a, b) at s)
-
-pub apart : (u w : ℕ) → bitAnd u w ≡ 0 → Apart u w
-unfolding hasKey testBit
-apart u w e =
+-- a loop over them, from the rows that have transaction 0
+pub writers-start : {w : List ℕ} (h : History) → Holds w zeroOnly → Marking (writeBit h) (wrote h) 1 (opCount h + 1) w
+unfolding zeroOnly wrote across
+writers-start h z =
     record {
-      none =
-          λ x a b.
-          low-of-both (u / 2 ^ (x % 64)) (w / 2 ^ (x % 64)) (eqb-true _ _ a) (eqb-true _ _ b)
-          (sym (and-shr u w (x % 64)) ∙ ap (λ (n : ℕ). n / 2 ^ (x % 64)) e ∙ div-eq-of-lt (pow-pos (x % 64)));
+      room = z .room;
+      rest =
+          λ x y hx hy.
+          rw (z .is x y hx hy)
+          (ap (λ (r : Bool). eqb y 0 or r) (some-same (λ i. writeBit h i x y) (writesInto h x y) (opCount h + 1) 1 (λ i a b. write-bit h i x y)));
     }
 
--- ── what transactions write ──
+-- ── for callers ──
 
-module _ {h : History} where
-  pub writers-start : (w : List ℕ) → length w ≡ 128 → Writers h 1 (set w 0 18446744073709551615)
-  writers-start w l =
-      record {
-        room = length-set w 0 18446744073709551615 ∙ l;
-        all = λ x. rw (getD-set-same w 0 18446744073709551615 0 (omega arith)) (has-all x);
-        has = λ i a b. absurd (omega arith);
-      }
-
-module _ {h : History} {w : List ℕ} where
-  -- no write; a write, whose transaction's word gets its key
-  pub writers-miss : {i : ℕ} → Writers h i w → op h i .isWrite ≡ false → Writers h (i + 1) w
-  writers-miss {i} p e =
-      record {
-        room = p .room;
-        all = p .all;
-        has = λ j a b q. ⊎-elim (λ l. p .has j a l q) (λ l. let s : j ≡ i = omega arith in absurd (clash (rw s at q) e)) (split j i);
-      }
-
-  pub writers-hit : {i t r : ℕ} → Writers h i w → t < 128 → t ≡ op h i .tx → Gains true (getD w t 0) (op h i .key) r → Writers h (i + 1) (set w t r)
-  writers-hit {i} {t} {r} p l e g =
-      record {
-        room = length-set w t r ∙ p .room;
-        all = λ x. keeps 0 x (p .all x);
-        has =
-            λ j a b q.
-            ⊎-elim (λ m. keeps (op h j .tx) (op h j .key) (p .has j a m q))
-            (λ m. let s : j ≡ i = omega arith in rw (s, ← e, own) (g .has refl)) (split j i);
-      }
-    where
-      own : getD (set w t r) t 0 ≡ r
-      own = getD-set-same w t r 0 (omega (arith, p .room))
-
-      keeps : (u x : ℕ) → hasKey (getD w u 0) x ≡ true → hasKey (getD (set w t r) u 0) x ≡ true
-      keeps u x q =
-          ifso (eqb u t) (λ s. let s : u ≡ t = eqb-true u t s in rw (s, own) (g .keeps x (rw s at q)))
-          (λ s. rw (getD-set-other w t u r 0 (eqb-false u t s)) q)
-
-  -- all of them: a transaction's word
-  pub writers-word : Writers h (opCount h + 1) w → (t : ℕ) → Writes h t (getD w t 0)
-  unfolding writesKey wroteBetween writesAt
-  writers-word p t =
-      record {
-        has =
-            λ x e.
-            ⊎-elim (λ z. let z : t ≡ 0 = eqb-true t 0 z in rw z (p .all x))
-            (λ s.
-            let r = some-at (writesAt h t x) (opCount h + 1) 1 s in
-            let a = and-left _ _ (r .passes) in
-            let u : op h (r .at) .tx ≡ t = eqb-true _ _ (and-right _ _ a) in
-            let y : op h (r .at) .key ≡ x = eqb-true _ _ (and-right _ _ (r .passes)) in
-            rw (u, y) at (p .has (r .at) (r .from) (r .to) (and-left _ _ a)))
-            (or-cases _ _ e);
-      }
-
--- ── what they read ──
-
-module _ {h : History} {t : ℕ} where
-  pub readers-start : {i r : ℕ} → Below i (lastOf h t) (opCount h + 1) → Readers h t i r
-  unfolding lastOf lastBelow ofTx
-  readers-start b =
-      record { has = λ j a l e q. absurd (clash (eq-eqb _ _ e) (last-none (ofTx h t) (opCount h + 1) j (omega (arith, b .is)) (omega arith))) }
-
-  pub readers-next : {i j r q : ℕ} → Readers h t i r → op h i .tx ≡ t → Gains (isExternal h i) r (op h i .key) q → Below j (prevOf h i) i → Readers h t j q
-  unfolding prevOf lastBelow ofTx
-  readers-next {i} {j} p o g b =
-      record {
-        has =
-            λ m a l e x.
-            ⊎-elim (λ s. g .keeps _ (p .has m s l e x))
-            (λ s.
-            ⊎-elim (λ z. absurd (clash (eq-eqb _ _ e) (last-none (ofTx h t) i m (omega (arith, rw o at (b .is))) z)))
-            (λ z. let y : m ≡ i = omega arith in rw y (g .has (rw y at x))) (split m i))
-            (split i m);
-      }
-
--- ── what they have in common ──
-
--- t2 writes no key of those reads of t3, where their words are apart
-pub apart-reads : {h : History} {t2 t3 u r : ℕ} → Writes h t2 u → Readers h t3 0 r → Apart u r → (i : ℕ) → 1 ≤ i → i ≤ opCount h → op h i .tx ≡ t3
-    → isExternal h i ≡ true → writesKey h t2 (op h i .key) ≡ false
-apart-reads p q n i a b e x = is-false _ (λ w. n .none _ (p .has _ w) (q .has i a b e x))
-
--- nor a key whose bit its word lacks
-pub no-key : {h : History} {t w : ℕ} (x : ℕ) → Writes h t w → hasKey w x ≡ false → writesKey h t x ≡ false
-no-key x p e = is-false _ (λ w. clash (p .has x w) e)
+module _ (h : History) (t x : ℕ) where
+  -- who writes a key has the bit of its bucket; so without the bit t does not write it
+  pub key-wrote : writesKey h t x ≡ true → wrote h (bucketOf x) t ≡ true
+  unfolding writesKey wroteBetween writesAt wrote writesInto
+  key-wrote e =
+      ⊎-elim (λ z. or-left _ _ z)
+      (λ s.
+      let r = some-at (writesAt h t x) (opCount h + 1) 1 s in
+      let k = eqb-true (op h (r .at) .key) x (and-right _ _ (r .passes)) in
+      or-right _ _
+      (some-of (writesInto h (bucketOf x) t) (opCount h + 1) 1 (r .at) (r .from) (r .to)
+      (both _ _ (and-left _ _ (r .passes)) (eq-eqb _ _ (ap bucketOf k)))))
+      (or-cases _ _ e)

@@ -1,37 +1,29 @@
--- Keys as bits of a word, which is to have those of some keys, and may have more.
-use Prim.Native.Nat.{ℕ, _%_, _≤_, _<_}
-use mathlib.Core.Path.{_≡_}
-use mathlib.Core.Bool.{Bool, true}
-use mathlib.Core.List.{List}
-use lib.ListN.{length, getD}
+-- Keys by buckets, and who writes a key of each.
+use Prim.Native.Nat.{ℕ, _+_, _%_}
+use mathlib.Core.Bool.{Bool}
+use lib.Dec.{eqb}
+use Rattle.base.specs.Base.{_and_, _or_, some}
 use Rattle.rules.specs.History.{History, op, opCount}
-use Rattle.rules.specs.Reads.{isExternal}
-use Rattle.rules.specs.Levels.{writesKey}
-use Rattle.bits.specs.Bits.{testBit}
+use Rattle.pairs.specs.Pairs.{cell}
 
--- the word w has the bit that stands for x
-unfoldable pub hasKey : ℕ → ℕ → Bool
-hasKey w x = testBit w (x % 64)
+-- the bucket of the key x
+unfoldable pub bucketOf : ℕ → ℕ
+bucketOf x = x % 128
 
--- r has the bits of w and, if p, that of x
-pub record Gains (p : Bool) (w x r : ℕ) : Type 0 where
-  pub keeps : (y : ℕ) → hasKey w y ≡ true → hasKey r y ≡ true
-  pub has : p ≡ true → hasKey r x ≡ true
+-- operation i is a write in t of a key of bucket b
+unfoldable pub writesInto : History → ℕ → ℕ → ℕ → Bool
+writesInto h b t i = op h i .isWrite and eqb (op h i .tx) t and eqb (bucketOf (op h i .key)) b
 
--- no key has its bit in both words
-pub record Apart (u w : ℕ) : Type 0 where
-  pub none : (x : ℕ) → hasKey u x ≡ true → hasKey w x ≡ true → ⊥
+-- t writes a key of bucket b; "Transaction 0 .. writes value 0 to every key"
+unfoldable pub wrote : History → ℕ → ℕ → Bool
+wrote h b t = eqb t 0 or some 1 (opCount h + 1) (writesInto h b t)
 
--- w has the bits of the keys that t writes
-pub record Writes (h : History) (t w : ℕ) : Type 0 where
-  pub has : (x : ℕ) → writesKey h t x ≡ true → hasKey w x ≡ true
+-- ── how the table of these is filled: row b gets the bit t ──
 
--- word t of w has the bits of the keys that t writes by operations below n; word 0 all: "Transaction 0 .. writes value 0 to every key"
-pub record Writers (h : History) (n : ℕ) (w : List ℕ) : Type 0 where
-  pub room : length w ≡ 128
-  pub all : (x : ℕ) → hasKey (getD w 0 0) x ≡ true
-  pub has : (i : ℕ) → 1 ≤ i → i < n → op h i .isWrite ≡ true → hasKey (getD w (op h i .tx) 0) (op h i .key) ≡ true
+-- transaction 0 alone, in every row
+unfoldable pub zeroOnly : ℕ → ℕ → Bool
+zeroOnly b t = eqb t 0
 
--- r has the bits of the keys that t reads by clean external reads above operation i
-pub record Readers (h : History) (t i r : ℕ) : Type 0 where
-  pub has : (j : ℕ) → i < j → j ≤ opCount h → op h j .tx ≡ t → isExternal h j ≡ true → hasKey r (op h j .key) ≡ true
+-- the bit of operation i, where it is a write
+unfoldable pub writeBit : History → ℕ → ℕ → ℕ → Bool
+writeBit h i = cell (op h i .isWrite) (bucketOf (op h i .key)) (op h i .tx)

@@ -12,10 +12,10 @@ use borrow.Author.Tests.{eq-eqb, ne-eqb, lt-ltb, le-ltb}
 use Rattle.base.specs.Base.{_and_, _or_, some}
 use Rattle.base.proofs.Tests.{known, ifso, clash, is-false, not-true, not-false, both, and-left, and-right, and-on, and-no-left, and-no-right, or-cases, or-left, or-right, or-on, or-off, pick-on, pick-off, and-true, same-eqb, same-test, split, below-more}
 use Rattle.base.proofs.Searches.{some-at, some-of, none-at}
-use Rattle.bits.specs.Bits.{testBit, bitOf}
+use Rattle.bits.specs.Bits.{testBit, lacks, bitOf}
 use Rattle.bits.proofs.Words.{testBit-zero, testBit-or, testBit-one, word-one}
 use Rattle.order.specs.declared.Words.{Words}
-use Rattle.order.specs.Sets.{words, inWords, Plus, Given, Gathered, lacks}
+use Rattle.order.specs.Sets.{words, inWords, Plus, Given, Gathered}
 use Rattle.order.specs.Ordering.{waits}
 
 -- ── a set's words ──

@@ -1,65 +1,18 @@
 -- The smallest number that may come next, among the members that are not placed.
-use Prim.Native.Nat.{ℕ, zero, suc, _+_, _-_, _/_, _%_, _^_, _<_, _≤_}
-use mathlib.Core.Path.{_≡_, refl, sym, ap, _∙_}
+use Prim.Native.Nat.{ℕ, _+_, _-_, _<_, _≤_}
+use mathlib.Core.Path.{_≡_, sym, _∙_}
 use mathlib.Core.Bool.{Bool, true, false, not}
 use mathlib.Core.List.{List}
 use mathlib.Core.Logic.{⊎-elim}
 use native.Mathlib.Omega.{arith}
-use native.Mathlib.Nat.{mod-lt}
-use lib.Arith.{digits-mod}
-use lib.Bits.{bitOr, bitXor, differ, xor-shr, xor-step}
-use lib.Dec.{eqb}
-use Rattle.base.specs.Base.{_and_, _or_, some, first}
+use Rattle.base.specs.Base.{_and_, some, first}
 use Rattle.base.proofs.Tests.{split, clash, and-on, and-no-left}
 use Rattle.base.proofs.Searches.{first-cases, first-is}
-use Rattle.bits.specs.Bits.{testBit, rowOf, Least}
-use Rattle.bits.proofs.Words.{testBit-or}
+use Rattle.bits.specs.Bits.{lacks, Minus, rowOf, Least}
 use Rattle.bits.proofs.Smallest.{row-in-low, row-in-high}
-use Rattle.order.specs.Sets.{words, inWords, lacks, Minus}
+use Rattle.order.specs.Sets.{words, inWords}
 use Rattle.order.specs.Ordering.{waits, isNext}
 use Rattle.order.proofs.Sets.{in-low, in-high}
-
--- ── members that are not placed ──
-
-differ-bit : (x y : ℕ) → x < 2 → y < 2 → eqb (differ x y) 1 ≡ (eqb x 1 and not (eqb y 1)) or (eqb y 1 and not (eqb x 1))
-unfolding _and_ _or_
-differ-bit zero zero hx hy = refl
-differ-bit zero (suc zero) hx hy = refl
-differ-bit (suc zero) zero hx hy = refl
-differ-bit (suc zero) (suc zero) hx hy = refl
-differ-bit zero (suc (suc y)) hx hy = absurd (omega arith)
-differ-bit (suc zero) (suc (suc y)) hx hy = absurd (omega arith)
-differ-bit (suc (suc x)) y hx hy = absurd (omega arith)
-
-differ-few : (x y : ℕ) → x < 2 → y < 2 → differ x y < 2
-differ-few zero y hx hy = hy
-differ-few (suc zero) zero hx hy = hx
-differ-few (suc zero) (suc zero) hx hy = omega arith
-differ-few (suc zero) (suc (suc y)) hx hy = absurd (omega arith)
-differ-few (suc (suc x)) y hx hy = absurd (omega arith)
-
-xor-low : (u v : ℕ) → bitXor u v % 2 ≡ differ (u % 2) (v % 2)
-xor-low u v =
-    ap (λ (n : ℕ). n % 2) (xor-step u v) ∙ digits-mod (bitXor (u / 2) (v / 2)) (differ-few (u % 2) (v % 2) (mod-lt u (omega arith)) (mod-lt v (omega arith)))
-
-testBit-xor : (u v k : ℕ) → testBit (bitXor u v) k ≡ (testBit u k and not (testBit v k)) or (testBit v k and not (testBit u k))
-unfolding testBit
-testBit-xor u v k =
-    rw (xor-shr u v k, xor-low (u / 2 ^ k) (v / 2 ^ k))
-    (differ-bit (u / 2 ^ k % 2) (v / 2 ^ k % 2) (mod-lt _ (omega arith)) (mod-lt _ (omega arith)))
-
-or-then-not : (a b : Bool) → ((a or b) and not b) or (b and not (a or b)) ≡ a and not b
-unfolding _and_ _or_
-or-then-not true true = refl
-or-then-not true false = refl
-or-then-not false true = refl
-or-then-not false false = refl
-
-pub minus-bits : (m p : ℕ) → Minus m p (bitXor (bitOr m p) p)
-unfolding lacks
-minus-bits m p = record { is = λ k. testBit-xor (bitOr m p) p k ∙ rw (testBit-or m p k) (or-then-not (testBit m k) (testBit p k)) }
-
--- ── the search ──
 
 -- one that has come to a
 pub record Came (f : List ℕ) (mlo mhi plo phi lo hi a : ℕ) : Type 0 where

@@ -1,7 +1,7 @@
 -- Sets of numbers below 128, held in two words.
 use Prim.Native.Nat.{ℕ, _+_, _-_, _<_}
 use mathlib.Core.Path.{_≡_}
-use mathlib.Core.Bool.{Bool, not}
+use mathlib.Core.Bool.{Bool}
 use lib.Dec.{ltb, eqb}
 use Rattle.base.specs.Base.{_and_, _or_, pick}
 use Rattle.bits.specs.Bits.{testBit}
@@ -26,11 +26,3 @@ pub record Given (b u a v : ℕ) : Type 0 where
 -- w has the numbers below n that pass p, and no other
 pub record Gathered (p : ℕ → Bool) (n : ℕ) (w : Words) : Type 0 where
   pub is : (x : ℕ) → x < 128 → inWords w x ≡ ltb x n and p x
-
--- the word u has the bit k, and v has not
-unfoldable pub lacks : ℕ → ℕ → ℕ → Bool
-lacks u v k = testBit u k and not (testBit v k)
-
--- r is u without the bits of v
-pub record Minus (u v r : ℕ) : Type 0 where
-  pub is : (k : ℕ) → testBit r k ≡ lacks u v k

@@ -7,8 +7,8 @@ ghost use lib.ListN.{length, take};
 ghost use Rattle.base.specs.Base.{some, first};
 ghost use Rattle.base.proofs.Fill.{Appended};
 ghost use Rattle.theory.specs.Order.{rest};
-ghost use Rattle.bits.specs.Bits.{Under};
-ghost use Rattle.order.specs.Sets.{words, inWords, Plus, Given, lacks, Minus};
+ghost use Rattle.bits.specs.Bits.{lacks, Under};
+ghost use Rattle.order.specs.Sets.{words, inWords, Plus, Given};
 ghost use Rattle.order.specs.Ordering.{standsBefore, waits, isNext, Orderable};
 
 // A set of numbers below 128.
@@ -70,20 +70,13 @@ fn follows(f: &[u64; 256], plo: u64, phi: u64, a: usize) -> bool
     covers(f[2 * a + 1], phi)
 }
 
-// The word m without the bits of p.
-fn without(m: u64, p: u64) -> u64
-    ensures { λ r. ⌜ Minus m p r ⌝ }
-{
-    (m | p) ^ p
-}
-
 // The smallest that may come next, or n.
 fn next(f: &[u64; 256], n: usize, mlo: u64, mhi: u64, plo: u64, phi: u64) -> usize
     requires { ⌜ n ≤ 128 ⌝ }
     ensures { λ r. ⌜ r ≡ first n 0 n (isNext (now (f .entry)) (words mlo mhi) (words plo phi)) ⌝ }
 {
-    let lo = without(mlo, plo);
-    let hi = without(mhi, phi);
+    let lo = bits::without(mlo, plo);
+    let hi = bits::without(mhi, phi);
     let mut a = bits::least_of(lo, hi, 0);
     while a < n {
         if follows(f, plo, phi, a) {

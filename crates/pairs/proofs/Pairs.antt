@@ -12,7 +12,7 @@ use Rattle.base.specs.Base.{_and_, _or_, last}
 use Rattle.base.proofs.Tests.{split, clash, is-false, same-test, both, and-left, and-right, and-on, and-no-right, or-cases, or-left, or-right, or-off, or-assoc, below-more}
 use Rattle.base.proofs.Searches.{some-at, some-none, some-same}
 use Rattle.base.proofs.Chains.{last-passes, last-none}
-use Rattle.theory.specs.Leads.{via}
+use Rattle.theory.specs.Leads.{Leads, then, via}
 use Rattle.theory.proofs.Leads.{via-flip}
 use Rattle.theory.proofs.Same.{via-same}
 use Rattle.rules.specs.History.{History, tx, op, opCount, size, sourceOf, committed}

@@ -1,14 +1,14 @@
 -- The search for a hit.
 use Prim.Native.Nat.{ℕ, _+_, _-_, _<_, _≤_}
 use mathlib.Core.Path.{_≡_, refl, sym, ap, _∙_}
-use mathlib.Core.Bool.{true, false, not}
+use mathlib.Core.Bool.{Bool, true, false, not}
 use mathlib.Core.List.{List}
 use native.Mathlib.Omega.{arith}
 use lib.Dec.{eqb}
 use lib.ListN.{getD}
 use borrow.Author.Tests.{eqb-true, eqb-false, eq-eqb, ne-eqb, lt-ltb, le-ltb}
 use Rattle.base.specs.Base.{_and_, some, last}
-use Rattle.base.proofs.Tests.{ifso, clash, both, and-left, and-right, and-on, and-no-left, and-no-right, or-left, or-right, or-on, pick-on, pick-off}
+use Rattle.base.proofs.Tests.{ifso, clash, is-false, both, and-left, and-right, and-on, and-no-left, and-no-right, or-left, or-right, or-on, pick-on, pick-off}
 use Rattle.base.proofs.Searches.{some-end, some-same}
 use Rattle.base.proofs.Chains.{last-is, last-hit, last-miss, last-chain, top-hit, top-miss, top-chain}
 use Rattle.rules.specs.History.{History, op, opCount, sourceOf}
@@ -16,12 +16,12 @@ use Rattle.rules.specs.Reads.{writesAt, wroteBetween, isExternal}
 use Rattle.rules.specs.Levels.{writesKey}
 use Rattle.table.specs.Table.{historyOf, ofTx, lastBelow, lastOf, prevOf, HasOp, Below}
 use Rattle.table.proofs.Chain.{OnChain, on-last, chain-prev, sought-prev}
-use Rattle.bits.specs.Bits.{bitOf}
+use Rattle.bits.specs.Bits.{bitOf, Holds}
 use Rattle.pairs.specs.Pairs.{Ready}
 use Rattle.pairs.proofs.Pairs.{byte-clean, byte-other, byte-origin}
-use Rattle.keys.specs.Keys.{hasKey, Writes}
-use Rattle.keys.proofs.Keys.{no-key}
-use Rattle.rivals.specs.Rivals.{isAbove, canRival, fits, isTried, isHit, isHitOf, standsFor, writesFor, triesFrom}
+use Rattle.keys.specs.Keys.{bucketOf, wrote}
+use Rattle.keys.proofs.Keys.{key-wrote}
+use Rattle.rivals.specs.Rivals.{isAbove, canRival, fits, isTried, isCandidate, isHit, isHitOf, standsFor, writesFor, triesFrom}
 
 -- ── one operation of t2 ──
 
@@ -82,24 +82,38 @@ module _ {h k : List ℕ} {i : ℕ} (p : Ready h k) (o : HasOp h i) (v : List �
       let s = byte-origin p o l in
       rw (s, e) (both _ _ (both _ _ (byte-clean p o l) (ap not (ne-eqb (getD k i 0 - 8) t2 (λ q. n (omega arith))))) refl)
 
-module _ (h : History) (v : List ℕ) (x t2 i : ℕ) where
+-- what the table of writers says of its bucket
+pub bucket-bit : (h : History) (t2 i : ℕ) {w : List ℕ} {b : ℕ} {r : Bool} → Holds w (wrote h) → b ≡ bucketOf (op h i .key) → b < 128 → t2 < 128
+    → r ≡ bitOf w b t2 → r ≡ wrote h (bucketOf (op h i .key)) t2
+bucket-bit h t2 i p e l m q = q ∙ p .is _ t2 l m ∙ ap (λ (x : ℕ). wrote h x t2) e
+
+module _ (h : History) (v : List ℕ) (t2 i : ℕ) where
+  -- a candidate is tried, and writes a key of the read's bucket
+  pub not-tried : isTried h v t2 i ≡ false → isCandidate h v t2 i ≡ false
+  unfolding isCandidate
+  not-tried e = and-no-left _ _ e
+
+  pub not-writer : wrote h (bucketOf (op h i .key)) t2 ≡ false → isCandidate h v t2 i ≡ false
+  unfolding isCandidate
+  not-writer e = and-no-right _ _ e
+
+  pub candidate : isTried h v t2 i ≡ true → wrote h (bucketOf (op h i .key)) t2 ≡ true → isCandidate h v t2 i ≡ true
+  unfolding isCandidate
+  candidate e w = both _ _ e w
+
   -- where its look starts
-  pub from-untried : isTried h v t2 i ≡ false → triesFrom h v x t2 i ≡ 0
+  pub from-none : isCandidate h v t2 i ≡ false → triesFrom h v t2 i ≡ 0
   unfolding triesFrom
-  from-untried e = pick-off _ _ _ (and-no-left _ _ e)
+  from-none e = pick-off _ _ _ e
 
-  pub from-lacking : hasKey x (op h i .key) ≡ false → triesFrom h v x t2 i ≡ 0
-  unfolding triesFrom
-  from-lacking e = pick-off _ _ _ (and-no-right _ _ e)
-
-  module _ (e : isTried h v t2 i ≡ true) (k : hasKey x (op h i .key) ≡ true) where
-    pub from-read : t2 ≡ 0 → triesFrom h v x t2 i ≡ i
+  module _ (e : isCandidate h v t2 i ≡ true) where
+    pub from-read : t2 ≡ 0 → triesFrom h v t2 i ≡ i
     unfolding triesFrom
-    from-read z = pick-on _ _ _ (both _ _ e k) ∙ pick-on _ _ _ (eq-eqb t2 0 z)
+    from-read z = pick-on _ _ _ e ∙ pick-on _ _ _ (eq-eqb t2 0 z)
 
-    pub from-last : (t2 ≡ 0 → ⊥) → triesFrom h v x t2 i ≡ lastOf h t2
+    pub from-last : (t2 ≡ 0 → ⊥) → triesFrom h v t2 i ≡ lastOf h t2
     unfolding triesFrom
-    from-last z = pick-on _ _ _ (both _ _ e k) ∙ pick-off _ _ _ (ne-eqb t2 0 z)
+    from-last z = pick-on _ _ _ e ∙ pick-off _ _ _ (ne-eqb t2 0 z)
 
 -- whether read i is a hit is settled by t2's operations up to w
 pub record Tries (h : History) (v : List ℕ) (t2 i w : ℕ) : Type 0 where
@@ -111,18 +125,14 @@ module _ (h : History) (v : List ℕ) (t2 i : ℕ) where
   tries-none : isHit h v t2 i ≡ false → Tries h v t2 i 0
   tries-none e = record { to = omega arith; stands = λ l. absurd (omega arith); whole = e ∙ sym (some-end _ 1 (0 + 1) (omega arith)) }
 
-  hit-untried : isTried h v t2 i ≡ false → isHit h v t2 i ≡ false
+  hit-candidate : isHit h v t2 i ≡ true → isCandidate h v t2 i ≡ true
   unfolding isHit
-  hit-untried e = and-no-left _ _ e
+  hit-candidate e = candidate h v t2 i (and-left _ _ e) (key-wrote h t2 (op h i .key) (and-right _ _ e))
 
-  hit-lacking : {x : ℕ} → Writes h t2 x → hasKey x (op h i .key) ≡ false → isHit h v t2 i ≡ false
-  unfolding isHit
-  hit-lacking p e = and-no-right _ _ (no-key (op h i .key) p e)
-
-  module _ (t : isTried h v t2 i ≡ true) where
+  module _ (t : isCandidate h v t2 i ≡ true) where
     hit-key : isHit h v t2 i ≡ writesKey h t2 (op h i .key)
-    unfolding isHit
-    hit-key = and-on _ _ t
+    unfolding isHit isCandidate
+    hit-key = and-on _ _ (and-left _ _ t)
 
     -- "Transaction 0 .. writes value 0 to every key"
     tries-read : t2 ≡ 0 → 1 ≤ i → i ≤ opCount h → Tries h v t2 i i
@@ -143,17 +153,14 @@ module _ (h : History) (v : List ℕ) (t2 i : ℕ) where
               ∙ to-last h t2 (op h i .key) z (opCount h + 1);
         }
 
-  pub tries-start : {x w : ℕ} → Writes h t2 x → 1 ≤ i → i ≤ opCount h → w ≡ triesFrom h v x t2 i → Tries h v t2 i w
-  tries-start {x} p a b e =
+  pub tries-start : {w : ℕ} → 1 ≤ i → i ≤ opCount h → w ≡ triesFrom h v t2 i → Tries h v t2 i w
+  tries-start a b e =
       rw e
-      (ifso (isTried h v t2 i)
+      (ifso (isCandidate h v t2 i)
       (λ t.
-      ifso (hasKey x (op h i .key))
-      (λ k.
-      ifso (eqb t2 0) (λ q. let z = eqb-true t2 0 q in rw (from-read h v x t2 i t k z) (tries-read t z a b))
-      (λ q. let z = eqb-false t2 0 q in rw (from-last h v x t2 i t k z) (tries-last t z)))
-      (λ k. rw (from-lacking h v x t2 i k) (tries-none (hit-lacking p k))))
-      (λ t. rw (from-untried h v x t2 i t) (tries-none (hit-untried t))))
+      ifso (eqb t2 0) (λ q. let z = eqb-true t2 0 q in rw (from-read h v t2 i t z) (tries-read t z a b))
+      (λ q. let z = eqb-false t2 0 q in rw (from-last h v t2 i t z) (tries-last t z)))
+      (λ t. rw (from-none h v t2 i t) (tries-none (is-false _ (λ q. clash (hit-candidate q) t)))))
 
   module _ {w : ℕ} (t : Tries h v t2 i w) where
     -- past an operation that does not write the key; at one that does; at the end

@@ -1,3 +1,4 @@
 pub mod Seen
 pub mod Hits
+pub mod Sifting
 pub mod Rivals

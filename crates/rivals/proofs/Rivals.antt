@@ -3,33 +3,33 @@ use Prim.Native.Nat.{ℕ, _+_, _*_, _<_, _≤_}
 use mathlib.Core.Path.{_≡_, refl, sym, ap, _∙_}
 use mathlib.Core.Bool.{Bool, true, false, not}
 use mathlib.Core.List.{List}
-use mathlib.Core.Logic.{⊎-elim}
+use mathlib.Core.Logic.{_⊎_, inl, inr, ⊎-elim}
 use native.Mathlib.Omega.{arith}
 use lib.Dec.{ltb}
-use lib.ListN.{getD}
+use lib.ListN.{length, getD}
 use borrow.Author.Tests.{eqb-true, eqb-false, eq-eqb, ne-eqb, le-ltb}
 use Rattle.base.specs.Base.{_and_, _or_, last}
-use Rattle.base.proofs.Tests.{clash, is-false, same-test, both, and-left, and-right, and-no-left, or-cases, or-on, or-off, not-true}
+use Rattle.base.proofs.Tests.{ifso, split, clash, is-false, is-true, same-test, both, and-left, and-right, and-on, and-no-left, or-cases, or-left, or-right, or-on, or-off, not-true}
 use Rattle.base.proofs.Searches.{Passing, some-at, some-of, some-same, some-none}
-use Rattle.base.proofs.Chains.{last-passes, last-less}
+use Rattle.base.proofs.Chains.{last-passes, last-less, last-none}
 use Rattle.theory.specs.Leads.{via}
 use Rattle.rules.specs.History.{History, op, txCount, opCount, size, sourceOf, committed}
 use Rattle.rules.specs.Reads.{isExternal}
 use Rattle.rules.specs.Levels.{basic, writesKey, sees, settles, isRival, forced}
 use Rattle.rules.proofs.Committed.{committed-below}
-use Rattle.table.specs.Table.{historyOf, lastOf, prevOf, Held, HasTx, Below}
-use Rattle.table.proofs.Chain.{OnChain, sought-last, sought-prev}
+use Rattle.table.specs.Table.{historyOf, ofTx, lastBelow, lastOf, prevOf, Held, HasTx, Below}
+use Rattle.table.proofs.Chain.{OnChain, chain-last, chain-prev, sought-prev}
 use Rattle.reads.proofs.Fitting.{source-less}
-use Rattle.bits.specs.Bits.{bitOf, Holds, Under, nothing, either, rowOf, Least}
+use Rattle.bits.specs.Bits.{Minus, bitOf, Holds, Under, nothing, either, rowOf, Least}
 use Rattle.bits.proofs.Tables.{holds-same, row-own}
 use Rattle.pairs.specs.Pairs.{before, cell, across}
 use Rattle.pairs.proofs.Marking.{cell-is, cell-has, Marking, mark-chain, mark-down, mark-skip}
 use Rattle.pairs.proofs.Pairs.{basic-under, before-under, before-via}
-use Rattle.keys.specs.Keys.{Apart, Writes, Readers}
-use Rattle.keys.proofs.Keys.{apart-reads}
-use Rattle.rivals.specs.Rivals.{pairsFor, Told, seenFrom, isAbove, canRival, fits, isHitOf, hitBit, hitBits, settlesIn, rivalBit, rivalBits, rivalsOf, rivals}
-use Rattle.rivals.proofs.Hits.{hit-tx, hit-external, hit-fits, fits-hit, last-hit-of}
-use Rattle.rivals.proofs.Seen.{told-bit, from-none, sees-above}
+use Rattle.keys.proofs.Keys.{key-wrote}
+use Rattle.rivals.specs.Rivals.{pairsFor, Told, seenFrom, isAbove, canRival, fits, isTried, isCandidate, isHitOf, hitBit, hitBits, settlesIn, rivalBit, rivalBits, rivalBitsIf, rivalsAmong, rivalsOf, rivals, Chosen, Candidates}
+use Rattle.rivals.proofs.Hits.{candidate, hit-tx, hit-external, hit-fits, fits-hit, last-hit-of}
+use Rattle.rivals.proofs.Seen.{pairs-below, told-bit, from-none, sees-above}
+use Rattle.rivals.proofs.Sifting.{row-candidates, row-minus}
 
 -- ── hits, marked from the last down ──
 
@@ -53,11 +53,9 @@ module _ (h : History) (t2 t3 from : ℕ) {w : ℕ → ℕ → Bool} where
             (λ i x y e s. let r = cell-is _ _ _ _ _ e in fits-hit h v t2 t3 from i (r .0) (rw (r .1, r .2) at s)) m;
       }
 
-  pub marks-start : {v : List ℕ} {j i : ℕ} → Below j (lastOf h t3) (opCount h + 1) → i ≡ last (isHitOf h v t2 t3 from) (j + 1)
-      → Marking (hitBit h t2 t3 from) w 1 (opCount h + 1) v → Marks h t2 t3 from w i v
-  marks-start {v} {j} {i} b e m =
-      let q : i ≡ last (isHitOf h v t2 t3 from) (opCount h + 1) = e ∙ sym (sought-last h t3 (last (isHitOf h v t2 t3 from)) (last-hit-of h v t2 t3 from) b) in
-      rw q (marks-last (opCount h + 1) (omega arith) (omega arith) m)
+  pub marks-start : {v : List ℕ} {j i : ℕ} → j ≤ opCount h → i ≡ last (isHitOf h v t2 t3 from) (j + 1) → Marking (hitBit h t2 t3 from) w 1 (j + 1) v
+      → Marks h t2 t3 from w i v
+  marks-start {j = j} l e m = rw e (marks-last (j + 1) (omega arith) (omega arith) m)
 
   -- the bit of i is set, and the search goes on below it
   pub marks-next : {v u : List ℕ} {i j r : ℕ} → Marks h t2 t3 from w i v → 0 < i → Holds u (either (bitOf v) (hitBit h t2 t3 from i))
@@ -126,12 +124,9 @@ module _ (h : History) (level t2 t3 : ℕ) where
   settled-in i e =
       (and-left _ _ (and-left _ _ e), eqb-true _ _ (and-right _ _ (and-left _ _ e)), settled h level t2 (sourceOf h i) i (and-right _ _ e))
 
-  -- no read of t3's settles a pair for t3 itself, for an aborted one, for one that the level's pairs lack before t3, or for one with other keys
+  -- no read of t3's settles a pair for t3 itself, or for one that the level's pairs lack before t3
   pub not-itself : t2 ≡ t3 → NoRival h level t2 t3
   not-itself q = record { none = λ i a b. is-false _ (λ e. let s = settled-in i e in s .2 .not-reader (q ∙ sym (s .1))) }
-
-  pub not-aborted : committed h t2 ≡ false → NoRival h level t2 t3
-  not-aborted c = record { none = λ i a b. is-false _ (λ e. clash (settled-in i e .0) c) }
 
   not-told : 1 ≤ level → level ≤ 3 → pairsFor h level t2 t3 ≡ false → NoRival h level t2 t3
   not-told from to k =
@@ -143,12 +138,6 @@ module _ (h : History) (level t2 t3 : ℕ) where
             let s = settled-in i e in
             clash (ap (λ (u : ℕ). sees h level t2 u i) (sym (s .1)) ∙ s .2 .seen)
             (sym (sees-above h t2 t3 level from to i a b) ∙ ap (λ (r : ℕ). ltb r i) (from-none h t2 t3 level k) ∙ le-ltb (opCount h) i b));
-      }
-
-  pub not-met : {u r : ℕ} → Writes h t2 u → Readers h t3 0 r → Apart u r → NoRival h level t2 t3
-  not-met p q n =
-      record {
-        none = λ i a b. is-false _ (λ e. let s = settled-in i e in clash (s .2 .key) (apart-reads p q n i a b (s .1) (s .2 .external)));
       }
 
   fits-settles : (t2 ≡ t3 → ⊥) → committed h t2 ≡ true → (i : ℕ) → ltb (seenFrom h level t2 t3) i ≡ sees h level t2 t3 i
@@ -175,43 +164,266 @@ module _ (h : History) (level t2 t3 : ℕ) where
       both _ _ (both _ _ (eq-eqb _ _ t) (s ∙ sym (ap (λ (u : ℕ). sees h level t2 u i) t) ∙ q .seen))
       (both _ _ (both _ _ (q .external) (ap not (ne-eqb _ _ (λ z. q .not-source (sym z))))) (q .key)))
 
-  -- so what was marked is right: nothing, or the hits
-  no-bits : NoRival h level t2 t3 → (x y : ℕ) → rivalBits h level t3 t2 x y ≡ false
-  unfolding rivalBits rivalBit across cell
-  no-bits n x y = some-none (λ i. rivalBit h level t3 t2 i x y) (opCount h + 1) 1 (λ i a b. and-no-left _ _ (n .none i a (omega arith)))
+  -- so what was marked is right, by the reads up to j: nothing, or the hits
+  module _ {v : List ℕ} {j : ℕ} (E : ℕ → ℕ → Bool) (l : j ≤ opCount h) where
+    pub rival-none : NoRival h level t2 t3 → Holds v E → Holds v (either E (rivalBits h level t3 j t2))
+    unfolding either rivalBits rivalBit across cell
+    rival-none n k =
+        holds-same k
+        (λ x y hx hy.
+        sym
+        (or-off _ _
+        (some-none (λ i. rivalBit h level t3 t2 i x y) (j + 1) 1 (λ i a b. and-no-left _ _ (n .none i a (omega arith))))))
 
-  pub rival-none : {v : List ℕ} (E : ℕ → ℕ → Bool) → NoRival h level t2 t3 → Holds v E → Holds v (either E (rivalBits h level t3 t2))
+    pub rival-hits : {r : ℕ} → 1 ≤ level → level ≤ 3 → (t2 ≡ t3 → ⊥) → committed h t2 ≡ true → r ≡ seenFrom h level t2 t3
+        → Holds v (either E (hitBits h t2 t3 r j)) → Holds v (either E (rivalBits h level t3 j t2))
+    unfolding either hitBits rivalBits hitBit rivalBit across
+    rival-hits {r} from to n c e k =
+        holds-same k
+        (λ x y hx hy.
+        ap (λ (b : Bool). E x y or b)
+        (some-same (λ i. hitBit h t2 t3 r i x y) (λ i. rivalBit h level t3 t2 i x y) (j + 1) 1
+        (λ i a b. ap (λ (b : Bool). cell b (sourceOf h i) t2 x y) (rw e (fits-settles n c i (sees-above h t2 t3 level from to i a (omega arith)))))))
+
+-- ── a set of rivals, one after the other ──
+
+module _ (h : History) (level t3 j lo hi : ℕ) where
+  -- the next is the smallest from a on
+  pub among-skip : {w : ℕ → ℕ → Bool} {a b : ℕ} {v : List ℕ} → Least (rowOf lo hi) a 128 b → Marking (rivalBitsIf h level t3 j (rowOf lo hi)) w a 128 v
+      → Marking (rivalBitsIf h level t3 j (rowOf lo hi)) w b 128 v
+  unfolding rivalBitsIf
+  among-skip l = mark-skip (rivalBitsIf h level t3 j (rowOf lo hi)) (l .from) (λ i x y f m n. and-no-left _ _ (l .none i f m n))
+
+  pub among-one : (E : ℕ → ℕ → Bool) (t2 : ℕ) {v : List ℕ} → rowOf lo hi t2 ≡ true → Holds v (either E (rivalBits h level t3 j t2))
+      → Holds v (either E (rivalBitsIf h level t3 j (rowOf lo hi) t2))
+  unfolding either rivalBitsIf
+  among-one E t2 e k = holds-same k (λ x y hx hy. ap (λ (b : Bool). E x y or b) (sym (and-on _ _ e)))
+
+-- read `by`, which lies up to j, marks the pair (x, y) against one of those that pass p
+record Among (h : History) (level t3 j : ℕ) (p : ℕ → Bool) (x y : ℕ) : Type 0 where
+  rival : ℕ
+  few : rival < 128
+  passes : p rival ≡ true
+  by : ℕ
+  from : 1 ≤ by
+  to : by ≤ j
+  marks : rivalBit h level t3 rival by x y ≡ true
+
+module _ (h : History) (level t3 j : ℕ) (p : ℕ → Bool) (x y : ℕ) where
+  among-at : rivalsAmong h level t3 j p x y ≡ true → Among h level t3 j p x y
+  unfolding rivalsAmong rivalBitsIf rivalBits across
+  among-at e =
+      let t = some-at (λ t2. rivalBitsIf h level t3 j p t2 x y) 128 0 e in
+      let i = some-at (λ i. rivalBit h level t3 (t .at) i x y) (j + 1) 1 (and-right _ _ (t .passes)) in
+      record {
+        rival = t .at;
+        few = t .to;
+        passes = and-left _ _ (t .passes);
+        by = i .at;
+        from = i .from;
+        to = omega (arith, i .to);
+        marks = i .passes;
+      }
+
+  among-is : Among h level t3 j p x y → rivalsAmong h level t3 j p x y ≡ true
+  unfolding rivalsAmong rivalBitsIf rivalBits across
+  among-is a =
+      some-of (λ t2. rivalBitsIf h level t3 j p t2 x y) 128 0 (a .rival) (omega arith) (a .few)
+      (both _ _ (a .passes) (some-of (λ i. rivalBit h level t3 (a .rival) i x y) (j + 1) 1 (a .by) (a .from) (omega (arith, a .to)) (a .marks)))
+
+-- ── read by read, from the last of t3 down ──
+
+-- an operation of t below n lies up to the last of these
+own-below : (h : History) (t n i : ℕ) → op h i .tx ≡ t → i < n → i ≤ lastBelow h t n
+unfolding lastBelow ofTx
+own-below h t n i own l = ⊎-elim (λ m. absurd (clash (eq-eqb _ _ own) (last-none (ofTx h t) n i m l))) (λ m. m) (split (last (ofTx h t) n) i)
+
+-- a loop that has come to i, with the set (lo, hi) left: the table v and what the reads up to i mark against these are the whole w
+pub record Remains (h : History) (level t3 : ℕ) (w : ℕ → ℕ → Bool) (i lo hi : ℕ) (v : List ℕ) : Type 0 where
+  pub room : length v ≡ 256
+  pub on : OnChain h t3 i
+  pub chosen : Chosen h level t3 lo hi
+  pub rest : (x y : ℕ) → x < 128 → y < 128 → bitOf v x y or rivalsAmong h level t3 i (rowOf lo hi) x y ≡ w x y
+
+module _ (h : History) (level t3 t2 i x y : ℕ) (e : rivalBit h level t3 t2 i x y ≡ true) where
+  bit-settled : (op h i .tx ≡ t3) × Settled h level t2 (sourceOf h i) i
+  unfolding rivalBit
+  bit-settled = let s = settled-in h level t2 t3 i (cell-is _ _ _ _ _ e .0) in (s .1, s .2)
+
+  -- what a read marks against one that is no candidate, the table has
+  bit-had : (v : List ℕ) → isCandidate h v t2 i ≡ false → bitOf v x y ≡ true
+  unfolding rivalBit isTried canRival
+  bit-had v n =
+      let r = cell-is _ _ _ _ _ e in
+      let s = bit-settled .1 in
+      rw (r .1, r .2)
+      (is-true _
+      (λ f.
+      clash
+      (candidate h v t2 i (both _ _ (both _ _ (s .external) (ap not (ne-eqb _ _ (λ q. s .not-source (sym q))))) (ap not f))
+      (key-wrote h t2 (op h i .key) (s .key)))
+      n))
+
+  bit-told : 1 ≤ level → level ≤ 3 → 1 ≤ i → i ≤ opCount h → pairsFor h level t2 t3 ≡ true
+  unfolding rivalBit
+  bit-told from to a b = is-true _ (λ f. clash (cell-is _ _ _ _ _ e .0) (not-told h level t2 t3 from to f .none i a b))
+
+-- at first: row t3 of s, from the last read of t3 on
+module _ {h k s : List ℕ} {level : ℕ} (p : Told h k s level) {t3 : ℕ} (o : HasTx h t3) where
+  told-row : (t2 : ℕ) → t2 ≤ txCount (historyOf h) → pairsFor (historyOf h) level t2 t3 ≡ rowOf (getD s (2 * t3) 0) (getD s (2 * t3 + 1) 0) t2
+  told-row t2 l = told-bit p o l ∙ sym (row-own s t3 t2 (omega (arith, p .ready .settled .held .few)))
+
+  told-chosen : Chosen (historyOf h) level t3 (getD s (2 * t3) 0) (getD s (2 * t3 + 1) 0)
+  unfolding before
+  told-chosen =
+      record {
+        is =
+            λ t2 l e.
+            sym (p .seen .is t3 t2 (omega (arith, o .to, p .ready .settled .held .few)) l) ∙ sym (row-own s t3 t2 l) ∙ e;
+      }
+
+  all-of : (j : ℕ) → Below j (lastOf (historyOf h) t3) (opCount (historyOf h) + 1) → (x y : ℕ)
+      → rivalsAmong (historyOf h) level t3 j (rowOf (getD s (2 * t3) 0) (getD s (2 * t3 + 1) 0)) x y ≡ rivalsOf (historyOf h) level t3 x y
+  unfolding rivalsOf rivalBits across lastOf
+  all-of j b x y =
+      same-test _ _
+      (λ e.
+      let a = among-at (historyOf h) level t3 j _ x y e in
+      let t = pairs-below (historyOf h) level (a .rival) t3 (told-chosen .is (a .rival) (a .few) (a .passes)) in
+      some-of (λ t2. rivalBits (historyOf h) level t3 (opCount (historyOf h)) t2 x y) (size (historyOf h)) 0 (a .rival) (omega arith) (omega (arith, t))
+      (some-of (λ i. rivalBit (historyOf h) level t3 (a .rival) i x y) (opCount (historyOf h) + 1) 1 (a .by) (a .from) (omega (arith, a .to, b .below))
+      (a .marks)))
+      (λ e.
+      let t = some-at (λ t2. rivalBits (historyOf h) level t3 (opCount (historyOf h)) t2 x y) (size (historyOf h)) 0 e in
+      let i = some-at (λ i. rivalBit (historyOf h) level t3 (t .at) i x y) (opCount (historyOf h) + 1) 1 (t .passes) in
+      let own = bit-settled (historyOf h) level t3 (t .at) (i .at) x y (i .passes) .0 in
+      let told = bit-told (historyOf h) level t3 (t .at) (i .at) x y (i .passes) (p .from) (p .to) (i .from) (omega (arith, i .to)) in
+      among-is (historyOf h) level t3 j _ x y
+      (record {
+        rival = t .at;
+        few = omega (arith, t .to, p .ready .settled .held .few);
+        passes = sym (told-row (t .at) (omega (arith, t .to))) ∙ told;
+        by = i .at;
+        from = i .from;
+        to = omega (arith, own-below (historyOf h) t3 (opCount (historyOf h) + 1) (i .at) own (i .to), b .is);
+        marks = i .passes;
+      }))
+
+  pub remains-start : {v : List ℕ} {j : ℕ} → length v ≡ 256 → Below j (lastOf (historyOf h) t3) (opCount (historyOf h) + 1)
+      → Remains (historyOf h) level t3 (either (bitOf v) (rivalsOf (historyOf h) level t3)) j (getD s (2 * t3) 0) (getD s (2 * t3 + 1) 0) v
   unfolding either
-  rival-none E n k = holds-same k (λ x y hx hy. sym (or-off _ _ (no-bits n x y)))
+  remains-start {v} {j} room b =
+      record {
+        room = room;
+        on = chain-last b;
+        chosen = told-chosen;
+        rest = λ x y hx hy. ap (λ (r : Bool). bitOf v x y or r) (all-of j b x y);
+      }
 
-  pub rival-hits : {v : List ℕ} {r : ℕ} (E : ℕ → ℕ → Bool) → 1 ≤ level → level ≤ 3 → (t2 ≡ t3 → ⊥) → committed h t2 ≡ true
-      → r ≡ seenFrom h level t2 t3 → Holds v (either E (hitBits h t2 t3 r)) → Holds v (either E (rivalBits h level t3 t2))
-  unfolding either hitBits rivalBits hitBit rivalBit across
-  rival-hits {r = r} E from to n c e k =
-      holds-same k
-      (λ x y hx hy.
-      ap (λ (b : Bool). E x y or b)
-      (some-same (λ i. hitBit h t2 t3 r i x y) (λ i. rivalBit h level t3 t2 i x y) (opCount h + 1) 1
-      (λ i a b. ap (λ (b : Bool). cell b (sourceOf h i) t2 x y) (rw e (fits-settles n c i (sees-above h t2 t3 level from to i a (omega arith)))))))
+module _ {h : History} {level t3 : ℕ} {w : ℕ → ℕ → Bool} {i lo hi : ℕ} {v : List ℕ} (m : Remains h level t3 w i lo hi v) where
+  -- at the end no read is left
+  pub remains-end : i ≤ 0 → Holds v w
+  remains-end l =
+      record {
+        room = m .room;
+        is =
+            λ x y hx hy.
+            sym
+            (or-off _ _
+            (is-false _ (λ e. let a = among-at h level t3 i (rowOf lo hi) x y e in omega (arith, a .from, a .to))))
+            ∙ m .rest x y hx hy;
+      }
 
--- the rivals from a on are those from b on, the smallest bit of row t3 from a on
-module _ {h k s : List ℕ} {level : ℕ} (p : Told h k s level) {t3 : ℕ} (o : HasTx h t3) {a b : ℕ} (l : Least (rowOf (getD s (2 * t3) 0) (getD s (2 * t3 + 1) 0)) a 128 b) where
-  row-bit : (y : ℕ) → y < 128 → rowOf (getD s (2 * t3) 0) (getD s (2 * t3 + 1) 0) y ≡ bitOf s t3 y
-  row-bit y = row-own s t3 y
+  module _ {a b : ℕ} (ca : Candidates h v i lo 0 a) (cb : Candidates h v i hi 1 b) where
+    -- the candidates are some of those left
+    pub remains-chosen : Chosen h level t3 a b
+    remains-chosen = record { is = λ t2 l e. m .chosen .is t2 l (and-left _ _ (sym (row-candidates ca cb t2 l) ∙ e)) }
 
-  pub row-told : b ≤ txCount (historyOf h) → pairsFor (historyOf h) level b t3 ≡ true
-  row-told m =
-      let few : b < 128 = omega (arith, p .ready .settled .held .few) in
-      told-bit p o m ∙ sym (row-bit b few) ∙ l .hit few
+    module _ {lo' hi' r : ℕ} (na : Minus lo a lo') (nb : Minus hi b hi') (l : 0 < i) (q : Below r (prevOf h i) i) where
+      -- operation j of t3 up to i is i, or lies up to the one before it
+      up-to-prev : (j : ℕ) → op h j .tx ≡ t3 → j ≤ i → (j ≤ r) ⊎ (j ≡ i)
+      unfolding prevOf
+      up-to-prev j own to =
+          let e : r ≡ lastBelow h t3 i = rw (m .on .of l) at (q .is) in
+          ⊎-elim (λ z. inl (omega (arith, own-below h t3 i j own z))) (λ z. inr (omega arith)) (split j i)
 
-  pub row-skip : {w : ℕ → ℕ → Bool} {v : List ℕ} → Marking (rivalBits (historyOf h) level t3) w a (size (historyOf h)) v
-      → Marking (rivalBits (historyOf h) level t3) w b (size (historyOf h)) v
-  row-skip =
-      mark-skip (rivalBits (historyOf h) level t3) (l .from)
-      (λ i x y f m n.
-      let few : i < 128 = omega (arith, p .ready .settled .held .few) in
-      no-bits (historyOf h) level i t3
-      (not-told (historyOf h) level i t3 (p .from) (p .to) (told-bit p o (omega arith) ∙ sym (row-bit i few) ∙ l .none i f m few)) x y)
+      -- what is marked now and what remains behind it are what remained
+      marked-now : (x y : ℕ) → (bitOf v x y or rivalsAmong h level t3 i (rowOf a b) x y) or rivalsAmong h level t3 r (rowOf lo' hi') x y
+          ≡ bitOf v x y or rivalsAmong h level t3 i (rowOf lo hi) x y
+      marked-now x y =
+          same-test _ _
+          (λ e. ⊎-elim (λ f. ⊎-elim (or-left _ _) (λ g. or-right _ _ (now g)) (or-cases _ _ f)) (λ f. or-right _ _ (later f)) (or-cases _ _ e))
+          (λ e. ⊎-elim (λ f. or-left _ _ (or-left _ _ f)) (λ f. back (among-at h level t3 i (rowOf lo hi) x y f)) (or-cases _ _ e))
+        where
+          now : rivalsAmong h level t3 i (rowOf a b) x y ≡ true → rivalsAmong h level t3 i (rowOf lo hi) x y ≡ true
+          now e =
+              let u = among-at h level t3 i (rowOf a b) x y e in
+              among-is h level t3 i (rowOf lo hi) x y
+              (record {
+                rival = u .rival;
+                few = u .few;
+                passes = and-left _ _ (sym (row-candidates ca cb (u .rival) (u .few)) ∙ u .passes);
+                by = u .by;
+                from = u .from;
+                to = u .to;
+                marks = u .marks;
+              })
+
+          later : rivalsAmong h level t3 r (rowOf lo' hi') x y ≡ true → rivalsAmong h level t3 i (rowOf lo hi) x y ≡ true
+          later e =
+              let u = among-at h level t3 r (rowOf lo' hi') x y e in
+              among-is h level t3 i (rowOf lo hi) x y
+              (record {
+                rival = u .rival;
+                few = u .few;
+                passes = and-left _ _ (sym (row-minus na nb (u .rival) (u .few)) ∙ u .passes);
+                by = u .by;
+                from = u .from;
+                to = omega (arith, u .to, q .below);
+                marks = u .marks;
+              })
+
+          back : Among h level t3 i (rowOf lo hi) x y
+              → (bitOf v x y or rivalsAmong h level t3 i (rowOf a b) x y) or rivalsAmong h level t3 r (rowOf lo' hi') x y ≡ true
+          back u =
+              ifso (rowOf a b (u .rival))
+              (λ c.
+              or-left _ _
+              (or-right _ _
+              (among-is h level t3 i (rowOf a b) x y
+              (record { rival = u .rival; few = u .few; passes = c; by = u .by; from = u .from; to = u .to; marks = u .marks }))))
+              (λ c.
+              ⊎-elim
+              (λ z.
+              or-right _ _
+              (among-is h level t3 r (rowOf lo' hi') x y
+              (record {
+                rival = u .rival;
+                few = u .few;
+                passes = row-minus na nb (u .rival) (u .few) ∙ both _ _ (u .passes) (ap not c);
+                by = u .by;
+                from = u .from;
+                to = z;
+                marks = u .marks;
+              })))
+              (λ z.
+              let n : isCandidate h v (u .rival) i ≡ false =
+              sym (and-on _ _ (u .passes)) ∙ sym (row-candidates ca cb (u .rival) (u .few)) ∙ c in
+              or-left _ _ (or-left _ _ (bit-had h level t3 (u .rival) i x y (rw z at (u .marks)) v n)))
+              (up-to-prev (u .by) (bit-settled h level t3 (u .rival) (u .by) x y (u .marks) .0) (u .to)))
+
+      -- the candidates' pairs are marked, and they are left out
+      pub remains-next : {u : List ℕ} → Holds u (either (bitOf v) (rivalsAmong h level t3 i (rowOf a b))) → Remains h level t3 w r lo' hi' u
+      unfolding either
+      remains-next k =
+          record {
+            room = k .room;
+            on = chain-prev (m .on) l q;
+            chosen = record { is = λ t2 f e. m .chosen .is t2 f (and-left _ _ (sym (row-minus na nb t2 f) ∙ e)) };
+            rest =
+                λ x y hx hy.
+                ap (λ (b : Bool). b or rivalsAmong h level t3 r (rowOf lo' hi') x y) (k .is x y hx hy) ∙ marked-now x y ∙ m .rest x y hx hy;
+          }
 
 -- ── all rivals ──
 
@@ -241,7 +453,7 @@ module _ {h : List ℕ} (p : Held h) (level : ℕ) where
       same-test _ _
       (λ e.
       let t3 = some-at (λ t3. rivalsOf (historyOf h) level t3 x y) (size (historyOf h)) 1 e in
-      let t2 = some-at (λ t2. rivalBits (historyOf h) level (t3 .at) t2 x y) (size (historyOf h)) 0 (t3 .passes) in
+      let t2 = some-at (λ t2. rivalBits (historyOf h) level (t3 .at) (opCount (historyOf h)) t2 x y) (size (historyOf h)) 0 (t3 .passes) in
       let i = some-at (λ i. rivalBit (historyOf h) level (t3 .at) (t2 .at) i x y) (opCount (historyOf h) + 1) 1 (t2 .passes) in
       bit-rival (historyOf h) level (t3 .at) (t2 .at) (i .at) x y (i .from) (i .to) (i .passes))
       (λ e.
@@ -249,7 +461,8 @@ module _ {h : List ℕ} (p : Held h) (level : ℕ) where
       let i = r .1 in
       some-of (λ t3. rivalsOf (historyOf h) level t3 x y) (size (historyOf h)) 1 (op (historyOf h) (i .at) .tx)
       (p .txs-in (i .at) (i .from) (omega (arith, i .to)) .0) (omega (arith, p .txs-in (i .at) (i .from) (omega (arith, i .to)) .1))
-      (some-of (λ t2. rivalBits (historyOf h) level (op (historyOf h) (i .at) .tx) t2 x y) (size (historyOf h)) 0 y (omega arith) (committed-below (historyOf h) y (r .0))
+      (some-of (λ t2. rivalBits (historyOf h) level (op (historyOf h) (i .at) .tx) (opCount (historyOf h)) t2 x y) (size (historyOf h)) 0 y (omega arith)
+      (committed-below (historyOf h) y (r .0))
       (some-of (λ j. rivalBit (historyOf h) level (op (historyOf h) (i .at) .tx) y j x y) (opCount (historyOf h) + 1) 1 (i .at) (i .from) (i .to)
       (rival-bit (historyOf h) level y x (i .at) (r .0) (i .passes)))))
 

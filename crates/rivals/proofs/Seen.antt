@@ -11,9 +11,11 @@ use Rattle.base.specs.Base.{pick, some, first, last}
 use Rattle.base.proofs.Tests.{known, ifso, split, clash, is-false, same-test, or-right, pick-on, pick-off}
 use Rattle.base.proofs.Searches.{some-at, some-of, some-none, first-cases, first-is, first-end}
 use Rattle.base.proofs.Chains.{last-passes, last-none}
-use Rattle.rules.specs.History.{History, txCount, opCount}
+use Rattle.rules.specs.History.{History, txCount, opCount, committed}
 use Rattle.rules.specs.Reads.{readsFrom}
 use Rattle.rules.specs.Levels.{isRead, basic, leads, sees}
+use Rattle.rules.proofs.Committed.{committed-below}
+use Rattle.rules.proofs.Forced.{basic-committed, leads-committed}
 use Rattle.table.specs.Table.{historyOf, HasTx, ofTx, lastOf, prevOf, Below}
 use Rattle.table.proofs.Chain.{OnChain, chain-last, chain-prev, sought-last, sought-prev}
 use Rattle.bits.specs.Bits.{bitOf, Holds}
@@ -91,6 +93,17 @@ module _ {s : List ℕ} (h : History) (level : ℕ) where
   pub goes-by-leads : level ≡ 3 → Holds s (before (leads h)) → Holds s (before (pairsFor h level))
   unfolding pairsFor
   goes-by-leads e b = rw (pick-on (eqb level 3) (leads h) (basic h) (eq-eqb level 3 e)) b
+
+-- what the search goes by are pairs of committed transactions
+pub pairs-first : (h : History) (level t2 t3 : ℕ) → pairsFor h level t2 t3 ≡ true → committed h t2 ≡ true
+unfolding pairsFor
+pairs-first h level t2 t3 e =
+    ifso (eqb level 3) (λ l. leads-committed h t2 t3 (sym (ap (λ (f : ℕ → ℕ → Bool). f t2 t3) (pick-on _ (leads h) (basic h) l)) ∙ e))
+    (λ l. basic-committed h t2 t3 (sym (ap (λ (f : ℕ → ℕ → Bool). f t2 t3) (pick-off _ (leads h) (basic h) l)) ∙ e) .first)
+
+-- so of some that the history has
+pub pairs-below : (h : History) (level t2 t3 : ℕ) → pairsFor h level t2 t3 ≡ true → t2 ≤ txCount h
+pairs-below h level t2 t3 e = omega (arith, committed-below h t2 (pairs-first h level t2 t3 e))
 
 -- what the table says of (t2, t3)
 pub told-bit : {h k s : List ℕ} {level t2 t3 : ℕ} → Told h k s level → HasTx h t3 → t2 ≤ txCount (historyOf h)

@@ -1,6 +1,7 @@
 -- Document 01, "What each level forces": the search for rivals, and how the table of their pairs is filled.
-use Prim.Native.Nat.{ℕ, _+_, _≤_}
-use mathlib.Core.Bool.{Bool, not}
+use Prim.Native.Nat.{ℕ, _+_, _*_, _≤_, _<_}
+use mathlib.Core.Path.{_≡_}
+use mathlib.Core.Bool.{Bool, true, not}
 use mathlib.Core.List.{List}
 use lib.Dec.{ltb, eqb}
 use Rattle.base.specs.Base.{_and_, _or_, pick, first}
@@ -8,9 +9,9 @@ use Rattle.rules.specs.History.{History, op, opCount, size, sourceOf, committed
 use Rattle.rules.specs.Reads.{writesAt, isExternal, readsFrom}
 use Rattle.rules.specs.Levels.{basic, leads, writesKey, settles}
 use Rattle.table.specs.Table.{historyOf, ofTx, lastOf}
-use Rattle.bits.specs.Bits.{bitOf, Holds}
+use Rattle.bits.specs.Bits.{testBit, bitOf, Holds, rowOf}
 use Rattle.pairs.specs.Pairs.{Ready, before, cell, across}
-use Rattle.keys.specs.Keys.{hasKey}
+use Rattle.keys.specs.Keys.{bucketOf, wrote}
 
 -- the pairs that the search goes by: basic pairs at levels 1 and 2, what leads to what at level 3
 unfoldable pub pairsFor : History → ℕ → ℕ → ℕ → Bool
@@ -61,6 +62,10 @@ isHit h v t2 i = isTried h v t2 i and writesKey h t2 (op h i .key)
 unfoldable pub isHitOf : History → List ℕ → ℕ → ℕ → ℕ → ℕ → Bool
 isHitOf h v t2 t3 from i = isAbove h t3 from i and isHit h v t2 i
 
+-- .. and t2 writes a key of its bucket: so it may write the read's own
+unfoldable pub isCandidate : History → List ℕ → ℕ → ℕ → Bool
+isCandidate h v t2 i = isTried h v t2 i and wrote h (bucketOf (op h i .key)) t2
+
 -- operation w is one of t2's; transaction 0 has none, and any stands for its write
 unfoldable pub standsFor : History → ℕ → ℕ → Bool
 standsFor h t2 w = eqb t2 0 or ofTx h t2 w
@@ -69,33 +74,54 @@ standsFor h t2 w = eqb t2 0 or ofTx h t2 w
 unfoldable pub writesFor : History → ℕ → ℕ → ℕ → Bool
 writesFor h t2 x w = eqb t2 0 or writesAt h t2 x w
 
--- where the look through t2's operations starts: at the last one, for 0 at the read itself; 0, nowhere, for a read that is not tried, or whose key's bit
--- the word x of t2's keys lacks
-unfoldable pub triesFrom : History → List ℕ → ℕ → ℕ → ℕ → ℕ
-triesFrom h v x t2 i = pick (isTried h v t2 i and hasKey x (op h i .key)) (pick (eqb t2 0) i (lastOf h t2)) 0
+-- where the look through t2's operations starts: at the last one, for 0 at the read itself; 0, nowhere, where t2 is no candidate
+unfoldable pub triesFrom : History → List ℕ → ℕ → ℕ → ℕ
+triesFrom h v t2 i = pick (isCandidate h v t2 i) (pick (eqb t2 0) i (lastOf h t2)) 0
 
 -- ── what is marked: row t1 gets the bit t2 ──
 
--- by read i of t3 above `from`, if it fits; by all of them
+-- by read i of t3 above `from`, if it fits; by all of them up to j
 unfoldable pub hitBit : History → ℕ → ℕ → ℕ → ℕ → ℕ → ℕ → Bool
 hitBit h t2 t3 from i = cell (isAbove h t3 from i and fits h t2 i) (sourceOf h i) t2
 
-unfoldable pub hitBits : History → ℕ → ℕ → ℕ → ℕ → ℕ → Bool
-hitBits h t2 t3 from = across 1 (opCount h + 1) (hitBit h t2 t3 from)
+unfoldable pub hitBits : History → ℕ → ℕ → ℕ → ℕ → ℕ → ℕ → Bool
+hitBits h t2 t3 from j = across 1 (j + 1) (hitBit h t2 t3 from)
 
 -- read i is in t3, and settles the pair of t2 and its source
 unfoldable pub settlesIn : History → ℕ → ℕ → ℕ → ℕ → Bool
 settlesIn h level t3 t2 i = committed h t2 and eqb (op h i .tx) t3 and settles h level t2 (sourceOf h i) i
 
--- by read i; by the reads of t3 against t2; against any; by the reads of all transactions
+-- by read i; by the reads of t3 up to j, against t2
 unfoldable pub rivalBit : History → ℕ → ℕ → ℕ → ℕ → ℕ → ℕ → Bool
 rivalBit h level t3 t2 i = cell (settlesIn h level t3 t2 i) (sourceOf h i) t2
 
-unfoldable pub rivalBits : History → ℕ → ℕ → ℕ → ℕ → ℕ → Bool
-rivalBits h level t3 t2 = across 1 (opCount h + 1) (rivalBit h level t3 t2)
+unfoldable pub rivalBits : History → ℕ → ℕ → ℕ → ℕ → ℕ → ℕ → Bool
+rivalBits h level t3 j t2 = across 1 (j + 1) (rivalBit h level t3 t2)
 
+-- .. if it passes p; against all that do
+unfoldable pub rivalBitsIf : History → ℕ → ℕ → ℕ → (ℕ → Bool) → ℕ → ℕ → ℕ → Bool
+rivalBitsIf h level t3 j p t2 x y = p t2 and rivalBits h level t3 j t2 x y
+
+unfoldable pub rivalsAmong : History → ℕ → ℕ → ℕ → (ℕ → Bool) → ℕ → ℕ → Bool
+rivalsAmong h level t3 j p = across 0 128 (rivalBitsIf h level t3 j p)
+
+-- by all reads of t3, against any; by the reads of all transactions
 unfoldable pub rivalsOf : History → ℕ → ℕ → ℕ → ℕ → Bool
-rivalsOf h level t3 = across 0 (size h) (rivalBits h level t3)
+rivalsOf h level t3 = across 0 (size h) (rivalBits h level t3 (opCount h))
 
 unfoldable pub rivals : History → ℕ → ℕ → ℕ → Bool
 rivals h level = across 1 (size h) (rivalsOf h level)
+
+-- ── sets of rivals, in two words ──
+
+-- the level's pairs have all of them before t3
+pub record Chosen (h : History) (level t3 lo hi : ℕ) : Type 0 where
+  pub is : (t2 : ℕ) → t2 < 128 → rowOf lo hi t2 ≡ true → pairsFor h level t2 t3 ≡ true
+
+-- the word r, of the 64 numbers from 64 * half on, has those of `left` that are candidates for read i
+pub record Candidates (h : History) (v : List ℕ) (i left half r : ℕ) : Type 0 where
+  pub is : (y : ℕ) → y < 64 → testBit r y ≡ testBit left y and isCandidate h v (64 * half + y) i
+
+-- .. has a, and nothing else
+pub record Alone (a half r : ℕ) : Type 0 where
+  pub is : (y : ℕ) → y < 64 → testBit r y ≡ eqb a (64 * half + y)

@@ -6,14 +6,14 @@ ghost use Prim.Native.Nat.{_+_, _≤_, _<_};
 ghost use lib.ListN.{length, getD};
 ghost use lib.Dec.{eqb};
 ghost use Rattle.base.specs.Base.{pick, last};
-ghost use Rattle.rules.specs.History.{op, txCount, opCount};
+ghost use Rattle.rules.specs.History.{op, txCount};
 ghost use Rattle.rules.specs.Levels.{isRival};
 ghost use Rattle.table.specs.Table.{historyOf, HasTx, HasOp};
 ghost use Rattle.table.proofs.Chain.{OnChain};
-ghost use Rattle.bits.specs.Bits.{bitOf, Holds, either};
+ghost use Rattle.bits.specs.Bits.{bitOf, Holds, either, rowOf};
 ghost use Rattle.pairs.specs.Pairs.{Ready, before};
-ghost use Rattle.keys.specs.Keys.{Writes, Writers, Readers};
-ghost use Rattle.rivals.specs.Rivals.{Told, pairsFor, firstFrom, seenFrom, standsFor, writesFor, triesFrom, isHitOf, hitBits, rivalBits, rivalsOf, rivals};
+ghost use Rattle.keys.specs.Keys.{wrote};
+ghost use Rattle.rivals.specs.Rivals.{Told, pairsFor, firstFrom, seenFrom, standsFor, writesFor, triesFrom, isHitOf, hitBits, rivalBits, rivalsAmong, rivalsOf, rivals, Chosen, Candidates, Alone};
 
 // ── which reads of t3 see t2 ──
 
@@ -56,11 +56,11 @@ fn seen_from(h: &[u64], k: &[u8], level: u8, t2: usize, t3: usize) -> usize
 // ── the search ──
 
 // Where the look through t2's operations starts that is to show whether read i is a hit: at its last one, and nowhere, 0, where the read is not one that t2
-// can be a rival for, where t2 stands before its source already, or where w, the word of t2's keys, lacks the read's. Transaction 0 has no operation, and
-// writes every key: the read itself stands for its write.
-fn writes_to_try(h: &[u64], k: &[u8], v: &[u64], w: u64, t2: usize, i: usize) -> usize
-    requires { ⌜ Ready (now h) (now k) × (length (now v) ≡ 256) × HasOp (now h) i × (t2 ≤ txCount (historyOf (now h))) ⌝ }
-    ensures { λ r. ⌜ r ≡ triesFrom (historyOf (now (h .entry))) (now (v .entry)) w t2 i ⌝ }
+// can be a rival for, where t2 stands before its source already, or where t2 writes no key of the read's bucket. Transaction 0 has no operation, and writes
+// every key: the read itself stands for its write.
+fn writes_to_try(h: &[u64], k: &[u8], w: &[u64], v: &[u64], t2: usize, i: usize) -> usize
+    requires { ⌜ Ready (now h) (now k) × Holds (now w) (wrote (historyOf (now h))) × (length (now v) ≡ 256) × HasOp (now h) i × (t2 ≤ txCount (historyOf (now h))) ⌝ }
+    ensures { λ r. ⌜ r ≡ triesFrom (historyOf (now (h .entry))) (now (v .entry)) t2 i ⌝ }
 {
     let s = k[i] as usize;
     if s < 8 {
@@ -72,7 +72,7 @@ fn writes_to_try(h: &[u64], k: &[u8], v: &[u64], w: u64, t2: usize, i: usize) ->
     if bits::bit(v, s - 8, t2) {
         return 0;
     }
-    if !keys::has_key(w, table::key_of(h, i)) {
+    if !bits::bit(w, keys::bucket_of(h, i), t2) {
         return 0;
     }
     if t2 == 0 {
@@ -100,26 +100,26 @@ fn writes_same_key(h: &[u64], t2: usize, w: usize, i: usize) -> bool
 fn next_hit(
     h: &[u64],
     k: &[u8],
+    w: &[u64],
     v: &[u64],
-    x: u64,
     t2: usize,
     t3: usize,
     from: usize,
     j: usize,
 ) -> usize
-    requires { ⌜ Ready (now h) (now k) × (length (now v) ≡ 256) × OnChain (historyOf (now h)) t3 j × (t2 ≤ txCount (historyOf (now h))) × Writes (historyOf (now h)) t2 x ⌝ }
+    requires { ⌜ Ready (now h) (now k) × Holds (now w) (wrote (historyOf (now h))) × (length (now v) ≡ 256) × OnChain (historyOf (now h)) t3 j × (t2 ≤ txCount (historyOf (now h))) ⌝ }
     ensures { λ r. ⌜ r ≡ last (isHitOf (historyOf (now (h .entry))) (now (v .entry)) t2 t3 from) (j + 1) ⌝ }
 {
     let mut found = 0;
     let mut i = j;
     'reads: while from < i {
-        let mut w = writes_to_try(h, k, v, x, t2, i);
-        'writes: while 0 < w {
-            if writes_same_key(h, t2, w, i) {
+        let mut o = writes_to_try(h, k, w, v, t2, i);
+        'writes: while 0 < o {
+            if writes_same_key(h, t2, o, i) {
                 found = i;
                 break 'reads;
             }
-            w = table::prev_op(h, w);
+            o = table::prev_op(h, o);
         }
         i = table::prev_op(h, i);
     }
@@ -128,72 +128,117 @@ fn next_hit(
 
 // ── the table of rival pairs ──
 
-// t2 before the source of each hit among the reads of t3. After a hit the search goes on below it, for the reads from another source: this pair is settled.
-fn mark_hits(h: &[u64], k: &[u8], v: &mut [u64], x: u64, t2: usize, t3: usize, from: usize)
-    requires { ⌜ Ready (now h) (now k) × (length (now v) ≡ 256) × HasTx (now h) t3 × (t2 ≤ txCount (historyOf (now h))) × Writes (historyOf (now h)) t2 x ⌝ }
-    ensures { λ r. ⌜ Holds (now (v .exit)) (either (bitOf (now (v .entry))) (hitBits (historyOf (now (h .entry))) t2 t3 from)) ⌝ }
+// t2 before the source of each hit among the reads of t3 up to j. After a hit the search goes on below it, for the reads from another source: this pair is
+// settled.
+fn mark_hits(
+    h: &[u64],
+    k: &[u8],
+    w: &[u64],
+    v: &mut [u64],
+    t2: usize,
+    t3: usize,
+    from: usize,
+    j: usize,
+)
+    requires { ⌜ Ready (now h) (now k) × Holds (now w) (wrote (historyOf (now h))) × (length (now v) ≡ 256) × OnChain (historyOf (now h)) t3 j × (t2 ≤ txCount (historyOf (now h))) ⌝ }
+    ensures { λ r. ⌜ Holds (now (v .exit)) (either (bitOf (now (v .entry))) (hitBits (historyOf (now (h .entry))) t2 t3 from j)) ⌝ }
 {
-    let mut i = next_hit(h, k, v, x, t2, t3, from, table::last_op(h, t3));
+    let mut i = next_hit(h, k, w, v, t2, t3, from, j);
     while 0 < i {
         bits::set_bit(v, k[i] as usize - 8, t2);
-        i = next_hit(h, k, v, x, t2, t3, from, table::prev_op(h, i));
+        i = next_hit(h, k, w, v, t2, t3, from, table::prev_op(h, i));
     }
 }
 
-// The pairs that the reads of t3 settle for t2, which the level's pairs have before t3: "Only committed transactions take part", and a rival is another
-// than t3. Most are none by their words alone: w has the keys that each transaction writes, r those that t3 reads.
+// The pairs that the reads of t3 up to j settle for t2, which the level's pairs have before t3: so it is committed. A rival is another than t3.
 fn mark_rival(
     h: &[u64],
     k: &[u8],
-    w: &[u64; 128],
+    w: &[u64],
     v: &mut [u64],
     level: u8,
     t2: usize,
     t3: usize,
-    r: u64,
+    j: usize,
 )
-    requires { ⌜ Ready (now h) (now k) × (1 ≤ level) × (level ≤ 3) × (pairsFor (historyOf (now h)) level t2 t3 ≡ true) × (length (now v) ≡ 256) × HasTx (now h) t3 × (t2 ≤ txCount (historyOf (now h))) × Writers (historyOf (now h)) (opCount (historyOf (now h)) + 1) (now w) × Readers (historyOf (now h)) t3 0 r ⌝ }
-    ensures { λ r. ⌜ Holds (now (v .exit)) (either (bitOf (now (v .entry))) (rivalBits (historyOf (now (h .entry))) level t3 t2)) ⌝ }
+    requires { ⌜ Ready (now h) (now k) × Holds (now w) (wrote (historyOf (now h))) × (length (now v) ≡ 256) × (1 ≤ level) × (level ≤ 3) × (pairsFor (historyOf (now h)) level t2 t3 ≡ true) × HasTx (now h) t3 × OnChain (historyOf (now h)) t3 j ⌝ }
+    ensures { λ r. ⌜ Holds (now (v .exit)) (either (bitOf (now (v .entry))) (rivalBits (historyOf (now (h .entry))) level t3 j t2)) ⌝ }
 {
-    let x = w[t2];
-    if !keys::meet(x, r) {
-        return;
-    }
     if t2 == t3 {
         return;
     }
-    if !reads::is_committed(h, t2) {
-        return;
-    }
-    mark_hits(h, k, v, x, t2, t3, seen_from(h, k, level, t2, t3));
+    mark_hits(h, k, w, v, t2, t3, seen_from(h, k, level, t2, t3), j);
 }
 
-// .. for any rival, 0 among them: only what the level's pairs have before t3 is looked at, row t3 of s.
-fn mark_rivals_of(
+// ── the candidates of a read ──
+
+// The word of the 64 numbers from 64 * half on that has a, if it is one of them, and nothing else.
+fn own_bit(a: usize, half: usize) -> u64
+    ensures { λ r. ⌜ Alone a half r ⌝ }
+{
+    if a / 64 == half { 1u64 << (a % 64) } else { 0 }
+}
+
+// Those of the set `left`, of the 64 numbers from 64 * half on, that may be rivals for read i: they write a key of its bucket, are not its source, and do not
+// stand before that already.
+fn candidates(h: &[u64], k: &[u8], w: &[u64], v: &[u64], i: usize, left: u64, half: usize) -> u64
+    requires { ⌜ Ready (now h) (now k) × Holds (now w) (wrote (historyOf (now h))) × (length (now v) ≡ 256) × HasOp (now h) i × (half < 2) ⌝ }
+    ensures { λ r. ⌜ Candidates (historyOf (now (h .entry))) (now (v .entry)) i left half r ⌝ }
+{
+    let s = k[i] as usize;
+    if s < 8 {
+        return 0;
+    }
+    let t1 = s - 8;
+    bits::without(
+        left & w[2 * keys::bucket_of(h, i) + half],
+        v[2 * t1 + half] | own_bit(t1, half),
+    )
+}
+
+// The pairs that the reads of t3 up to j settle for the numbers of the set (lo, hi), which the level's pairs have before t3.
+fn mark_rivals_at(
     h: &[u64],
     k: &[u8],
-    s: &[u64],
-    w: &[u64; 128],
+    w: &[u64],
     v: &mut [u64],
     level: u8,
     t3: usize,
+    j: usize,
+    lo: u64,
+    hi: u64,
 )
-    requires { ⌜ Told (now h) (now k) (now s) level × (length (now v) ≡ 256) × HasTx (now h) t3 × Writers (historyOf (now h)) (opCount (historyOf (now h)) + 1) (now w) ⌝ }
-    ensures { λ r. ⌜ Holds (now (v .exit)) (either (bitOf (now (v .entry))) (rivalsOf (historyOf (now (h .entry))) level t3)) ⌝ }
+    requires { ⌜ Ready (now h) (now k) × Holds (now w) (wrote (historyOf (now h))) × (length (now v) ≡ 256) × (1 ≤ level) × (level ≤ 3) × Chosen (historyOf (now h)) level t3 lo hi × HasTx (now h) t3 × OnChain (historyOf (now h)) t3 j ⌝ }
+    ensures { λ r. ⌜ Holds (now (v .exit)) (either (bitOf (now (v .entry))) (rivalsAmong (historyOf (now (h .entry))) level t3 j (rowOf lo hi))) ⌝ }
 {
-    let n = table::txs(h);
-    let r = keys::read_by(h, k, t3);
-    let lo = s[2 * t3];
-    let hi = s[2 * t3 + 1];
     let mut t2 = bits::least_of(lo, hi, 0);
-    while t2 <= n {
-        mark_rival(h, k, w, v, level, t2, t3, r);
+    while t2 < 128 {
+        mark_rival(h, k, w, v, level, t2, t3, j);
         t2 = bits::least_of(lo, hi, t2 + 1);
     }
 }
 
-fn mark_rivals(h: &[u64], k: &[u8], s: &[u64], w: &[u64; 128], v: &mut [u64], level: u8)
-    requires { ⌜ Told (now h) (now k) (now s) level × (length (now v) ≡ 256) × Writers (historyOf (now h)) (opCount (historyOf (now h)) + 1) (now w) ⌝ }
+// .. for any rival, 0 among them: only what the level's pairs have before t3 is looked at, row t3 of s, and at each read, from the last down, only its
+// candidates. These are searched to the end at once, so that no read below has to look at them again; for any other this read settles no pair that v lacks.
+fn mark_rivals_of(h: &[u64], k: &[u8], s: &[u64], w: &[u64], v: &mut [u64], level: u8, t3: usize)
+    requires { ⌜ Told (now h) (now k) (now s) level × Holds (now w) (wrote (historyOf (now h))) × (length (now v) ≡ 256) × HasTx (now h) t3 ⌝ }
+    ensures { λ r. ⌜ Holds (now (v .exit)) (either (bitOf (now (v .entry))) (rivalsOf (historyOf (now (h .entry))) level t3)) ⌝ }
+{
+    let mut lo = s[2 * t3];
+    let mut hi = s[2 * t3 + 1];
+    let mut i = table::last_op(h, t3);
+    while 0 < i {
+        let a = candidates(h, k, w, v, i, lo, 0);
+        let b = candidates(h, k, w, v, i, hi, 1);
+        mark_rivals_at(h, k, w, v, level, t3, i, a, b);
+        lo = bits::without(lo, a);
+        hi = bits::without(hi, b);
+        i = table::prev_op(h, i);
+    }
+}
+
+fn mark_rivals(h: &[u64], k: &[u8], s: &[u64], w: &[u64], v: &mut [u64], level: u8)
+    requires { ⌜ Told (now h) (now k) (now s) level × Holds (now w) (wrote (historyOf (now h))) × (length (now v) ≡ 256) ⌝ }
     ensures { λ r. ⌜ Holds (now (v .exit)) (either (bitOf (now (v .entry))) (rivals (historyOf (now (h .entry))) level)) ⌝ }
 {
     let n = table::txs(h);
@@ -204,13 +249,11 @@ fn mark_rivals(h: &[u64], k: &[u8], s: &[u64], w: &[u64; 128], v: &mut [u64], le
     }
 }
 
-// Row t1 has the bits of the rivals that the level puts before t1.
-pub fn fill_rivals(h: &[u64], k: &[u8], s: &[u64], v: &mut [u64], level: u8)
-    requires { ⌜ Told (now h) (now k) (now s) level × (length (now v) ≡ 256) ⌝ }
+// Row t1 has the bits of the rivals that the level puts before t1. The table w is what `keys::fill_writers` makes.
+pub fn fill_rivals(h: &[u64], k: &[u8], s: &[u64], w: &[u64], v: &mut [u64], level: u8)
+    requires { ⌜ Told (now h) (now k) (now s) level × Holds (now w) (wrote (historyOf (now h))) × (length (now v) ≡ 256) ⌝ }
     ensures { λ r. ⌜ Holds (now (v .exit)) (before (isRival (historyOf (now (h .entry))) level)) ⌝ }
 {
-    let mut w = [0u64; 128];
-    keys::fill_writers(h, &mut w);
     bits::clear(v);
-    mark_rivals(h, k, s, &w, v, level);
+    mark_rivals(h, k, s, w, v, level);
 }

@@ -13,13 +13,13 @@ use Rattle.base.proofs.Tests.{clash, is-true, is-false, both, and-left, and-rig
 use Rattle.base.proofs.Searches.{some-at}
 use Rattle.base.proofs.Rows.{fit-unfit}
 use Rattle.base.proofs.Empty.{parts-none, those-none, joined-empty}
-use Rattle.theory.specs.Leads.{Listed, isListed}
+use Rattle.theory.specs.Leads.{Leads, step, then, Listed, isListed}
 use Rattle.theory.specs.Order.{Forces}
-use Rattle.theory.proofs.Leads.{listed-iff}
+use Rattle.theory.proofs.Leads.{via-leads, listed-iff}
 use Rattle.theory.proofs.Order.{whole-iff}
 use Rattle.rules.specs.History.{History, op, opCount, size, originOf, sourceOf, committed}
 use Rattle.rules.specs.Reads.{kindBy, kindOf, isJudged, isExternal, readsFrom}
-use Rattle.rules.specs.Levels.{isStart, isSession, isRead, basic, settles, isRival, forced}
+use Rattle.rules.specs.Levels.{isStart, isSession, isRead, basic, leads, settles, isRival, forced}
 use Rattle.rules.specs.Outcome.{Pair, pairsOf, pairs, order}
 use Rattle.rules.proofs.Committed.{committed-0, committed-below}
 use Rattle.rules.proofs.Origin.{source-none}
@@ -89,6 +89,15 @@ module _ (h : History) (a b : ℕ) where
     pub forced-committed : forced h level a b ≡ true → Committed h a b
     unfolding forced
     forced-committed e = ⊎-elim basic-committed rival-committed (or-cases _ _ e)
+
+-- the first of what leads through basic pairs counts as well
+pub leads-committed : (h : History) (a b : ℕ) → leads h a b ≡ true → committed h a ≡ true
+unfolding leads
+leads-committed h a b e = go (via-leads (basic h) (size h) a b e)
+  where
+    go : {a b : ℕ} → Leads (basic h) a b → committed h a ≡ true
+    go (step p) = basic-committed h _ _ p .first
+    go (then p q) = basic-committed h _ _ p .first
 
 -- 0 before every other
 start-forced : (h : History) (level b : ℕ) → committed h b ≡ true → (b ≡ 0 → ⊥) → forced h level 0 b ≡ true

@@ -5,9 +5,9 @@ use Rattle.judging.proofs.force.Tie as tie
 
 returns : tie.Need-returns
 returns c =
-    forcing (c .before .before .before .before .before .before .before .before .before .before .before .before .before .before .before .pre .0) (c .before .before .before .before .put-basic .ensures) (c .before .before .before .before .before .before .before .fill-rivals .ensures) (c .join .ensures)
+    forcing (c .before .before .before .before .before .before .before .before .before .before .before .before .before .before .before .before .before .before .before .pre .0) (c .before .before .before .before .put-basic .ensures) (c .before .before .before .before .before .before .before .fill-rivals .ensures) (c .join .ensures)
 
 pub force-spec : {M : Type 1} → statement M
 force-spec =
     tie.close
-    (tie.spec (λ c κs. search needs) (λ c κs. search needs) (λ c κs. search needs) (λ c κs. search needs) returns)
+    (tie.spec (λ c κs. search needs) (λ c κs. search needs) (λ c κs. search needs) (λ c κs. search needs) (λ c κs. search needs) returns)

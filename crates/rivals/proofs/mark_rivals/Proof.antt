@@ -18,23 +18,26 @@ abbrev μ-loop : tie.MeasureT-loop
 
 loop-holds : tie.Need-loop-holds Inv-loop μ-loop
 unfolding rivals
-loop-holds c = (omega arith, mark-start _ _ _ (c .before .before .before .before .before .pre .1))
+loop-holds c = (omega arith, mark-start _ _ _ (c .before .before .before .before .before .before .pre .2))
 
 mark-rivals-of-requires : tie.Need-mark-rivals-of-requires Inv-loop μ-loop
 mark-rivals-of-requires c κs =
-    let p = c .before .before .before .before .before .before .before .before .pre .0 in
+    let p = c .before .before .before .before .before .before .before .before .before .pre in
     let l = c .before .before .loop .inv in
-    (p, l .1 .room, record { held = p .ready .settled .held; from = l .0; to = omega (arith, c .before .before .before .txs .ensures) }, c .before .before .before .before .before .before .before .before .pre .2)
+    (p .0, p .1, l .1 .room, record { held = p .0 .ready .settled .held; from = l .0; to = omega (arith, c .before .before .before .txs .ensures) })
 
 loop-again : tie.Need-loop-again Inv-loop μ-loop
 loop-again c =
-    (omega arith, mark-up _ _ (omega arith) (c .before .before .before .before .before .loop .inv .1) (c .before .before .mark-rivals-of .ensures))
+    let d = c .before .before .before .before .before in
+    (omega arith, mark-up _ _ (omega (arith, d .before .txs .ensures)) (d .loop .inv .1) (c .before .before .mark-rivals-of .ensures))
+
+same-length : tie.Need-same-length Inv-loop μ-loop
+same-length c = c .before .loop .inv .1 .room ∙ sym (c .before .before .before .before .before .before .before .before .pre .2)
 
 returns : tie.Need-returns Inv-loop μ-loop
-returns c = mark-end _ (omega arith) (c .before .loop .inv .1)
+returns c = mark-end _ (omega (arith, c .before .before .txs .ensures)) (c .before .loop .inv .1)
 
 pub mark-rivals-spec : {M : Type 1} → statement M
 mark-rivals-spec =
     tie.close
-    (tie.spec Inv-loop μ-loop (λ c κs. search needs) loop-holds mark-rivals-of-requires (λ c. search needs) (λ c. search needs) loop-again
-    (λ c. c .before .loop .inv .1 .room ∙ sym (c .before .before .before .before .before .before .before .pre .1)) returns)
+    (tie.spec Inv-loop μ-loop (λ c κs. search needs) loop-holds mark-rivals-of-requires (λ c. search needs) (λ c. search needs) loop-again same-length returns)

@@ -1,0 +1,97 @@
+-- Candidates, word by word and as rows.
+use Prim.Native.Nat.{ℕ, _+_, _-_, _*_, _/_, _%_, _^_, _<_, _≤_}
+use mathlib.Core.Path.{_≡_, refl, sym, _∙_}
+use mathlib.Core.Bool.{Bool, true, false, not}
+use mathlib.Core.List.{List}
+use mathlib.Core.Logic.{⊎-elim}
+use native.Mathlib.Omega.{arith}
+use native.Mathlib.Nat.{mod-lt}
+use lib.Bits.{bitAnd, bitOr}
+use lib.ListN.{getD}
+use borrow.Author.Tests.{ne-eqb}
+use Rattle.base.specs.Base.{_and_, _or_}
+use Rattle.base.proofs.Tests.{split, and-no-right, same-eqb}
+use Rattle.rules.specs.History.{History, op}
+use Rattle.table.specs.Table.{historyOf, HasOp}
+use Rattle.bits.specs.Bits.{testBit, lacks, Minus, bitOf, Holds, rowOf}
+use Rattle.bits.proofs.Words.{testBit-zero, testBit-and, testBit-or, testBit-one}
+use Rattle.bits.proofs.Smallest.{row-in-low, row-in-high}
+use Rattle.pairs.specs.Pairs.{Ready}
+use Rattle.pairs.proofs.Pairs.{byte-clean, byte-origin}
+use Rattle.keys.specs.Keys.{bucketOf, wrote}
+use Rattle.rivals.specs.Rivals.{canRival, isTried, isCandidate, Candidates, Alone}
+use Rattle.rivals.proofs.Hits.{other-untried, not-tried}
+
+-- ── one word ──
+
+module _ (a half : ℕ) where
+  pub alone-in : a / 64 ≡ half → Alone a half ((1 * 2 ^ (a % 64)) % 2 ^ 64)
+  alone-in e =
+      record {
+        is =
+            λ y l.
+            testBit-one (a % 64) y (mod-lt a (omega arith)) ∙ same-eqb y (a % 64) a (64 * half + y) (λ q. omega arith) (λ q. omega arith);
+      }
+
+  pub alone-out : (a / 64 ≡ half → ⊥) → Alone a half 0
+  alone-out n = record { is = λ y l. testBit-zero y ∙ sym (ne-eqb a (64 * half + y) (λ q. n (omega arith))) }
+
+-- bit y of a row's word
+word-bit : (t : List ℕ) (a half y : ℕ) → y < 64 → testBit (getD t (2 * a + half) 0) y ≡ bitOf t a (64 * half + y)
+unfolding bitOf
+word-bit t a half y l =
+    let e : (64 * half + y) / 64 ≡ half = omega arith in
+    let m : (64 * half + y) % 64 ≡ y = omega arith in
+    rw (e, m)
+
+sift : (l w b e : Bool) → (l and w) and not (b or e) ≡ l and (true and not e and not b and w)
+unfolding _and_ _or_
+sift false w b e = refl
+sift true true true true = refl
+sift true true true false = refl
+sift true true false true = refl
+sift true true false false = refl
+sift true false true true = refl
+sift true false true false = refl
+sift true false false true = refl
+sift true false false false = refl
+
+module _ {h k : List ℕ} {i : ℕ} (p : Ready h k) (o : HasOp h i) (v : List ℕ) (left half : ℕ) where
+  pub candidates-none : getD k i 0 < 8 → Candidates (historyOf h) v i left half 0
+  candidates-none l =
+      record { is = λ y m. testBit-zero y ∙ sym (and-no-right _ _ (not-tried (historyOf h) v (64 * half + y) i (other-untried p o v (64 * half + y) l))) }
+
+  pub candidates-are : {w : List ℕ} {b own r : ℕ} → Holds w (wrote (historyOf h)) → half < 2 → 8 ≤ getD k i 0 → b ≡ bucketOf (op (historyOf h) i .key) → b < 128
+      → Alone (getD k i 0 - 8) half own
+      → Minus (bitAnd left (getD w (2 * b + half) 0)) (bitOr (getD v (2 * (getD k i 0 - 8) + half) 0) own) r
+      → Candidates (historyOf h) v i left half r
+  unfolding lacks isCandidate isTried canRival
+  candidates-are {w} {b} {own} q two l e few a m =
+      record {
+        is =
+            λ y s.
+            m .is y
+            ∙ rw (testBit-and left (getD w (2 * b + half) 0) y, testBit-or (getD v (2 * (getD k i 0 - 8) + half) 0) own y)
+            (rw (word-bit w b half y s, word-bit v (getD k i 0 - 8) half y s, a .is y s)
+            (rw (q .is b (64 * half + y) few (omega arith), byte-origin p o l, byte-clean p o l, e) (sift (testBit left y) _ _ _)));
+      }
+
+-- ── both words of a row ──
+
+module _ {h : History} {v : List ℕ} {i lo hi a b : ℕ} where
+  pub row-candidates : Candidates h v i lo 0 a → Candidates h v i hi 1 b → (t2 : ℕ) → t2 < 128 → rowOf a b t2 ≡ rowOf lo hi t2 and isCandidate h v t2 i
+  row-candidates p q t2 l =
+      ⊎-elim
+      (λ s.
+      let e : 64 * 0 + t2 ≡ t2 = omega arith in
+      row-in-low a b t2 s ∙ p .is t2 s ∙ rw (e, row-in-low lo hi t2 s))
+      (λ s.
+      let e : 64 * 1 + (t2 - 64) ≡ t2 = omega arith in
+      row-in-high a b t2 s l ∙ q .is (t2 - 64) (omega arith) ∙ rw (e, row-in-high lo hi t2 s l))
+      (split t2 64)
+
+pub row-minus : {lo hi a b p q : ℕ} → Minus lo a p → Minus hi b q → (t2 : ℕ) → t2 < 128 → rowOf p q t2 ≡ rowOf lo hi t2 and not (rowOf a b t2)
+unfolding lacks
+row-minus {lo} {hi} {a} {b} {p} {q} m n t2 l =
+    ⊎-elim (λ s. row-in-low p q t2 s ∙ m .is t2 ∙ rw (row-in-low lo hi t2 s, row-in-low a b t2 s))
+    (λ s. row-in-high p q t2 s l ∙ n .is (t2 - 64) ∙ rw (row-in-high lo hi t2 s l, row-in-high a b t2 s l)) (split t2 64)

@@ -1,0 +1,13 @@
+use borrow.Author.Needs.{needs}
+use Rattle.rivals.proofs.Sifting.{alone-in, alone-out}
+use Rattle.rivals.proofs.own_bit.Statement.{statement}
+use Rattle.rivals.proofs.own_bit.Tie as tie
+
+returns : tie.Need-returns
+returns c = alone-in _ _ (c .if1 .taken)
+
+returns-2 : tie.Need-returns-2
+returns-2 c = alone-out _ _ (c .if1 .left)
+
+pub own-bit-spec : {M : Type 1} → statement M
+own-bit-spec = tie.close (tie.spec (λ c. search needs) returns returns-2)

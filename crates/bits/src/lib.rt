@@ -115,7 +115,7 @@ pub fn close(t: &mut [u64], n: usize)
 // ── numbers of a row ──
 
 // The smallest bit of w from `from` on; 64 or more where there is none.
-fn least(w: u64, from: usize) -> usize
+pub fn least(w: u64, from: usize) -> usize
     requires { ⌜ from < 64 ⌝ }
     ensures { λ r. ⌜ Least (testBit w) from 64 r × (r ≤ 128) ⌝ }
 {

@@ -1,66 +1,150 @@
--- The smallest number that may come next, among the members that are not placed.
-use Prim.Native.Nat.{ℕ, _+_, _-_, _<_, _≤_}
-use mathlib.Core.Path.{_≡_, sym, _∙_}
+-- The smallest number that may come next, among the members that are not placed: one half of them after the other.
+use Prim.Native.Nat.{ℕ, _+_, _-_, _*_, _%_, _^_, _<_, _≤_}
+use mathlib.Core.Path.{_≡_, refl, sym, ap, _∙_}
 use mathlib.Core.Bool.{Bool, true, false, not}
 use mathlib.Core.List.{List}
 use mathlib.Core.Logic.{⊎-elim}
 use native.Mathlib.Omega.{arith}
+use borrow.Author.Tests.{eqb-true, eq-eqb}
 use Rattle.base.specs.Base.{_and_, some, first}
-use Rattle.base.proofs.Tests.{split, clash, and-on, and-no-left}
+use Rattle.base.proofs.Tests.{ifso, split, clash, both, and-left, and-no-left, and-no-right}
 use Rattle.base.proofs.Searches.{first-cases, first-is}
-use Rattle.bits.specs.Bits.{lacks, Minus, rowOf, Least}
-use Rattle.bits.proofs.Smallest.{row-in-low, row-in-high}
-use Rattle.order.specs.Sets.{words, inWords}
-use Rattle.order.specs.Ordering.{waits, isNext}
+use Rattle.bits.specs.Bits.{testBit, lacks, Minus, Least}
+use Rattle.bits.proofs.Words.{testBit-one}
+use Rattle.order.specs.declared.Words.{Words}
+use Rattle.order.specs.Sets.{words}
+use Rattle.order.specs.Ordering.{waits, isNext, isFree}
 use Rattle.order.proofs.Sets.{in-low, in-high}
 
--- one that has come to a
-pub record Came (f : List ℕ) (mlo mhi plo phi lo hi a : ℕ) : Type 0 where
-  pub left : a < 128 → rowOf lo hi a ≡ true
-  pub none : (i : ℕ) → i < a → i < 128 → isNext f (words mlo mhi) (words plo phi) i ≡ false
+-- ── one half ──
 
-module _ (f : List ℕ) {mlo mhi plo phi lo hi : ℕ} (l : Minus mlo plo lo) (h : Minus mhi phi hi) where
-  left-is : (a : ℕ) → a < 128 → rowOf lo hi a ≡ inWords (words mlo mhi) a and not (inWords (words plo phi) a)
-  unfolding lacks
-  left-is a few =
-      ⊎-elim (λ s. row-in-low lo hi a s ∙ l .is a ∙ rw (in-low (words mlo mhi) a s, in-low (words plo phi) a s))
-      (λ g. row-in-high lo hi a g few ∙ h .is (a - 64) ∙ rw (in-high (words mlo mhi) a g, in-high (words plo phi) a g)) (split a 64)
+-- a search that has come to a, of those that `set` has still: all others are kept back, or were never there
+pub record Came (f : List ℕ) (p : Words) (left base set a : ℕ) : Type 0 where
+  pub least : Least (testBit set) 0 64 a
+  pub within : (k : ℕ) → testBit set k ≡ true → testBit left k ≡ true
+  pub tried : (k : ℕ) → k < 64 → testBit set k ≡ false → isFree f p left base (base + k) ≡ false
 
-  -- a number of these may come next by its row alone
-  next-left : {r : Bool} (a : ℕ) → a < 128 → rowOf lo hi a ≡ true → r ≡ not (some 0 128 (waits f (words plo phi) a))
-      → r ≡ isNext f (words mlo mhi) (words plo phi) a
-  unfolding isNext
-  next-left a few t e = e ∙ sym (and-on _ _ (sym (left-is a few) ∙ t))
+module _ (f : List ℕ) (p : Words) (left base : ℕ) where
+  -- by its bit, and by its row
+  free-at : (k : ℕ) → testBit left k ≡ true → not (some 0 128 (waits f p (base + k))) ≡ true → isFree f p left base (base + k) ≡ true
+  unfolding isFree
+  free-at k t e = let z : base + k - base ≡ k = omega arith in both _ _ (ap (testBit left) z ∙ t) e
 
-  next-none : (a : ℕ) → a < 128 → rowOf lo hi a ≡ false → isNext f (words mlo mhi) (words plo phi) a ≡ false
-  unfolding isNext
-  next-none a few t = and-no-left _ _ (sym (left-is a few) ∙ t)
+  lacks-bit : (k : ℕ) → testBit left k ≡ false → isFree f p left base (base + k) ≡ false
+  unfolding isFree
+  lacks-bit k t = let z : base + k - base ≡ k = omega arith in and-no-left _ _ (ap (testBit left) z ∙ t)
 
-  pub came-start : {a : ℕ} → Least (rowOf lo hi) 0 128 a → Came f mlo mhi plo phi lo hi a
-  came-start p = record { left = p .hit; none = λ i m n. next-none i n (p .none i (omega arith) m n) }
+  kept-back : (k : ℕ) → not (some 0 128 (waits f p (base + k))) ≡ false → isFree f p left base (base + k) ≡ false
+  unfolding isFree
+  kept-back k e = and-no-right _ _ e
 
-  pub came-next : {r : Bool} {a b : ℕ} → Came f mlo mhi plo phi lo hi a → a < 128 → r ≡ not (some 0 128 (waits f (words plo phi) a)) → r ≡ false
-      → Least (rowOf lo hi) (a + 1) 128 b → Came f mlo mhi plo phi lo hi b
-  came-next {a = a} c s e q p =
+  pub came-start : {a : ℕ} → Least (testBit left) 0 64 a → Came f p left base left a
+  came-start l = record { least = l; within = λ k t. t; tried = λ k _ t. lacks-bit k t }
+
+  module _ {set a : ℕ} (c : Came f p left base set a) (s : a < 64) {u b : ℕ} (m : Minus set ((1 * 2 ^ a) % 2 ^ 64) u) (l : Least (testBit u) 0 64 b) where
+    -- a is taken out
+    without-is : (k : ℕ) → testBit u k ≡ true → testBit set k ≡ true
+    unfolding lacks
+    without-is k t = and-left _ _ (sym (m .is k) ∙ t)
+
+    taken-out : testBit u a ≡ false
+    unfolding lacks
+    taken-out = m .is a ∙ and-no-right _ _ (ap not (testBit-one a a s ∙ eq-eqb a a refl))
+
+    other-stays : (k : ℕ) → testBit set k ≡ true → testBit u k ≡ false → k ≡ a
+    unfolding lacks
+    other-stays k t n =
+        ifso (testBit ((1 * 2 ^ a) % 2 ^ 64) k) (λ y. eqb-true k a (sym (testBit-one a k s) ∙ y))
+        (λ y. absurd (clash (both _ _ t (ap not y)) (sym (m .is k) ∙ n)))
+
+    -- .. so that the next one is greater
+    pub came-more : a < b
+    came-more =
+        ⊎-elim (λ g. g)
+        (λ g.
+        let t = l .hit (omega arith) in
+        absurd
+        (⊎-elim (λ x. clash (without-is b t) (c .least .none b (omega arith) x (omega arith)))
+        (λ x. let z : b ≡ a = omega arith in clash (rw z at t) taken-out) (split b a)))
+        (split a b)
+
+    pub came-next : {r : Bool} → r ≡ not (some 0 128 (waits f p (base + a))) → r ≡ false → Came f p left base u b
+    came-next e q =
+        record {
+          least = l;
+          within = λ k t. c .within k (without-is k t);
+          tried =
+              λ k x n.
+              ifso (testBit set k) (λ t. let z : k ≡ a = other-stays k t n in rw z (kept-back a (sym e ∙ q))) (λ t. c .tried k x t);
+        }
+
+  module _ {set a : ℕ} (c : Came f p left base set a) where
+    none-below : (i : ℕ) → base ≤ i → i < base + a → i < base + 64 → isFree f p left base i ≡ false
+    none-below i x y z =
+        let e : base + (i - base) ≡ i = omega arith in
+        rw e at (c .tried (i - base) (omega arith) (c .least .none (i - base) (omega arith) (omega arith) (omega arith)))
+
+    pub came-hit : {r : Bool} → a < 64 → r ≡ not (some 0 128 (waits f p (base + a))) → r ≡ true
+        → Least (isFree f p left base) base (base + 64) (base + a) × (base + 64 ≤ base + a → base + a ≡ 128)
+    came-hit s e q = (
       record {
-        left = p .hit;
-        none =
-            λ i m n.
-            ⊎-elim (λ x. c .none i x n)
-            (λ x.
-            ⊎-elim (λ y. next-none i n (p .none i (omega arith) m n))
-            (λ y. let z : i ≡ a = omega arith in rw z (sym (next-left a s (c .left s) e) ∙ q)) (split a i))
-            (split i a);
-      }
+        from = omega arith;
+        hit = λ _. free-at a (c .within a (c .least .hit s)) (sym e ∙ q);
+        none = λ i x y z. none-below i x y z;
+      },
+      λ g. absurd (omega arith),
+    )
 
-  pub came-hit : {r : Bool} {a n : ℕ} → Came f mlo mhi plo phi lo hi a → n ≤ 128 → a < n → r ≡ not (some 0 128 (waits f (words plo phi) a)) → r ≡ true
-      → a ≡ first n 0 n (isNext f (words mlo mhi) (words plo phi))
-  came-hit {a = a} {n = n} c few s e q =
-      sym
-      (first-is n (isNext f (words mlo mhi) (words plo phi)) n 0 a
-      (record { from = omega arith; to = s; passes = sym (next-left a (omega arith) (c .left (omega arith)) e) ∙ q; none = λ i _ m. c .none i m (omega arith) }))
+    pub came-end : base ≤ 64 → 64 ≤ a → Least (isFree f p left base) base (base + 64) 128 × (base + 64 ≤ 128 → _≡_ {A = ℕ} 128 128)
+    came-end few g = (
+      record { from = omega arith; hit = λ l. absurd (omega arith); none = λ i x y z. none-below i x (omega arith) z },
+      λ _. refl,
+    )
 
-  pub came-end : {a n : ℕ} → Came f mlo mhi plo phi lo hi a → n ≤ 128 → n ≤ a → n ≡ first n 0 n (isNext f (words mlo mhi) (words plo phi))
-  came-end {n = n} c few g =
-      ⊎-elim (λ z. sym (z .0)) (λ x. absurd (clash (x .passes) (c .none _ (omega (arith, x .to)) (omega (arith, x .to)))))
-      (first-cases n (isNext f (words mlo mhi) (words plo phi)) n 0)
+-- ── both ──
+
+module _ (f : List ℕ) {mlo plo lo : ℕ} (l : Minus mlo plo lo) (mhi phi : ℕ) where
+  -- the members of the low half that are not placed
+  low-is : (a : ℕ) → a < 64 → isFree f (words plo phi) lo 0 a ≡ isNext f (words mlo mhi) (words plo phi) a
+  unfolding isFree isNext lacks
+  low-is a s =
+      let z : a - 0 ≡ a = omega arith in
+      rw z (rw (in-low (words mlo mhi) a s, in-low (words plo phi) a s) (ap (λ (t : Bool). t and not (some 0 128 (waits f (words plo phi) a))) (l .is a)))
+
+  module _ {n a : ℕ} (few : n ≤ 128) (x : Least (isFree f (words plo phi) lo 0) 0 64 a × (64 ≤ a → a ≡ 128)) where
+    below-low : (i : ℕ) → i < a → i < 64 → isNext f (words mlo mhi) (words plo phi) i ≡ false
+    below-low i m s = sym (low-is i s) ∙ x .0 .none i (omega arith) m s
+
+    pub first-low : a < n → a ≡ first n 0 n (isNext f (words mlo mhi) (words plo phi))
+    first-low m =
+        let s : a < 64 = ⊎-elim (λ y. y) (λ y. absurd (omega (arith, x .1 y))) (split a 64) in
+        sym
+        (first-is n (isNext f (words mlo mhi) (words plo phi)) n 0 a
+        (record { from = omega arith; to = m; passes = sym (low-is a s) ∙ x .0 .hit s; none = λ i _ y. below-low i y (omega arith) }))
+
+    module _ (past : n ≤ a) {hi b : ℕ} (h : Minus mhi phi hi) (y : Least (isFree f (words plo phi) hi 64) 64 128 b × (128 ≤ b → b ≡ 128)) where
+      -- .. and of the high one
+      high-is : (a : ℕ) → 64 ≤ a → isFree f (words plo phi) hi 64 a ≡ isNext f (words mlo mhi) (words plo phi) a
+      unfolding isFree isNext lacks
+      high-is a g =
+          rw (in-high (words mlo mhi) a g, in-high (words plo phi) a g) (ap (λ (t : Bool). t and not (some 0 128 (waits f (words plo phi) a))) (h .is (a - 64)))
+
+      below-both : (i : ℕ) → i < n → i < b → isNext f (words mlo mhi) (words plo phi) i ≡ false
+      below-both i m k =
+          ⊎-elim (λ s. below-low i (omega arith) s) (λ g. sym (high-is i g) ∙ y .0 .none i g k (omega arith)) (split i 64)
+
+      pub first-high : b < n → b ≡ first n 0 n (isNext f (words mlo mhi) (words plo phi))
+      first-high m =
+          sym
+          (first-is n (isNext f (words mlo mhi) (words plo phi)) n 0 b
+          (record {
+            from = omega arith;
+            to = m;
+            passes = sym (high-is b (y .0 .from)) ∙ y .0 .hit (omega arith);
+            none = λ i _ k. below-both i (omega arith) k;
+          }))
+
+      pub first-none : n ≤ b → n ≡ first n 0 n (isNext f (words mlo mhi) (words plo phi))
+      first-none g =
+          ⊎-elim (λ z. sym (z .0)) (λ z. absurd (clash (z .passes) (below-both _ (z .to) (omega (arith, z .to)))))
+          (first-cases n (isNext f (words mlo mhi) (words plo phi)) n 0)

@@ -2,14 +2,14 @@
 ghost use mathlib.Core.Path.{_≡_};
 ghost use mathlib.Core.List.{[]};
 ghost use mathlib.Core.Bool.{not};
-ghost use Prim.Native.Nat.{_≤_, _<_};
+ghost use Prim.Native.Nat.{_+_, _≤_, _<_};
 ghost use lib.ListN.{length, take};
 ghost use Rattle.base.specs.Base.{some, first};
 ghost use Rattle.base.proofs.Fill.{Appended};
 ghost use Rattle.theory.specs.Order.{rest};
-ghost use Rattle.bits.specs.Bits.{lacks, Under};
+ghost use Rattle.bits.specs.Bits.{Least, lacks, Under};
 ghost use Rattle.order.specs.Sets.{words, inWords, Plus, Given};
-ghost use Rattle.order.specs.Ordering.{standsBefore, waits, isNext, Orderable};
+ghost use Rattle.order.specs.Ordering.{standsBefore, waits, isNext, isFree, Orderable};
 
 // A set of numbers below 128.
 pub struct Words {
@@ -70,19 +70,35 @@ fn follows(f: &[u64; 256], plo: u64, phi: u64, a: usize) -> bool
     covers(f[2 * a + 1], phi)
 }
 
-// The smallest that may come next, or n.
+// The smallest of the numbers from `base` on, of which `left` has the bits, that is not kept back; 128 where each is.
+fn next_of(f: &[u64; 256], plo: u64, phi: u64, left: u64, base: usize) -> usize
+    requires { ⌜ base ≤ 64 ⌝ }
+    ensures { λ r. ⌜ Least (isFree (now (f .entry)) (words plo phi) left base) base (base + 64) r × (base + 64 ≤ r → r ≡ 128) ⌝ }
+{
+    let mut set = left;
+    let mut a = bits::least(set, 0);
+    while a < 64 {
+        if follows(f, plo, phi, base + a) {
+            return base + a;
+        }
+        set = bits::without(set, 1u64 << a);
+        a = bits::least(set, 0);
+    }
+    128
+}
+
+// The smallest that may come next, or n: only members that are not placed are looked at.
 fn next(f: &[u64; 256], n: usize, mlo: u64, mhi: u64, plo: u64, phi: u64) -> usize
     requires { ⌜ n ≤ 128 ⌝ }
     ensures { λ r. ⌜ r ≡ first n 0 n (isNext (now (f .entry)) (words mlo mhi) (words plo phi)) ⌝ }
 {
-    let lo = bits::without(mlo, plo);
-    let hi = bits::without(mhi, phi);
-    let mut a = bits::least_of(lo, hi, 0);
-    while a < n {
-        if follows(f, plo, phi, a) {
-            return a;
-        }
-        a = bits::least_of(lo, hi, a + 1);
+    let a = next_of(f, plo, phi, bits::without(mlo, plo), 0);
+    if a < n {
+        return a;
+    }
+    let b = next_of(f, plo, phi, bits::without(mhi, phi), 64);
+    if b < n {
+        return b;
     }
     n
 }

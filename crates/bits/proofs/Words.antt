@@ -19,78 +19,54 @@ pub testBit-zero : (k : ℕ) → testBit 0 k ≡ false
 unfolding testBit
 testBit-zero k = rw (div-eq-of-lt (pow-pos k))
 
--- ── both words' bits ──
+-- ── two words, bit by bit ──
 
-max-bit : (p q : ℕ) → p < 2 → q < 2 → eqb (max p q) 1 ≡ eqb p 1 or eqb q 1
-unfolding _or_
-max-bit zero zero hp hq = refl
-max-bit zero (suc zero) hp hq = refl
-max-bit (suc zero) zero hp hq = refl
-max-bit (suc zero) (suc zero) hp hq = refl
-max-bit zero (suc (suc q)) hp hq = absurd (omega arith)
-max-bit (suc zero) (suc (suc q)) hp hq = absurd (omega arith)
-max-bit (suc (suc p)) q hp hq = absurd (omega arith)
+-- an operation on words that goes bit by bit, g on the lowest ones, is f on each bit
+module _ (op g : ℕ → ℕ → ℕ) (f : Bool → Bool → Bool) (shr : (u v k : ℕ) → op u v / 2 ^ k ≡ op (u / 2 ^ k) (v / 2 ^ k))
+    (step : (u v : ℕ) → op u v ≡ op (u / 2) (v / 2) * 2 + g (u % 2) (v % 2))
+    (bit : (p q : ℕ) → p < 2 → q < 2 → (g p q < 2) × (eqb (g p q) 1 ≡ f (eqb p 1) (eqb q 1))) where
+  low-of : (u v : ℕ) → op u v % 2 ≡ g (u % 2) (v % 2)
+  low-of u v =
+      ap (λ (n : ℕ). n % 2) (step u v) ∙ digits-mod (op (u / 2) (v / 2)) (bit (u % 2) (v % 2) (mod-lt u (omega arith)) (mod-lt v (omega arith)) .0)
 
-or-low : (u v : ℕ) → bitOr u v % 2 ≡ max (u % 2) (v % 2)
-or-low u v =
-    ap (λ (n : ℕ). n % 2) (or-step u v)
-    ∙ digits-mod (bitOr (u / 2) (v / 2)) (omega (arith, mod-lt u {m = 2} (omega arith), mod-lt v {m = 2} (omega arith)))
+  bit-by-bit : (u v k : ℕ) → testBit (op u v) k ≡ f (testBit u k) (testBit v k)
+  unfolding testBit
+  bit-by-bit u v k =
+      rw (shr u v k, low-of (u / 2 ^ k) (v / 2 ^ k)) (bit (u / 2 ^ k % 2) (v / 2 ^ k % 2) (mod-lt _ (omega arith)) (mod-lt _ (omega arith)) .1)
+
+-- what holds of the four pairs of bits holds of all
+on-bits : (P : ℕ → ℕ → Type 0) → P 0 0 → P 0 1 → P 1 0 → P 1 1 → (p q : ℕ) → p < 2 → q < 2 → P p q
+on-bits P a b c d zero zero hp hq = a
+on-bits P a b c d zero (suc zero) hp hq = b
+on-bits P a b c d (suc zero) zero hp hq = c
+on-bits P a b c d (suc zero) (suc zero) hp hq = d
+on-bits P a b c d zero (suc (suc q)) hp hq = absurd (omega arith)
+on-bits P a b c d (suc zero) (suc (suc q)) hp hq = absurd (omega arith)
+on-bits P a b c d (suc (suc p)) q hp hq = absurd (omega arith)
 
 pub testBit-or : (x y k : ℕ) → testBit (bitOr x y) k ≡ testBit x k or testBit y k
-unfolding testBit
-testBit-or x y k =
-    rw (or-shr x y k, or-low (x / 2 ^ k) (y / 2 ^ k)) (max-bit (x / 2 ^ k % 2) (y / 2 ^ k % 2) (mod-lt _ (omega arith)) (mod-lt _ (omega arith)))
-
--- ── what both words have ──
-
-min-bit : (p q : ℕ) → p < 2 → q < 2 → eqb (min p q) 1 ≡ eqb p 1 and eqb q 1
-unfolding _and_
-min-bit zero zero hp hq = refl
-min-bit zero (suc zero) hp hq = refl
-min-bit (suc zero) zero hp hq = refl
-min-bit (suc zero) (suc zero) hp hq = refl
-min-bit zero (suc (suc q)) hp hq = absurd (omega arith)
-min-bit (suc zero) (suc (suc q)) hp hq = absurd (omega arith)
-min-bit (suc (suc p)) q hp hq = absurd (omega arith)
-
-and-low : (u v : ℕ) → bitAnd u v % 2 ≡ min (u % 2) (v % 2)
-and-low u v =
-    ap (λ (n : ℕ). n % 2) (and-step u v)
-    ∙ digits-mod (bitAnd (u / 2) (v / 2)) (omega (arith, mod-lt u {m = 2} (omega arith), mod-lt v {m = 2} (omega arith)))
+unfolding _or_
+testBit-or =
+    bit-by-bit bitOr max _or_ or-shr or-step
+    (on-bits (λ p q. (max p q < 2) × (eqb (max p q) 1 ≡ eqb p 1 or eqb q 1)) (omega arith, refl) (omega arith, refl) (omega arith, refl) (omega arith, refl))
 
 pub testBit-and : (x y k : ℕ) → testBit (bitAnd x y) k ≡ testBit x k and testBit y k
-unfolding testBit
-testBit-and x y k =
-    rw (and-shr x y k, and-low (x / 2 ^ k) (y / 2 ^ k)) (min-bit (x / 2 ^ k % 2) (y / 2 ^ k % 2) (mod-lt _ (omega arith)) (mod-lt _ (omega arith)))
+unfolding _and_
+testBit-and =
+    bit-by-bit bitAnd min _and_ and-shr and-step
+    (on-bits (λ p q. (min p q < 2) × (eqb (min p q) 1 ≡ eqb p 1 and eqb q 1)) (omega arith, refl) (omega arith, refl) (omega arith, refl) (omega arith, refl))
 
 -- ── a word without the bits of another ──
 
-differ-bit : (x y : ℕ) → x < 2 → y < 2 → eqb (differ x y) 1 ≡ (eqb x 1 and not (eqb y 1)) or (eqb y 1 and not (eqb x 1))
+-- one of the two, and not both
+abbrev apart : Bool → Bool → Bool
+apart a b = (a and not b) or (b and not a)
+
+testBit-xor : (x y k : ℕ) → testBit (bitXor x y) k ≡ apart (testBit x k) (testBit y k)
 unfolding _and_ _or_
-differ-bit zero zero hx hy = refl
-differ-bit zero (suc zero) hx hy = refl
-differ-bit (suc zero) zero hx hy = refl
-differ-bit (suc zero) (suc zero) hx hy = refl
-differ-bit zero (suc (suc y)) hx hy = absurd (omega arith)
-differ-bit (suc zero) (suc (suc y)) hx hy = absurd (omega arith)
-differ-bit (suc (suc x)) y hx hy = absurd (omega arith)
-
-differ-few : (x y : ℕ) → x < 2 → y < 2 → differ x y < 2
-differ-few zero y hx hy = hy
-differ-few (suc zero) zero hx hy = hx
-differ-few (suc zero) (suc zero) hx hy = omega arith
-differ-few (suc zero) (suc (suc y)) hx hy = absurd (omega arith)
-differ-few (suc (suc x)) y hx hy = absurd (omega arith)
-
-xor-low : (u v : ℕ) → bitXor u v % 2 ≡ differ (u % 2) (v % 2)
-xor-low u v =
-    ap (λ (n : ℕ). n % 2) (xor-step u v) ∙ digits-mod (bitXor (u / 2) (v / 2)) (differ-few (u % 2) (v % 2) (mod-lt u (omega arith)) (mod-lt v (omega arith)))
-
-testBit-xor : (u v k : ℕ) → testBit (bitXor u v) k ≡ (testBit u k and not (testBit v k)) or (testBit v k and not (testBit u k))
-unfolding testBit
-testBit-xor u v k =
-    rw (xor-shr u v k, xor-low (u / 2 ^ k) (v / 2 ^ k))
-    (differ-bit (u / 2 ^ k % 2) (v / 2 ^ k % 2) (mod-lt _ (omega arith)) (mod-lt _ (omega arith)))
+testBit-xor =
+    bit-by-bit bitXor differ apart xor-shr xor-step
+    (on-bits (λ p q. (differ p q < 2) × (eqb (differ p q) 1 ≡ apart (eqb p 1) (eqb q 1))) (omega arith, refl) (omega arith, refl) (omega arith, refl) (omega arith, refl))
 
 or-then-not : (a b : Bool) → ((a or b) and not b) or (b and not (a or b)) ≡ a and not b
 unfolding _and_ _or_

@@ -238,13 +238,13 @@ fn put_basic(h: &[u64], k: &[u8], level: u8, s: &[u64; 256], f: &mut [u64; 256])
 }
 
 // f: forced pairs; v: "The level adds the pair t2 before t1"; s: what the search for these went by. While it goes on, f lends its room to the table of who
-// writes what.
+// writes what, and before it v to the keys that are read.
 fn force(h: &[u64], k: &[u8], level: u8, f: &mut [u64; 256], s: &mut [u64; 256], v: &mut [u64; 256])
     requires { ⌜ AtLevel (now h) (now k) level × (length (now f) ≡ 256) × (length (now s) ≡ 256) × (length (now v) ≡ 256) ⌝ }
     ensures { λ r. ⌜ Forcing (now (h .entry)) (now (k .entry)) (now (f .exit)) (now (v .exit)) level ⌝ }
 {
     tell(h, k, level, s);
-    keys::fill_writers(h, f);
+    keys::fill_writers(h, k, v, f);
     rivals::fill_rivals(h, k, s, f, v, level);
     put_basic(h, k, level, s, f);
     bits::join(v, f);

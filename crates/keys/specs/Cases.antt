@@ -1,43 +1,62 @@
--- Who writes a key of which bucket, computed; and whole traces with different keys that share one. A table and a statement each.
+-- Who writes the keys that are read, by buckets, computed; and whole traces with different keys that share a bucket. A table and a statement each.
 use Prim.Native.Nat.{ℕ}
 use mathlib.Core.Path.{_≡_, refl}
 use mathlib.Core.Bool.{Bool, true, false}
 use mathlib.Core.List.{List, [], _∷_, _++_, map}
-use Rattle.base.specs.Base.{_and_, _or_, someOf, some}
-use Rattle.rules.specs.History.{History, Op, op}
+use Rattle.rules.specs.History.{History, Tx, Op}
 use Rattle.rules.specs.Traces.{whole, T, r, w, pair}
 use Rattle.rules.specs.Edges.{as-they-should}
 use Rattle.rules.specs.Cases.{Case, case, all, acceptsWith, rejectsWith, swapped, found}
-use Rattle.keys.specs.Keys.{bucketOf, writesInto, wrote}
+use Rattle.keys.specs.Keys.{bucketOf, readsInto, keyBelow, keyRead, readsOther, isShared, isEntered, writesInto, wrote, writers}
 
--- a write, or a read, by t of the key x; what value it has does not matter
-abbrev writes : ℕ → ℕ → Op
-writes t x = record { tx = t; isWrite = true; key = x; value = 7 }
+-- ── who writes a key that is read ──
 
-abbrev reads : ℕ → ℕ → Op
-reads t x = record { tx = t; isWrite = false; key = x; value = 7 }
+abbrev by : ℕ → Bool → ℕ → ℕ → Op
+by t isWrite x v = record { tx = t; isWrite = isWrite; key = x; value = v }
 
--- T1 w1; T2 w129; T3 w2 r1; T4 r3
-abbrev history : History
-history = record { txs = []; ops = writes 1 1 ∷ writes 2 129 ∷ writes 3 2 ∷ reads 3 1 ∷ reads 4 3 ∷ [] }
+-- committed, each in a session of its own
+abbrev committed : ℕ → Tx
+committed t = record { session = t; status = 1 }
 
--- transactions 0 to 4, in the bucket b
-abbrev inBucket : ℕ → List Bool
-inBucket b = map (wrote history b) (0 ∷ 1 ∷ 2 ∷ 3 ∷ 4 ∷ [])
+-- T1 w1=7; T2 w129=8 w2=9; T3 r1=7 r3=0; T4 w131=5; T5 and what it does
+abbrev ending : List Op → History
+ending last =
+    record {
+      txs = committed 1 ∷ committed 2 ∷ committed 3 ∷ committed 4 ∷ committed 5 ∷ [];
+      ops = by 1 true 1 7 ∷ by 2 true 129 8 ∷ by 2 true 2 9 ∷ by 3 false 1 7 ∷ by 3 false 3 0 ∷ by 4 true 131 5 ∷ last;
+    }
 
--- .. in the buckets 0 to 3
-abbrev pub computed : List (List Bool)
-computed = map inBucket (0 ∷ 1 ∷ 2 ∷ 3 ∷ [])
+-- the first six bits of a row: whether the bucket is shared, and transactions 1 to 5
+abbrev row : History → ℕ → List Bool
+row h b = map (writers h b) (0 ∷ 1 ∷ 2 ∷ 3 ∷ 4 ∷ 5 ∷ [])
 
--- the keys 1 and 129 share bucket 1, key 2 has another; transaction 0 is in every bucket; a read puts nothing in
+-- the rows of the buckets 1, 2 and 3
+abbrev rows : History → List (List Bool)
+rows h = map (row h) (1 ∷ 2 ∷ 3 ∷ [])
+
+abbrev pub computed : List (List (List Bool))
+computed = rows (ending []) ∷ rows (ending (by 5 false 129 8 ∷ [])) ∷ rows (ending (by 5 true 3 6 ∷ by 5 false 2 9 ∷ [])) ∷ []
+
+-- the keys 1 and 129 share bucket 1, 3 and 131 bucket 3
 pub as-entered :
     computed
-    ≡ (true ∷ false ∷ false ∷ false ∷ false ∷ [])
-    ∷ (true ∷ true ∷ true ∷ false ∷ false ∷ [])
-    ∷ (true ∷ false ∷ false ∷ true ∷ false ∷ [])
-    ∷ (true ∷ false ∷ false ∷ false ∷ false ∷ [])
+    -- of bucket 1 the key 1 is read: T1 writes it. Nobody reads 2, and nobody writes 3
+    ≡ ((false ∷ true ∷ false ∷ false ∷ false ∷ false ∷ [])
+    ∷ (false ∷ false ∷ false ∷ false ∷ false ∷ false ∷ [])
+    ∷ (false ∷ false ∷ false ∷ false ∷ false ∷ false ∷ [])
+    ∷ [])
+    -- T5 r129=8: both keys of bucket 1 are read, so that it is shared, and has T2 as well
+    ∷ ((true ∷ true ∷ true ∷ false ∷ false ∷ false ∷ [])
+    ∷ (false ∷ false ∷ false ∷ false ∷ false ∷ false ∷ [])
+    ∷ (false ∷ false ∷ false ∷ false ∷ false ∷ false ∷ [])
+    ∷ [])
+    -- T5 w3=6 r2=9: bucket 2 has T2, bucket 3 T5, and not T4
+    ∷ ((false ∷ true ∷ false ∷ false ∷ false ∷ false ∷ [])
+    ∷ (false ∷ false ∷ true ∷ false ∷ false ∷ false ∷ [])
+    ∷ (false ∷ false ∷ false ∷ false ∷ false ∷ true ∷ [])
+    ∷ [])
     ∷ []
-unfolding bucketOf writesInto wrote op _and_ _or_ someOf some
+unfolding as-they-should bucketOf readsInto keyBelow keyRead readsOther isShared isEntered writesInto wrote writers
 as-entered = refl
 
 -- ── traces ──

@@ -19,8 +19,8 @@ use Rattle.table.proofs.Chain.{OnChain, on-last, chain-prev, sought-prev}
 use Rattle.bits.specs.Bits.{bitOf, Holds}
 use Rattle.pairs.specs.Pairs.{Ready}
 use Rattle.pairs.proofs.Pairs.{byte-clean, byte-other, byte-origin}
-use Rattle.keys.specs.Keys.{bucketOf, wrote}
-use Rattle.keys.proofs.Keys.{key-wrote}
+use Rattle.keys.specs.Keys.{bucketOf, isShared, wrote, writers}
+use Rattle.keys.proofs.Keys.{writers-zero, writers-other, key-wrote}
 use Rattle.rivals.specs.Rivals.{isAbove, canRival, fits, isTried, isCandidate, isHit, isHitOf, standsFor, writesFor, triesFrom}
 
 -- ── one operation of t2 ──
@@ -82,10 +82,18 @@ module _ {h k : List ℕ} {i : ℕ} (p : Ready h k) (o : HasOp h i) (v : List �
       let s = byte-origin p o l in
       rw (s, e) (both _ _ (both _ _ (byte-clean p o l) (ap not (ne-eqb (getD k i 0 - 8) t2 (λ q. n (omega arith))))) refl)
 
--- what the table of writers says of its bucket
-pub bucket-bit : (h : History) (t2 i : ℕ) {w : List ℕ} {b : ℕ} {r : Bool} → Holds w (wrote h) → b ≡ bucketOf (op h i .key) → b < 128 → t2 < 128
-    → r ≡ bitOf w b t2 → r ≡ wrote h (bucketOf (op h i .key)) t2
-bucket-bit h t2 i p e l m q = q ∙ p .is _ t2 l m ∙ ap (λ (x : ℕ). wrote h x t2) e
+-- what the table of writers says of its bucket: whether this has t2, another than 0, and whether it is shared
+module _ (h : History) (i : ℕ) {w : List ℕ} {b : ℕ} {r : Bool} (p : Holds w (writers h)) (e : b ≡ bucketOf (op h i .key)) (l : b < 128) where
+  pub bucket-bit : (t2 : ℕ) → (t2 ≡ 0 → ⊥) → t2 < 128 → r ≡ bitOf w b t2 → r ≡ wrote h (bucketOf (op h i .key)) t2
+  bucket-bit t2 n m q = q ∙ p .is _ t2 l m ∙ writers-other h b t2 n ∙ ap (λ (x : ℕ). wrote h x t2) e
+
+  pub bucket-shared : r ≡ bitOf w b 0 → r ≡ isShared h (bucketOf (op h i .key))
+  bucket-shared q = q ∙ p .is _ 0 l (omega arith) ∙ writers-zero h b ∙ ap (isShared h) e
+
+-- transaction 0 is in every bucket
+pub wrote-zero : (h : History) (b t2 : ℕ) → t2 ≡ 0 → wrote h b t2 ≡ true
+unfolding wrote
+wrote-zero h b t2 z = or-left _ _ (eq-eqb t2 0 z)
 
 module _ (h : History) (v : List ℕ) (t2 i : ℕ) where
   -- a candidate is tried, and writes a key of the read's bucket
@@ -125,9 +133,10 @@ module _ (h : History) (v : List ℕ) (t2 i : ℕ) where
   tries-none : isHit h v t2 i ≡ false → Tries h v t2 i 0
   tries-none e = record { to = omega arith; stands = λ l. absurd (omega arith); whole = e ∙ sym (some-end _ 1 (0 + 1) (omega arith)) }
 
-  hit-candidate : isHit h v t2 i ≡ true → isCandidate h v t2 i ≡ true
-  unfolding isHit
-  hit-candidate e = candidate h v t2 i (and-left _ _ e) (key-wrote h t2 (op h i .key) (and-right _ _ e))
+  hit-candidate : 1 ≤ i → i ≤ opCount h → isHit h v t2 i ≡ true → isCandidate h v t2 i ≡ true
+  unfolding isHit isTried canRival
+  hit-candidate a b e =
+      candidate h v t2 i (and-left _ _ e) (key-wrote h i (and-left _ _ (and-left _ _ (and-left _ _ e))) a b t2 (and-right _ _ e))
 
   module _ (t : isCandidate h v t2 i ≡ true) where
     hit-key : isHit h v t2 i ≡ writesKey h t2 (op h i .key)
@@ -160,7 +169,7 @@ module _ (h : History) (v : List ℕ) (t2 i : ℕ) where
       (λ t.
       ifso (eqb t2 0) (λ q. let z = eqb-true t2 0 q in rw (from-read h v t2 i t z) (tries-read t z a b))
       (λ q. let z = eqb-false t2 0 q in rw (from-last h v t2 i t z) (tries-last t z)))
-      (λ t. rw (from-none h v t2 i t) (tries-none (is-false _ (λ q. clash (hit-candidate q) t)))))
+      (λ t. rw (from-none h v t2 i t) (tries-none (is-false _ (λ q. clash (hit-candidate a b q) t)))))
 
   module _ {w : ℕ} (t : Tries h v t2 i w) where
     -- past an operation that does not write the key; at one that does; at the end

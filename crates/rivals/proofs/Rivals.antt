@@ -1,35 +1,36 @@
 -- What was marked are the rival pairs; these are of transactions that the history has.
-use Prim.Native.Nat.{ℕ, _+_, _*_, _<_, _≤_}
+use Prim.Native.Nat.{ℕ, _+_, _-_, _*_, _<_, _≤_}
 use mathlib.Core.Path.{_≡_, refl, sym, ap, _∙_}
 use mathlib.Core.Bool.{Bool, true, false, not}
 use mathlib.Core.List.{List}
 use mathlib.Core.Logic.{_⊎_, inl, inr, ⊎-elim}
 use native.Mathlib.Omega.{arith}
-use lib.Dec.{ltb}
+use lib.Dec.{ltb, eqb}
 use lib.ListN.{length, getD}
-use borrow.Author.Tests.{eqb-true, eqb-false, eq-eqb, ne-eqb, le-ltb}
+use borrow.Author.Tests.{eqb-true, eqb-false, eq-eqb, ne-eqb, lt-ltb, le-ltb}
 use Rattle.base.specs.Base.{_and_, _or_, last}
-use Rattle.base.proofs.Tests.{ifso, split, clash, is-false, is-true, same-test, both, and-left, and-right, and-on, and-no-left, or-cases, or-left, or-right, or-on, or-off, not-true}
-use Rattle.base.proofs.Searches.{Passing, some-at, some-of, some-same, some-none}
+use Rattle.base.proofs.Tests.{ifso, split, clash, is-false, is-true, same-test, both, and-left, and-right, and-on, and-no-left, and-no-right, or-cases, or-left, or-right, or-on, or-off, not-true}
+use Rattle.base.proofs.Searches.{Passing, some-at, some-of, some-same}
 use Rattle.base.proofs.Chains.{last-passes, last-less, last-none}
 use Rattle.theory.specs.Leads.{via}
-use Rattle.rules.specs.History.{History, op, txCount, opCount, size, sourceOf, committed}
+use Rattle.rules.specs.History.{History, op, opCount, size, sourceOf, committed}
 use Rattle.rules.specs.Reads.{isExternal}
 use Rattle.rules.specs.Levels.{basic, writesKey, sees, settles, isRival, forced}
 use Rattle.rules.proofs.Committed.{committed-below}
-use Rattle.table.specs.Table.{historyOf, ofTx, lastBelow, lastOf, prevOf, Held, HasTx, Below}
+use Rattle.table.specs.Table.{historyOf, ofTx, lastBelow, lastOf, prevOf, Held, HasTx, HasOp, Below}
 use Rattle.table.proofs.Chain.{OnChain, chain-last, chain-prev, sought-prev}
 use Rattle.reads.proofs.Fitting.{source-less}
-use Rattle.bits.specs.Bits.{Minus, bitOf, Holds, Under, nothing, either, rowOf, Least}
+use Rattle.bits.specs.Bits.{Minus, bitOf, Holds, Under, nothing, either, plusRow, rowOf, Least}
 use Rattle.bits.proofs.Tables.{holds-same, row-own}
-use Rattle.pairs.specs.Pairs.{before, cell, across}
+use Rattle.pairs.specs.Pairs.{Ready, before, cell, across}
 use Rattle.pairs.proofs.Marking.{cell-is, cell-has, Marking, mark-chain, mark-down, mark-skip}
-use Rattle.pairs.proofs.Pairs.{basic-under, before-under, before-via}
-use Rattle.keys.proofs.Keys.{key-wrote}
-use Rattle.rivals.specs.Rivals.{pairsFor, Told, seenFrom, isAbove, canRival, fits, isTried, isCandidate, isHitOf, hitBit, hitBits, settlesIn, rivalBit, rivalBits, rivalBitsIf, rivalsAmong, rivalsOf, rivals, Chosen, Candidates}
+use Rattle.pairs.proofs.Pairs.{byte-source, basic-under, before-under, before-via}
+use Rattle.keys.specs.Keys.{bucketOf, isShared}
+use Rattle.keys.proofs.Keys.{key-wrote, wrote-key}
+use Rattle.rivals.specs.Rivals.{pairsFor, Told, seenFrom, isAbove, canRival, fits, isTried, isCandidate, isHitOf, hitBit, hitBits, settlesIn, rivalBit, rivalBits, rivalBitsIf, rivalsAmong, rivalsOf, rivals, Chosen, Candidates, Alone, isTold, Remains}
 use Rattle.rivals.proofs.Hits.{candidate, hit-tx, hit-external, hit-fits, fits-hit, last-hit-of}
-use Rattle.rivals.proofs.Seen.{pairs-below, told-bit, from-none, sees-above}
-use Rattle.rivals.proofs.Sifting.{row-candidates, row-minus}
+use Rattle.rivals.proofs.Seen.{pairs-first, pairs-below, told-bit, from-none, from-all, sees-above}
+use Rattle.rivals.proofs.Sifting.{row-candidates, row-alone, row-minus}
 
 -- ── hits, marked from the last down ──
 
@@ -124,10 +125,7 @@ module _ (h : History) (level t2 t3 : ℕ) where
   settled-in i e =
       (and-left _ _ (and-left _ _ e), eqb-true _ _ (and-right _ _ (and-left _ _ e)), settled h level t2 (sourceOf h i) i (and-right _ _ e))
 
-  -- no read of t3's settles a pair for t3 itself, or for one that the level's pairs lack before t3
-  pub not-itself : t2 ≡ t3 → NoRival h level t2 t3
-  not-itself q = record { none = λ i a b. is-false _ (λ e. let s = settled-in i e in s .2 .not-reader (q ∙ sym (s .1))) }
-
+  -- no read of t3's settles a pair for one that the level's pairs lack before t3
   not-told : 1 ≤ level → level ≤ 3 → pairsFor h level t2 t3 ≡ false → NoRival h level t2 t3
   not-told from to k =
       record {
@@ -164,17 +162,8 @@ module _ (h : History) (level t2 t3 : ℕ) where
       both _ _ (both _ _ (eq-eqb _ _ t) (s ∙ sym (ap (λ (u : ℕ). sees h level t2 u i) t) ∙ q .seen))
       (both _ _ (both _ _ (q .external) (ap not (ne-eqb _ _ (λ z. q .not-source (sym z))))) (q .key)))
 
-  -- so what was marked is right, by the reads up to j: nothing, or the hits
+  -- so what was marked is right, by the reads up to j: the hits
   module _ {v : List ℕ} {j : ℕ} (E : ℕ → ℕ → Bool) (l : j ≤ opCount h) where
-    pub rival-none : NoRival h level t2 t3 → Holds v E → Holds v (either E (rivalBits h level t3 j t2))
-    unfolding either rivalBits rivalBit across cell
-    rival-none n k =
-        holds-same k
-        (λ x y hx hy.
-        sym
-        (or-off _ _
-        (some-none (λ i. rivalBit h level t3 t2 i x y) (j + 1) 1 (λ i a b. and-no-left _ _ (n .none i a (omega arith))))))
-
     pub rival-hits : {r : ℕ} → 1 ≤ level → level ≤ 3 → (t2 ≡ t3 → ⊥) → committed h t2 ≡ true → r ≡ seenFrom h level t2 t3
         → Holds v (either E (hitBits h t2 t3 r j)) → Holds v (either E (rivalBits h level t3 j t2))
     unfolding either hitBits rivalBits hitBit rivalBit across
@@ -238,22 +227,15 @@ own-below : (h : History) (t n i : ℕ) → op h i .tx ≡ t → i < n → i ≤
 unfolding lastBelow ofTx
 own-below h t n i own l = ⊎-elim (λ m. absurd (clash (eq-eqb _ _ own) (last-none (ofTx h t) n i m l))) (λ m. m) (split (last (ofTx h t) n) i)
 
--- a loop that has come to i, with the set (lo, hi) left: the table v and what the reads up to i mark against these are the whole w
-pub record Remains (h : History) (level t3 : ℕ) (w : ℕ → ℕ → Bool) (i lo hi : ℕ) (v : List ℕ) : Type 0 where
-  pub room : length v ≡ 256
-  pub on : OnChain h t3 i
-  pub chosen : Chosen h level t3 lo hi
-  pub rest : (x y : ℕ) → x < 128 → y < 128 → bitOf v x y or rivalsAmong h level t3 i (rowOf lo hi) x y ≡ w x y
-
 module _ (h : History) (level t3 t2 i x y : ℕ) (e : rivalBit h level t3 t2 i x y ≡ true) where
   bit-settled : (op h i .tx ≡ t3) × Settled h level t2 (sourceOf h i) i
   unfolding rivalBit
   bit-settled = let s = settled-in h level t2 t3 i (cell-is _ _ _ _ _ e .0) in (s .1, s .2)
 
   -- what a read marks against one that is no candidate, the table has
-  bit-had : (v : List ℕ) → isCandidate h v t2 i ≡ false → bitOf v x y ≡ true
+  bit-had : 1 ≤ i → i ≤ opCount h → (v : List ℕ) → isCandidate h v t2 i ≡ false → bitOf v x y ≡ true
   unfolding rivalBit isTried canRival
-  bit-had v n =
+  bit-had a b v n =
       let r = cell-is _ _ _ _ _ e in
       let s = bit-settled .1 in
       rw (r .1, r .2)
@@ -261,29 +243,37 @@ module _ (h : History) (level t3 t2 i x y : ℕ) (e : rivalBit h level t3 t2 i x
       (λ f.
       clash
       (candidate h v t2 i (both _ _ (both _ _ (s .external) (ap not (ne-eqb _ _ (λ q. s .not-source (sym q))))) (ap not f))
-      (key-wrote h t2 (op h i .key) (s .key)))
+      (key-wrote h i (s .external) a b t2 (s .key)))
       n))
 
   bit-told : 1 ≤ level → level ≤ 3 → 1 ≤ i → i ≤ opCount h → pairsFor h level t2 t3 ≡ true
   unfolding rivalBit
   bit-told from to a b = is-true _ (λ f. clash (cell-is _ _ _ _ _ e .0) (not-told h level t2 t3 from to f .none i a b))
 
--- at first: row t3 of s, from the last read of t3 on
-module _ {h k s : List ℕ} {level : ℕ} (p : Told h k s level) {t3 : ℕ} (o : HasTx h t3) where
-  told-row : (t2 : ℕ) → t2 ≤ txCount (historyOf h) → pairsFor (historyOf h) level t2 t3 ≡ rowOf (getD s (2 * t3) 0) (getD s (2 * t3 + 1) 0) t2
-  told-row t2 l = told-bit p o l ∙ sym (row-own s t3 t2 (omega (arith, p .ready .settled .held .few)))
+-- what read i marks against a candidate stands in the row of its source
+marks-here : (h : History) (level t3 i a b t2 x y : ℕ) → rivalBit h level t3 t2 i x y ≡ true → rowOf a b t2 ≡ true
+    → eqb x (sourceOf h i) and rowOf a b y ≡ true
+unfolding rivalBit
+marks-here h level t3 i a b t2 x y e c =
+    let r = cell-is _ _ _ _ _ e in
+    both _ _ (eq-eqb _ _ (r .1)) (rw (r .2) c)
 
-  told-chosen : Chosen (historyOf h) level t3 (getD s (2 * t3) 0) (getD s (2 * t3 + 1) 0)
+-- at first: row t3 of s without t3, from the last read of t3 on
+module _ {h k s : List ℕ} {level : ℕ} (p : Told h k s level) {t3 : ℕ} (o : HasTx h t3) {lo hi own₀ own₁ : ℕ} (a : Alone t3 0 own₀) (b : Alone t3 1 own₁)
+    (m : Minus (getD s (2 * t3) 0) own₀ lo) (n : Minus (getD s (2 * t3 + 1) 0) own₁ hi) where
+  first-row : (t2 : ℕ) → t2 < 128 → rowOf lo hi t2 ≡ bitOf s t3 t2 and not (eqb t3 t2)
+  first-row t2 l = row-minus m n t2 l ∙ rw (row-own s t3 t2 l, row-alone a b t2 l) refl
+
+  told-chosen : Chosen (historyOf h) level t3 lo hi
   unfolding before
   told-chosen =
       record {
-        is =
-            λ t2 l e.
-            sym (p .seen .is t3 t2 (omega (arith, o .to, p .ready .settled .held .few)) l) ∙ sym (row-own s t3 t2 l) ∙ e;
+        is = λ t2 l e. sym (p .seen .is t3 t2 (omega (arith, o .to, p .ready .settled .held .few)) l) ∙ and-left _ _ (sym (first-row t2 l) ∙ e);
+        other = λ t2 l e q. eqb-false t3 t2 (not-true _ (and-right _ _ (sym (first-row t2 l) ∙ e))) (sym q);
       }
 
   all-of : (j : ℕ) → Below j (lastOf (historyOf h) t3) (opCount (historyOf h) + 1) → (x y : ℕ)
-      → rivalsAmong (historyOf h) level t3 j (rowOf (getD s (2 * t3) 0) (getD s (2 * t3 + 1) 0)) x y ≡ rivalsOf (historyOf h) level t3 x y
+      → rivalsAmong (historyOf h) level t3 j (rowOf lo hi) x y ≡ rivalsOf (historyOf h) level t3 x y
   unfolding rivalsOf rivalBits across lastOf
   all-of j b x y =
       same-test _ _
@@ -296,21 +286,23 @@ module _ {h k s : List ℕ} {level : ℕ} (p : Told h k s level) {t3 : ℕ} (o :
       (λ e.
       let t = some-at (λ t2. rivalBits (historyOf h) level t3 (opCount (historyOf h)) t2 x y) (size (historyOf h)) 0 e in
       let i = some-at (λ i. rivalBit (historyOf h) level t3 (t .at) i x y) (opCount (historyOf h) + 1) 1 (t .passes) in
-      let own = bit-settled (historyOf h) level t3 (t .at) (i .at) x y (i .passes) .0 in
+      let own = bit-settled (historyOf h) level t3 (t .at) (i .at) x y (i .passes) in
       let told = bit-told (historyOf h) level t3 (t .at) (i .at) x y (i .passes) (p .from) (p .to) (i .from) (omega (arith, i .to)) in
+      let few : t .at < 128 = omega (arith, t .to, p .ready .settled .held .few) in
+      let bit = sym (told-bit p o (omega (arith, t .to))) ∙ told in
       among-is (historyOf h) level t3 j _ x y
       (record {
         rival = t .at;
-        few = omega (arith, t .to, p .ready .settled .held .few);
-        passes = sym (told-row (t .at) (omega (arith, t .to))) ∙ told;
+        few = few;
+        passes = first-row (t .at) few ∙ both _ _ bit (ap not (ne-eqb t3 (t .at) (λ q. own .1 .not-reader (sym q ∙ sym (own .0)))));
         by = i .at;
         from = i .from;
-        to = omega (arith, own-below (historyOf h) t3 (opCount (historyOf h) + 1) (i .at) own (i .to), b .is);
+        to = omega (arith, own-below (historyOf h) t3 (opCount (historyOf h) + 1) (i .at) (own .0) (i .to), b .is);
         marks = i .passes;
       }))
 
   pub remains-start : {v : List ℕ} {j : ℕ} → length v ≡ 256 → Below j (lastOf (historyOf h) t3) (opCount (historyOf h) + 1)
-      → Remains (historyOf h) level t3 (either (bitOf v) (rivalsOf (historyOf h) level t3)) j (getD s (2 * t3) 0) (getD s (2 * t3 + 1) 0) v
+      → Remains (historyOf h) level t3 (either (bitOf v) (rivalsOf (historyOf h) level t3)) j lo hi v
   unfolding either
   remains-start {v} {j} room b =
       record {
@@ -320,33 +312,78 @@ module _ {h k s : List ℕ} {level : ℕ} (p : Told h k s level) {t3 : ℕ} (o :
         rest = λ x y hx hy. ap (λ (r : Bool). bitOf v x y or r) (all-of j b x y);
       }
 
-module _ {h : History} {level t3 : ℕ} {w : ℕ → ℕ → Bool} {i lo hi : ℕ} {v : List ℕ} (m : Remains h level t3 w i lo hi v) where
-  -- at the end no read is left
-  pub remains-end : i ≤ 0 → Holds v w
-  remains-end l =
+-- at the end no read is left
+pub remains-end : {h : History} {level t3 : ℕ} {m : ℕ → ℕ → Bool} {i lo hi : ℕ} {v : List ℕ} → Remains h level t3 m i lo hi v → i ≤ 0 → Holds v m
+remains-end {h} {level} {t3} {i = i} {lo = lo} {hi = hi} m l =
+    record {
+      room = m .room;
+      is =
+          λ x y hx hy.
+          sym
+          (or-off _ _
+          (is-false _ (λ e. let a = among-at h level t3 i (rowOf lo hi) x y e in omega (arith, a .from, a .to))))
+          ∙ m .rest x y hx hy;
+    }
+
+-- ── one read, i ──
+
+module _ (h : History) (level i : ℕ) where
+  -- level 1, another operation, a shared bucket; none of them
+  pub one-untold : level ≡ 1 → isTold h level i ≡ false
+  unfolding isTold
+  one-untold e = and-no-left _ _ (and-no-left _ _ (ap not (eq-eqb level 1 e)))
+
+  pub other-untold : isExternal h i ≡ false → isTold h level i ≡ false
+  unfolding isTold
+  other-untold e = and-no-left _ _ (and-no-right _ _ e)
+
+  pub told-by : {r : Bool} → (level ≡ 1 → ⊥) → isExternal h i ≡ true → r ≡ isShared h (bucketOf (op h i .key)) → not r ≡ isTold h level i
+  unfolding isTold
+  told-by n t e = ap not e ∙ sym (and-on _ _ (both _ _ (ap not (ne-eqb level 1 n)) t))
+
+  module _ (told : isTold h level i ≡ true) where
+    told-level : level ≡ 1 → ⊥
+    unfolding isTold
+    told-level = eqb-false level 1 (not-true _ (and-left _ _ (and-left _ _ told)))
+
+    pub told-clean : isExternal h i ≡ true
+    unfolding isTold
+    told-clean = and-right _ _ (and-left _ _ told)
+
+    told-sole : isShared h (bucketOf (op h i .key)) ≡ false
+    unfolding isTold
+    told-sole = not-true _ (and-right _ _ told)
+
+module _ {h : History} {level t3 i lo hi : ℕ} {v : List ℕ} {a b : ℕ} (on : OnChain h t3 i) (chosen : Chosen h level t3 lo hi) (l : 0 < i)
+    (ca : Candidates h v i lo 0 a) (cb : Candidates h v i hi 1 b) where
+  -- the candidates are some of those left
+  pub candidates-chosen : Chosen h level t3 a b
+  candidates-chosen =
       record {
-        room = m .room;
-        is =
-            λ x y hx hy.
-            sym
-            (or-off _ _
-            (is-false _ (λ e. let a = among-at h level t3 i (rowOf lo hi) x y e in omega (arith, a .from, a .to))))
-            ∙ m .rest x y hx hy;
+        is = λ t2 l e. chosen .is t2 l (and-left _ _ (sym (row-candidates ca cb t2 l) ∙ e));
+        other = λ t2 l e. chosen .other t2 l (and-left _ _ (sym (row-candidates ca cb t2 l) ∙ e));
       }
 
-  module _ {a b : ℕ} (ca : Candidates h v i lo 0 a) (cb : Candidates h v i hi 1 b) where
-    -- the candidates are some of those left
-    pub remains-chosen : Chosen h level t3 a b
-    remains-chosen = record { is = λ t2 l e. m .chosen .is t2 l (and-left _ _ (sym (row-candidates ca cb t2 l) ∙ e)) }
+  -- against one that is left and no candidate the table has what it marks
+  had : (t2 x y : ℕ) → t2 < 128 → rowOf lo hi t2 ≡ true → rowOf a b t2 ≡ false → rivalBit h level t3 t2 i x y ≡ true → bitOf v x y ≡ true
+  had t2 x y f r c e =
+      bit-had h level t3 t2 i x y e l (on .to) v (sym (and-on _ _ r) ∙ sym (row-candidates ca cb t2 f) ∙ c)
 
-    module _ {lo' hi' r : ℕ} (na : Minus lo a lo') (nb : Minus hi b hi') (l : 0 < i) (q : Below r (prevOf h i) i) where
-      -- operation j of t3 up to i is i, or lies up to the one before it
-      up-to-prev : (j : ℕ) → op h j .tx ≡ t3 → j ≤ i → (j ≤ r) ⊎ (j ≡ i)
-      unfolding prevOf
-      up-to-prev j own to =
-          let e : r ≡ lastBelow h t3 i = rw (m .on .of l) at (q .is) in
-          ⊎-elim (λ z. inl (omega (arith, own-below h t3 i j own z))) (λ z. inr (omega arith)) (split j i)
+  module _ {r : ℕ} (q : Below r (prevOf h i) i) where
+    -- operation j of t3 up to i is i, or lies up to the one before it
+    up-to-prev : (j : ℕ) → op h j .tx ≡ t3 → j ≤ i → (j ≤ r) ⊎ (j ≡ i)
+    unfolding prevOf
+    up-to-prev j own to =
+        let e : r ≡ lastBelow h t3 i = rw (on .of l) at (q .is) in
+        ⊎-elim (λ z. inl (omega (arith, own-below h t3 i j own z))) (λ z. inr (omega arith)) (split j i)
 
+    -- what read i marks now, or an earlier one behind it
+    module _ (x y : ℕ) (u : Among h level t3 i (rowOf lo hi) x y) where
+      at-or-below : (u .by ≤ r) ⊎ (u .by ≡ i)
+      at-or-below = up-to-prev (u .by) (bit-settled h level t3 (u .rival) (u .by) x y (u .marks) .0) (u .to)
+
+    -- its candidates are searched
+    module _ {lo' hi' : ℕ} (na : Minus lo a lo') (nb : Minus hi b hi') where
       -- what is marked now and what remains behind it are what remained
       marked-now : (x y : ℕ) → (bitOf v x y or rivalsAmong h level t3 i (rowOf a b) x y) or rivalsAmong h level t3 r (rowOf lo' hi') x y
           ≡ bitOf v x y or rivalsAmong h level t3 i (rowOf lo hi) x y
@@ -406,24 +443,116 @@ module _ {h : History} {level t3 : ℕ} {w : ℕ → ℕ → Bool} {i lo hi : �
                 to = z;
                 marks = u .marks;
               })))
-              (λ z.
-              let n : isCandidate h v (u .rival) i ≡ false =
-              sym (and-on _ _ (u .passes)) ∙ sym (row-candidates ca cb (u .rival) (u .few)) ∙ c in
-              or-left _ _ (or-left _ _ (bit-had h level t3 (u .rival) i x y (rw z at (u .marks)) v n)))
-              (up-to-prev (u .by) (bit-settled h level t3 (u .rival) (u .by) x y (u .marks) .0) (u .to)))
+              (λ z. or-left _ _ (or-left _ _ (had (u .rival) x y (u .few) (u .passes) c (rw z at (u .marks)))))
+              (at-or-below x y u))
 
       -- the candidates' pairs are marked, and they are left out
-      pub remains-next : {u : List ℕ} → Holds u (either (bitOf v) (rivalsAmong h level t3 i (rowOf a b))) → Remains h level t3 w r lo' hi' u
+      pub remains-searched : {m : ℕ → ℕ → Bool} {u : List ℕ} → Holds u (either (bitOf v) (rivalsAmong h level t3 i (rowOf a b)))
+          → Remains h level t3 m i lo hi v → Remains h level t3 m r lo' hi' u
       unfolding either
-      remains-next k =
+      remains-searched k m =
           record {
             room = k .room;
-            on = chain-prev (m .on) l q;
-            chosen = record { is = λ t2 f e. m .chosen .is t2 f (and-left _ _ (sym (row-minus na nb t2 f) ∙ e)) };
+            on = chain-prev on l q;
+            chosen =
+                record {
+                  is = λ t2 f e. chosen .is t2 f (and-left _ _ (sym (row-minus na nb t2 f) ∙ e));
+                  other = λ t2 f e. chosen .other t2 f (and-left _ _ (sym (row-minus na nb t2 f) ∙ e));
+                };
             rest =
                 λ x y hx hy.
                 ap (λ (b : Bool). b or rivalsAmong h level t3 r (rowOf lo' hi') x y) (k .is x y hx hy) ∙ marked-now x y ∙ m .rest x y hx hy;
           }
+
+    -- its candidates are all rivals
+    module _ (from : 1 ≤ level) (to : level ≤ 3) (told : isTold h level i ≡ true) where
+      -- read i marks the pair of each candidate and its source
+      candidate-marks : (t2 : ℕ) → t2 < 128 → rowOf a b t2 ≡ true → rivalBit h level t3 t2 i (sourceOf h i) t2 ≡ true
+      unfolding rivalBit isCandidate isTried isAbove fits
+      candidate-marks t2 f e =
+          let c = sym (row-candidates ca cb t2 f) ∙ e in
+          let k = and-right _ _ c in
+          let pairs = chosen .is t2 f (and-left _ _ c) in
+          let writes = wrote-key h i (told-clean h level i told) l (on .to) t2 (told-sole h level i told) (and-right _ _ k) in
+          let seen = lt-ltb (seenFrom h level t2 t3) i (omega (arith, from-all h t2 t3 level pairs (told-level h level i told))) in
+          let above = both _ _ (both _ _ (eq-eqb _ _ (on .of l)) seen) (both _ _ (and-left _ _ (and-left _ _ k)) writes) in
+          cell-has _ (sourceOf h i) t2
+          (sym
+          (fits-settles h level t2 t3 (chosen .other t2 f (and-left _ _ c)) (pairs-first h level t2 t3 pairs) i
+          (sees-above h t2 t3 level from to i l (on .to)))
+          ∙ above)
+
+      -- what is marked at once and what remains behind it are what remained
+      marked-told : (x y : ℕ) → y < 128 → (bitOf v x y or (eqb x (sourceOf h i) and rowOf a b y)) or rivalsAmong h level t3 r (rowOf lo hi) x y
+          ≡ bitOf v x y or rivalsAmong h level t3 i (rowOf lo hi) x y
+      marked-told x y hy =
+          same-test _ _
+          (λ e. ⊎-elim (λ f. ⊎-elim (or-left _ _) (λ g. or-right _ _ (now g)) (or-cases _ _ f)) (λ f. or-right _ _ (later f)) (or-cases _ _ e))
+          (λ e. ⊎-elim (λ f. or-left _ _ (or-left _ _ f)) (λ f. back (among-at h level t3 i (rowOf lo hi) x y f)) (or-cases _ _ e))
+        where
+          now : eqb x (sourceOf h i) and rowOf a b y ≡ true → rivalsAmong h level t3 i (rowOf lo hi) x y ≡ true
+          now e =
+              let s : x ≡ sourceOf h i = eqb-true x (sourceOf h i) (and-left _ _ e) in
+              among-is h level t3 i (rowOf lo hi) x y
+              (record {
+                rival = y;
+                few = hy;
+                passes = and-left _ _ (sym (row-candidates ca cb y hy) ∙ and-right _ _ e);
+                by = i;
+                from = l;
+                to = omega arith;
+                marks = rw s (candidate-marks y hy (and-right _ _ e));
+              })
+
+          later : rivalsAmong h level t3 r (rowOf lo hi) x y ≡ true → rivalsAmong h level t3 i (rowOf lo hi) x y ≡ true
+          later e =
+              let u = among-at h level t3 r (rowOf lo hi) x y e in
+              among-is h level t3 i (rowOf lo hi) x y
+              (record {
+                rival = u .rival;
+                few = u .few;
+                passes = u .passes;
+                by = u .by;
+                from = u .from;
+                to = omega (arith, u .to, q .below);
+                marks = u .marks;
+              })
+
+          back : Among h level t3 i (rowOf lo hi) x y
+              → (bitOf v x y or (eqb x (sourceOf h i) and rowOf a b y)) or rivalsAmong h level t3 r (rowOf lo hi) x y ≡ true
+          back u =
+              ⊎-elim
+              (λ z.
+              or-right _ _
+              (among-is h level t3 r (rowOf lo hi) x y
+              (record { rival = u .rival; few = u .few; passes = u .passes; by = u .by; from = u .from; to = z; marks = u .marks })))
+              (λ z.
+              let e : rivalBit h level t3 (u .rival) i x y ≡ true = rw z at (u .marks) in
+              ifso (rowOf a b (u .rival))
+              (λ c. or-left _ _ (or-right _ _ (marks-here h level t3 i a b (u .rival) x y e c)))
+              (λ c. or-left _ _ (or-left _ _ (had (u .rival) x y (u .few) (u .passes) c e))))
+              (at-or-below x y u)
+
+      -- the candidates' pairs are marked, and none is left out: the reads below may have others
+      pub remains-told : {m : ℕ → ℕ → Bool} {u : List ℕ} → Holds u (plusRow (bitOf v) (sourceOf h i) (rowOf a b)) → Remains h level t3 m i lo hi v
+          → Remains h level t3 m r lo hi u
+      unfolding plusRow
+      remains-told k m =
+          record {
+            room = k .room;
+            on = chain-prev on l q;
+            chosen = chosen;
+            rest =
+                λ x y hx hy.
+                ap (λ (b : Bool). b or rivalsAmong h level t3 r (rowOf lo hi) x y) (k .is x y hx hy) ∙ marked-told x y hy ∙ m .rest x y hx hy;
+          }
+
+-- the row of the source, by the read's byte
+pub told-row : (E : ℕ → ℕ → Bool) (r : ℕ → Bool) {h k u : List ℕ} {i : ℕ} (level : ℕ) → Ready h k → HasOp h i → isTold (historyOf h) level i ≡ true
+    → Holds u (plusRow E (getD k i 0 - 8) r) → Holds u (plusRow E (sourceOf (historyOf h) i) r)
+told-row E r {h} {k} {i = i} level p o told w =
+    let e : sourceOf (historyOf h) i ≡ getD k i 0 - 8 = omega (arith, byte-source p o (told-clean (historyOf h) level i told)) in
+    rw e w
 
 -- ── all rivals ──
 

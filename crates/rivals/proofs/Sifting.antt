@@ -7,6 +7,7 @@ use mathlib.Core.Logic.{⊎-elim}
 use native.Mathlib.Omega.{arith}
 use native.Mathlib.Nat.{mod-lt}
 use lib.Bits.{bitAnd, bitOr}
+use lib.Dec.{eqb}
 use lib.ListN.{getD}
 use borrow.Author.Tests.{ne-eqb}
 use Rattle.base.specs.Base.{_and_, _or_}
@@ -18,7 +19,8 @@ use Rattle.bits.proofs.Words.{testBit-zero, testBit-and, testBit-or, testBit-on
 use Rattle.bits.proofs.Smallest.{row-in-low, row-in-high}
 use Rattle.pairs.specs.Pairs.{Ready}
 use Rattle.pairs.proofs.Pairs.{byte-clean, byte-origin}
-use Rattle.keys.specs.Keys.{bucketOf, wrote}
+use Rattle.keys.specs.Keys.{bucketOf, writers}
+use Rattle.keys.proofs.Keys.{writers-all}
 use Rattle.rivals.specs.Rivals.{canRival, isTried, isCandidate, Candidates, Alone}
 use Rattle.rivals.proofs.Hits.{other-untried, not-tried}
 
@@ -61,19 +63,20 @@ module _ {h k : List ℕ} {i : ℕ} (p : Ready h k) (o : HasOp h i) (v : List �
   candidates-none l =
       record { is = λ y m. testBit-zero y ∙ sym (and-no-right _ _ (not-tried (historyOf h) v (64 * half + y) i (other-untried p o v (64 * half + y) l))) }
 
-  pub candidates-are : {w : List ℕ} {b own r : ℕ} → Holds w (wrote (historyOf h)) → half < 2 → 8 ≤ getD k i 0 → b ≡ bucketOf (op (historyOf h) i .key) → b < 128
-      → Alone (getD k i 0 - 8) half own
-      → Minus (bitAnd left (getD w (2 * b + half) 0)) (bitOr (getD v (2 * (getD k i 0 - 8) + half) 0) own) r
+  pub candidates-are : {w : List ℕ} {b zero own r : ℕ} → Holds w (writers (historyOf h)) → half < 2 → 8 ≤ getD k i 0 → b ≡ bucketOf (op (historyOf h) i .key) → b < 128
+      → Alone 0 half zero → Alone (getD k i 0 - 8) half own
+      → Minus (bitAnd left (bitOr (getD w (2 * b + half) 0) zero)) (bitOr (getD v (2 * (getD k i 0 - 8) + half) 0) own) r
       → Candidates (historyOf h) v i left half r
   unfolding lacks isCandidate isTried canRival
-  candidates-are {w} {b} {own} q two l e few a m =
+  candidates-are {w} {b} {zero} {own} q two l e few z a m =
       record {
         is =
             λ y s.
             m .is y
-            ∙ rw (testBit-and left (getD w (2 * b + half) 0) y, testBit-or (getD v (2 * (getD k i 0 - 8) + half) 0) own y)
-            (rw (word-bit w b half y s, word-bit v (getD k i 0 - 8) half y s, a .is y s)
-            (rw (q .is b (64 * half + y) few (omega arith), byte-origin p o l, byte-clean p o l, e) (sift (testBit left y) _ _ _)));
+            ∙ rw (testBit-and left (bitOr (getD w (2 * b + half) 0) zero) y, testBit-or (getD v (2 * (getD k i 0 - 8) + half) 0) own y)
+            (rw (testBit-or (getD w (2 * b + half) 0) zero y, word-bit w b half y s, word-bit v (getD k i 0 - 8) half y s, z .is y s, a .is y s)
+            (rw (q .is b (64 * half + y) few (omega arith), writers-all (historyOf h) b (64 * half + y), byte-origin p o l, byte-clean p o l, e)
+            (sift (testBit left y) _ _ _)));
       }
 
 -- ── both words of a row ──
@@ -89,6 +92,17 @@ module _ {h : History} {v : List ℕ} {i lo hi a b : ℕ} where
       let e : 64 * 1 + (t2 - 64) ≡ t2 = omega arith in
       row-in-high a b t2 s l ∙ q .is (t2 - 64) (omega arith) ∙ rw (e, row-in-high lo hi t2 s l))
       (split t2 64)
+
+pub row-alone : {a p q : ℕ} → Alone a 0 p → Alone a 1 q → (t2 : ℕ) → t2 < 128 → rowOf p q t2 ≡ eqb a t2
+row-alone {a} {p} {q} m n t2 l =
+    ⊎-elim
+    (λ s.
+    let e : 64 * 0 + t2 ≡ t2 = omega arith in
+    row-in-low p q t2 s ∙ m .is t2 s ∙ rw e refl)
+    (λ s.
+    let e : 64 * 1 + (t2 - 64) ≡ t2 = omega arith in
+    row-in-high p q t2 s l ∙ n .is (t2 - 64) (omega arith) ∙ rw e refl)
+    (split t2 64)
 
 pub row-minus : {lo hi a b p q : ℕ} → Minus lo a p → Minus hi b q → (t2 : ℕ) → t2 < 128 → rowOf p q t2 ≡ rowOf lo hi t2 and not (rowOf a b t2)
 unfolding lacks

@@ -3,15 +3,18 @@ use Prim.Native.Nat.{ℕ, _+_, _*_, _≤_, _<_}
 use mathlib.Core.Path.{_≡_}
 use mathlib.Core.Bool.{Bool, true, not}
 use mathlib.Core.List.{List}
+use lib.ListN.{length}
 use lib.Dec.{ltb, eqb}
 use Rattle.base.specs.Base.{_and_, _or_, pick, first}
 use Rattle.rules.specs.History.{History, op, opCount, size, sourceOf, committed}
 use Rattle.rules.specs.Reads.{writesAt, isExternal, readsFrom}
 use Rattle.rules.specs.Levels.{basic, leads, writesKey, settles}
-use Rattle.table.specs.Table.{historyOf, ofTx, lastOf}
+use Rattle.table.specs.Table.{historyOf, ofTx, lastOf, prevOf, Below}
+use Rattle.table.proofs.Chain.{OnChain}
 use Rattle.bits.specs.Bits.{testBit, bitOf, Holds, rowOf}
 use Rattle.pairs.specs.Pairs.{Ready, before, cell, across}
-use Rattle.keys.specs.Keys.{bucketOf, wrote}
+use Rattle.keys.specs.Keys.{bucketOf, isShared, wrote}
+use Rattle.rivals.specs.declared.Left.{Left}
 
 -- the pairs that the search goes by: basic pairs at levels 1 and 2, what leads to what at level 3
 unfoldable pub pairsFor : History → ℕ → ℕ → ℕ → Bool
@@ -62,7 +65,7 @@ isHit h v t2 i = isTried h v t2 i and writesKey h t2 (op h i .key)
 unfoldable pub isHitOf : History → List ℕ → ℕ → ℕ → ℕ → ℕ → Bool
 isHitOf h v t2 t3 from i = isAbove h t3 from i and isHit h v t2 i
 
--- .. and t2 writes a key of its bucket: so it may write the read's own
+-- .. and the read's bucket has t2: so it may write the read's own key
 unfoldable pub isCandidate : History → List ℕ → ℕ → ℕ → Bool
 isCandidate h v t2 i = isTried h v t2 i and wrote h (bucketOf (op h i .key)) t2
 
@@ -114,9 +117,10 @@ rivals h level = across 1 (size h) (rivalsOf h level)
 
 -- ── sets of rivals, in two words ──
 
--- the level's pairs have all of them before t3
+-- they are others than t3, and the level's pairs have all of them before t3
 pub record Chosen (h : History) (level t3 lo hi : ℕ) : Type 0 where
   pub is : (t2 : ℕ) → t2 < 128 → rowOf lo hi t2 ≡ true → pairsFor h level t2 t3 ≡ true
+  pub other : (t2 : ℕ) → t2 < 128 → rowOf lo hi t2 ≡ true → t2 ≡ t3 → ⊥
 
 -- the word r, of the 64 numbers from 64 * half on, has those of `left` that are candidates for read i
 pub record Candidates (h : History) (v : List ℕ) (i left half r : ℕ) : Type 0 where
@@ -125,3 +129,20 @@ pub record Candidates (h : History) (v : List ℕ) (i left half r : ℕ) : Type 
 -- .. has a, and nothing else
 pub record Alone (a half r : ℕ) : Type 0 where
   pub is : (y : ℕ) → y < 64 → testBit r y ≡ eqb a (64 * half + y)
+
+-- all candidates of read i are rivals: no level but 1 asks anything of the read, and the read's bucket is not shared
+unfoldable pub isTold : History → ℕ → ℕ → Bool
+isTold h level i = not (eqb level 1) and isExternal h i and not (isShared h (bucketOf (op h i .key)))
+
+-- ── read by read ──
+
+-- a loop that has come to read i of t3, with the set (lo, hi) left: the table v and what the reads up to i mark against these are the whole m
+pub record Remains (h : History) (level t3 : ℕ) (m : ℕ → ℕ → Bool) (i lo hi : ℕ) (v : List ℕ) : Type 0 where
+  pub room : length v ≡ 256
+  pub on : OnChain h t3 i
+  pub chosen : Chosen h level t3 lo hi
+  pub rest : (x y : ℕ) → x < 128 → y < 128 → bitOf v x y or rivalsAmong h level t3 i (rowOf lo hi) x y ≡ m x y
+
+-- read i was done: it made u of the table v, and left r; the loop goes on at the operation before
+pub record Behind (h : History) (level t3 i lo hi : ℕ) (v : List ℕ) (r : Left) (u : List ℕ) : Type 0 where
+  pub goes : (m : ℕ → ℕ → Bool) (j : ℕ) → Below j (prevOf h i) i → Remains h level t3 m i lo hi v → Remains h level t3 m j (r .lo) (r .hi) u

@@ -12,8 +12,8 @@ ghost use Rattle.table.specs.Table.{historyOf, HasTx, HasOp};
 ghost use Rattle.table.proofs.Chain.{OnChain};
 ghost use Rattle.bits.specs.Bits.{bitOf, Holds, either, rowOf};
 ghost use Rattle.pairs.specs.Pairs.{Ready, before};
-ghost use Rattle.keys.specs.Keys.{wrote};
-ghost use Rattle.rivals.specs.Rivals.{Told, pairsFor, firstFrom, seenFrom, standsFor, writesFor, triesFrom, isHitOf, hitBits, rivalBits, rivalsAmong, rivalsOf, rivals, Chosen, Candidates, Alone};
+ghost use Rattle.keys.specs.Keys.{writers};
+ghost use Rattle.rivals.specs.Rivals.{Told, pairsFor, firstFrom, seenFrom, standsFor, writesFor, triesFrom, isHitOf, hitBits, rivalBits, rivalsAmong, rivalsOf, rivals, Chosen, Candidates, Alone, isTold, Behind};
 
 // ── which reads of t3 see t2 ──
 
@@ -56,10 +56,10 @@ fn seen_from(h: &[u64], k: &[u8], level: u8, t2: usize, t3: usize) -> usize
 // ── the search ──
 
 // Where the look through t2's operations starts that is to show whether read i is a hit: at its last one, and nowhere, 0, where the read is not one that t2
-// can be a rival for, where t2 stands before its source already, or where t2 writes no key of the read's bucket. Transaction 0 has no operation, and writes
-// every key: the read itself stands for its write.
+// can be a rival for, where t2 stands before its source already, or where the read's bucket does not have t2. Transaction 0 has no operation, and writes every
+// key: the read itself stands for its write.
 fn writes_to_try(h: &[u64], k: &[u8], w: &[u64], v: &[u64], t2: usize, i: usize) -> usize
-    requires { ⌜ Ready (now h) (now k) × Holds (now w) (wrote (historyOf (now h))) × (length (now v) ≡ 256) × HasOp (now h) i × (t2 ≤ txCount (historyOf (now h))) ⌝ }
+    requires { ⌜ Ready (now h) (now k) × Holds (now w) (writers (historyOf (now h))) × (length (now v) ≡ 256) × HasOp (now h) i × (t2 ≤ txCount (historyOf (now h))) ⌝ }
     ensures { λ r. ⌜ r ≡ triesFrom (historyOf (now (h .entry))) (now (v .entry)) t2 i ⌝ }
 {
     let s = k[i] as usize;
@@ -72,11 +72,11 @@ fn writes_to_try(h: &[u64], k: &[u8], w: &[u64], v: &[u64], t2: usize, i: usize)
     if bits::bit(v, s - 8, t2) {
         return 0;
     }
-    if !bits::bit(w, keys::bucket_of(h, i), t2) {
-        return 0;
-    }
     if t2 == 0 {
         return i;
+    }
+    if !bits::bit(w, keys::bucket_of(h, i), t2) {
+        return 0;
     }
     table::last_op(h, t2)
 }
@@ -107,7 +107,7 @@ fn next_hit(
     from: usize,
     j: usize,
 ) -> usize
-    requires { ⌜ Ready (now h) (now k) × Holds (now w) (wrote (historyOf (now h))) × (length (now v) ≡ 256) × OnChain (historyOf (now h)) t3 j × (t2 ≤ txCount (historyOf (now h))) ⌝ }
+    requires { ⌜ Ready (now h) (now k) × Holds (now w) (writers (historyOf (now h))) × (length (now v) ≡ 256) × OnChain (historyOf (now h)) t3 j × (t2 ≤ txCount (historyOf (now h))) ⌝ }
     ensures { λ r. ⌜ r ≡ last (isHitOf (historyOf (now (h .entry))) (now (v .entry)) t2 t3 from) (j + 1) ⌝ }
 {
     let mut found = 0;
@@ -140,7 +140,7 @@ fn mark_hits(
     from: usize,
     j: usize,
 )
-    requires { ⌜ Ready (now h) (now k) × Holds (now w) (wrote (historyOf (now h))) × (length (now v) ≡ 256) × OnChain (historyOf (now h)) t3 j × (t2 ≤ txCount (historyOf (now h))) ⌝ }
+    requires { ⌜ Ready (now h) (now k) × Holds (now w) (writers (historyOf (now h))) × (length (now v) ≡ 256) × OnChain (historyOf (now h)) t3 j × (t2 ≤ txCount (historyOf (now h))) ⌝ }
     ensures { λ r. ⌜ Holds (now (v .exit)) (either (bitOf (now (v .entry))) (hitBits (historyOf (now (h .entry))) t2 t3 from j)) ⌝ }
 {
     let mut i = next_hit(h, k, w, v, t2, t3, from, j);
@@ -150,7 +150,7 @@ fn mark_hits(
     }
 }
 
-// The pairs that the reads of t3 up to j settle for t2, which the level's pairs have before t3: so it is committed. A rival is another than t3.
+// The pairs that the reads of t3 up to j settle for t2, another, which the level's pairs have before t3: so it is committed.
 fn mark_rival(
     h: &[u64],
     k: &[u8],
@@ -161,12 +161,9 @@ fn mark_rival(
     t3: usize,
     j: usize,
 )
-    requires { ⌜ Ready (now h) (now k) × Holds (now w) (wrote (historyOf (now h))) × (length (now v) ≡ 256) × (1 ≤ level) × (level ≤ 3) × (pairsFor (historyOf (now h)) level t2 t3 ≡ true) × HasTx (now h) t3 × OnChain (historyOf (now h)) t3 j ⌝ }
+    requires { ⌜ Ready (now h) (now k) × Holds (now w) (writers (historyOf (now h))) × (length (now v) ≡ 256) × (1 ≤ level) × (level ≤ 3) × (t2 ≡ t3 → ⊥) × (pairsFor (historyOf (now h)) level t2 t3 ≡ true) × HasTx (now h) t3 × OnChain (historyOf (now h)) t3 j ⌝ }
     ensures { λ r. ⌜ Holds (now (v .exit)) (either (bitOf (now (v .entry))) (rivalBits (historyOf (now (h .entry))) level t3 j t2)) ⌝ }
 {
-    if t2 == t3 {
-        return;
-    }
     mark_hits(h, k, w, v, t2, t3, seen_from(h, k, level, t2, t3), j);
 }
 
@@ -179,10 +176,10 @@ fn own_bit(a: usize, half: usize) -> u64
     if a / 64 == half { 1u64 << (a % 64) } else { 0 }
 }
 
-// Those of the set `left`, of the 64 numbers from 64 * half on, that may be rivals for read i: they write a key of its bucket, are not its source, and do not
-// stand before that already.
+// Those of the set `left`, of the 64 numbers from 64 * half on, that may be rivals for read i: its bucket has them, and transaction 0, they are not its source,
+// and do not stand before that already.
 fn candidates(h: &[u64], k: &[u8], w: &[u64], v: &[u64], i: usize, left: u64, half: usize) -> u64
-    requires { ⌜ Ready (now h) (now k) × Holds (now w) (wrote (historyOf (now h))) × (length (now v) ≡ 256) × HasOp (now h) i × (half < 2) ⌝ }
+    requires { ⌜ Ready (now h) (now k) × Holds (now w) (writers (historyOf (now h))) × (length (now v) ≡ 256) × HasOp (now h) i × (half < 2) ⌝ }
     ensures { λ r. ⌜ Candidates (historyOf (now (h .entry))) (now (v .entry)) i left half r ⌝ }
 {
     let s = k[i] as usize;
@@ -191,7 +188,7 @@ fn candidates(h: &[u64], k: &[u8], w: &[u64], v: &[u64], i: usize, left: u64, ha
     }
     let t1 = s - 8;
     bits::without(
-        left & w[2 * keys::bucket_of(h, i) + half],
+        left & (w[2 * keys::bucket_of(h, i) + half] | own_bit(0, half)),
         v[2 * t1 + half] | own_bit(t1, half),
     )
 }
@@ -208,7 +205,7 @@ fn mark_rivals_at(
     lo: u64,
     hi: u64,
 )
-    requires { ⌜ Ready (now h) (now k) × Holds (now w) (wrote (historyOf (now h))) × (length (now v) ≡ 256) × (1 ≤ level) × (level ≤ 3) × Chosen (historyOf (now h)) level t3 lo hi × HasTx (now h) t3 × OnChain (historyOf (now h)) t3 j ⌝ }
+    requires { ⌜ Ready (now h) (now k) × Holds (now w) (writers (historyOf (now h))) × (length (now v) ≡ 256) × (1 ≤ level) × (level ≤ 3) × Chosen (historyOf (now h)) level t3 lo hi × HasTx (now h) t3 × OnChain (historyOf (now h)) t3 j ⌝ }
     ensures { λ r. ⌜ Holds (now (v .exit)) (either (bitOf (now (v .entry))) (rivalsAmong (historyOf (now (h .entry))) level t3 j (rowOf lo hi))) ⌝ }
 {
     let mut t2 = bits::least_of(lo, hi, 0);
@@ -218,27 +215,75 @@ fn mark_rivals_at(
     }
 }
 
-// .. for any rival, 0 among them: only what the level's pairs have before t3 is looked at, row t3 of s, and at each read, from the last down, only its
-// candidates. These are searched to the end at once, so that no read below has to look at them again; for any other this read settles no pair that v lacks.
+// Whether all candidates of read i are rivals, so that there is nothing to search: at levels 2 and 3 each read of t3 sees what the level's pairs have before t3,
+// and who is in a bucket that is not shared writes the key that is read.
+fn is_told(h: &[u64], k: &[u8], w: &[u64], level: u8, i: usize) -> bool
+    requires { ⌜ Ready (now h) (now k) × Holds (now w) (writers (historyOf (now h))) × HasOp (now h) i ⌝ }
+    ensures { λ r. ⌜ r ≡ isTold (historyOf (now (h .entry))) level i ⌝ }
+{
+    if level == 1 {
+        return false;
+    }
+    if k[i] < 8 {
+        return false;
+    }
+    !bits::bit(w, keys::bucket_of(h, i), 0)
+}
+
+// A set of transactions that are left to be looked at, in two words.
+struct Left {
+    lo: u64,
+    hi: u64,
+}
+
+// The pairs that read i of t3 settles for the transactions that are left. Where its candidates are all rivals, they are marked at once. Else they are searched,
+// and to the end, so that no read below has to look at them again. For any other this read settles no pair that v lacks.
+fn mark_read(
+    h: &[u64],
+    k: &[u8],
+    w: &[u64],
+    v: &mut [u64],
+    level: u8,
+    t3: usize,
+    i: usize,
+    lo: u64,
+    hi: u64,
+) -> Left
+    requires { ⌜ Ready (now h) (now k) × Holds (now w) (writers (historyOf (now h))) × (length (now v) ≡ 256) × (1 ≤ level) × (level ≤ 3) × HasTx (now h) t3 × (0 < i) × OnChain (historyOf (now h)) t3 i × Chosen (historyOf (now h)) level t3 lo hi ⌝ }
+    ensures { λ r. ⌜ Behind (historyOf (now (h .entry))) level t3 i lo hi (now (v .entry)) r (now (v .exit)) ⌝ }
+{
+    let a = candidates(h, k, w, v, i, lo, 0);
+    let b = candidates(h, k, w, v, i, hi, 1);
+    if is_told(h, k, w, level, i) {
+        bits::or_row(v, k[i] as usize - 8, a, b);
+        return Left { lo: lo, hi: hi };
+    }
+    mark_rivals_at(h, k, w, v, level, t3, i, a, b);
+    Left {
+        lo: bits::without(lo, a),
+        hi: bits::without(hi, b),
+    }
+}
+
+// .. that all reads of t3 settle, from the last down, for any rival, 0 among them: only what the level's pairs have before t3 is looked at, row t3 of s. A rival
+// is another than t3.
 fn mark_rivals_of(h: &[u64], k: &[u8], s: &[u64], w: &[u64], v: &mut [u64], level: u8, t3: usize)
-    requires { ⌜ Told (now h) (now k) (now s) level × Holds (now w) (wrote (historyOf (now h))) × (length (now v) ≡ 256) × HasTx (now h) t3 ⌝ }
+    requires { ⌜ Told (now h) (now k) (now s) level × Holds (now w) (writers (historyOf (now h))) × (length (now v) ≡ 256) × HasTx (now h) t3 ⌝ }
     ensures { λ r. ⌜ Holds (now (v .exit)) (either (bitOf (now (v .entry))) (rivalsOf (historyOf (now (h .entry))) level t3)) ⌝ }
 {
-    let mut lo = s[2 * t3];
-    let mut hi = s[2 * t3 + 1];
+    let mut left = Left {
+        lo: bits::without(s[2 * t3], own_bit(t3, 0)),
+        hi: bits::without(s[2 * t3 + 1], own_bit(t3, 1)),
+    };
     let mut i = table::last_op(h, t3);
     while 0 < i {
-        let a = candidates(h, k, w, v, i, lo, 0);
-        let b = candidates(h, k, w, v, i, hi, 1);
-        mark_rivals_at(h, k, w, v, level, t3, i, a, b);
-        lo = bits::without(lo, a);
-        hi = bits::without(hi, b);
+        left = mark_read(h, k, w, v, level, t3, i, left.lo, left.hi);
         i = table::prev_op(h, i);
     }
 }
 
 fn mark_rivals(h: &[u64], k: &[u8], s: &[u64], w: &[u64], v: &mut [u64], level: u8)
-    requires { ⌜ Told (now h) (now k) (now s) level × Holds (now w) (wrote (historyOf (now h))) × (length (now v) ≡ 256) ⌝ }
+    requires { ⌜ Told (now h) (now k) (now s) level × Holds (now w) (writers (historyOf (now h))) × (length (now v) ≡ 256) ⌝ }
     ensures { λ r. ⌜ Holds (now (v .exit)) (either (bitOf (now (v .entry))) (rivals (historyOf (now (h .entry))) level)) ⌝ }
 {
     let n = table::txs(h);
@@ -251,7 +296,7 @@ fn mark_rivals(h: &[u64], k: &[u8], s: &[u64], w: &[u64], v: &mut [u64], level: 
 
 // Row t1 has the bits of the rivals that the level puts before t1. The table w is what `keys::fill_writers` makes.
 pub fn fill_rivals(h: &[u64], k: &[u8], s: &[u64], w: &[u64], v: &mut [u64], level: u8)
-    requires { ⌜ Told (now h) (now k) (now s) level × Holds (now w) (wrote (historyOf (now h))) × (length (now v) ≡ 256) ⌝ }
+    requires { ⌜ Told (now h) (now k) (now s) level × Holds (now w) (writers (historyOf (now h))) × (length (now v) ≡ 256) ⌝ }
     ensures { λ r. ⌜ Holds (now (v .exit)) (before (isRival (historyOf (now (h .entry))) level)) ⌝ }
 {
     bits::clear(v);

@@ -5,7 +5,10 @@ use Rattle.judging.proofs.force.Tie as tie
 
 returns : tie.Need-returns
 returns c =
-    forcing (c .before .before .before .before .before .before .before .before .before .before .before .before .before .before .before .before .before .before .before .pre .0) (c .before .before .before .before .put-basic .ensures) (c .before .before .before .before .before .before .before .fill-rivals .ensures) (c .join .ensures)
+    let b = c .before .before .before .before in
+    let r = b .before .before .before in
+    let w = r .before .before .before .before .before .before in
+    forcing (w .before .before .before .before .before .before .before .pre .0) (b .put-basic .ensures) (r .fill-rivals .ensures) (c .join .ensures)
 
 pub force-spec : {M : Type 1} → statement M
 force-spec =

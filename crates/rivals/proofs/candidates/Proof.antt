@@ -30,33 +30,34 @@ shared-slice-read-without c =
 
 mul-without-3 : tie.Need-mul-without-3
 mul-without-3 c =
-    let p = c .before .before .before .before .before .before .before .before .pre in
-    omega (arith, byte-row (p .0) (p .3) (byte-clean (p .0) (p .3) (c .before .before .if1 .left)))
+    let p = c .before .before .before .before .before .before .before .before .before .pre in
+    omega (arith, byte-row (p .0) (p .3) (byte-clean (p .0) (p .3) (c .before .before .before .if1 .left)))
 
 add-without-2 : tie.Need-add-without-2
 add-without-2 c =
-    let p = c .before .before .before .before .before .before .before .before .pre in
-    omega (arith, p .4, byte-row (p .0) (p .3) (byte-clean (p .0) (p .3) (c .before .before .if1 .left)))
+    let p = c .before .before .before .before .before .before .before .before .before .pre in
+    omega (arith, p .4, byte-row (p .0) (p .3) (byte-clean (p .0) (p .3) (c .before .before .before .if1 .left)))
 
 mul-without-4 : tie.Need-mul-without-4
 mul-without-4 c =
-    let p = c .before .before .before .before .before .before .before .before .pre in
-    omega (arith, p .4, byte-row (p .0) (p .3) (byte-clean (p .0) (p .3) (c .before .before .if1 .left)))
+    let p = c .before .before .before .before .before .before .before .before .before .pre in
+    omega (arith, p .4, byte-row (p .0) (p .3) (byte-clean (p .0) (p .3) (c .before .before .before .if1 .left)))
 
 shared-slice-read-without-2 : tie.Need-shared-slice-read-without-2
 shared-slice-read-without-2 c =
-    let p = c .before .before .before .before .before .before .before .before .before .pre in
-    omega (arith, p .2, p .4, byte-row (p .0) (p .3) (byte-clean (p .0) (p .3) (c .before .before .before .if1 .left)))
+    let p = c .before .before .before .before .before .before .before .before .before .before .pre in
+    omega (arith, p .2, p .4, byte-row (p .0) (p .3) (byte-clean (p .0) (p .3) (c .before .before .before .before .if1 .left)))
 
 returns-2 : tie.Need-returns-2
 returns-2 c =
-    let d = c .before .before .before .before in
+    let d = c .before .before .before .before .before in
     let p = d .before .before .before .before .before .before .before .pre in
     let b = d .bucket-of .ensures in
-    candidates-are (p .0) (p .3) _ _ _ (p .1) (p .4) (d .before .if1 .left) (b .0) (b .1) (c .before .own-bit .ensures) (c .without .ensures)
+    candidates-are (p .0) (p .3) _ _ _ (p .1) (p .4) (d .before .if1 .left) (b .0) (b .1) (c .before .before .before .own-bit .ensures)
+    (c .before .own-bit2 .ensures) (c .without .ensures)
 
 pub candidates-spec : {M : Type 1} → statement M
 candidates-spec =
     tie.close
-    (tie.spec shared-slice-read-s cast-s returns (λ c κs. search needs) mul-without add-without mul-without-2 shared-slice-read-without mul-without-3
+    (tie.spec shared-slice-read-s cast-s returns (λ c κs. search needs) mul-without add-without mul-without-2 shared-slice-read-without (λ c κs. search needs) mul-without-3
     add-without-2 mul-without-4 shared-slice-read-without-2 (λ c κs. search needs) (λ c κs. search needs) returns-2)

@@ -27,7 +27,7 @@ mark-rival-requires c κs =
     let p = c .before .before .before .before .before .before .before .before .pre in
     let m = c .before .before .loop .inv in
     let l = c .before .loop-test .taken in
-    (p .0, p .1, m .1 .room, p .3, p .4, p .5 .is _ l (m .0 l), p .6, p .7)
+    (p .0, p .1, m .1 .room, p .3, p .4, p .5 .other _ l (m .0 l), p .5 .is _ l (m .0 l), p .6, p .7)
 
 loop-again : tie.Need-loop-again Inv-loop μ-loop
 loop-again c =

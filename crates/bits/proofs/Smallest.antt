@@ -1,21 +1,23 @@
 -- The smallest bit of a row.
-use Prim.Native.Nat.{ℕ, zero, suc, _+_, _-_, _/_, _%_, _^_, _<_, _≤_}
+use Prim.Native.Nat.{ℕ, zero, suc, _+_, _-_, _*_, _/_, _%_, _^_, _<_, _≤_}
 use mathlib.Core.Path.{_≡_, refl, sym, ap, _∙_}
-use mathlib.Core.Bool.{Bool}
+use mathlib.Core.Bool.{Bool, not}
 use mathlib.Core.Logic.{⊎-elim}
 use native.Mathlib.Omega.{arith}
 use native.Mathlib.Nat.{mod-lt}
 use lib.Count.{trailingZeros, under, trailing-le}
 use lib.Dec.{eqb}
 use lib.Pow.{shr-shr}
-use borrow.Author.Tests.{eq-eqb, ne-eqb}
-use Rattle.base.proofs.Tests.{split}
-use Rattle.bits.specs.Bits.{testBit, rowOf, Least}
+use borrow.Author.Tests.{eqb-false, eq-eqb, ne-eqb}
+use Rattle.base.specs.Base.{_and_}
+use Rattle.base.proofs.Tests.{split, clash, and-left, and-right, not-true}
+use Rattle.bits.specs.Bits.{testBit, lacks, Minus, rowOf, Least}
+use Rattle.bits.proofs.Words.{testBit-one}
 use Rattle.bits.proofs.Tables.{row-low, row-high}
 
 -- ── a word's smallest bit ──
 
-low-bit : (w : ℕ) → testBit w 0 ≡ eqb (w % 2) 1
+pub low-bit : (w : ℕ) → testBit w 0 ≡ eqb (w % 2) 1
 unfolding testBit
 low-bit w = let e : w / 2 ^ 0 ≡ w = omega arith in rw e
 
@@ -23,7 +25,7 @@ shifted-bit : (w j k : ℕ) → testBit (w / 2 ^ j) k ≡ testBit w (j + k)
 unfolding testBit
 shifted-bit w j k = ap (λ (n : ℕ). eqb (n % 2) 1) (shr-shr w j k)
 
-upper-bit : (w k : ℕ) → testBit (w / 2) k ≡ testBit w (k + 1)
+pub upper-bit : (w k : ℕ) → testBit (w / 2) k ≡ testBit w (k + 1)
 upper-bit w k = let e : 1 + k ≡ k + 1 = omega arith in rw (← e) (shifted-bit w 1 k)
 
 -- below the lowest bit d stand the zeros of the others, if it is one
@@ -64,6 +66,25 @@ least-from w a =
 
 pub zeros-few : (w : ℕ) → trailingZeros 64 w ≤ 64
 zeros-few w = trailing-le 64 w
+
+-- ── a word that loses its smallest bit ──
+
+module _ {w a u : ℕ} (s : a < 64) (m : Minus w ((1 * 2 ^ a) % 2 ^ 64) u) where
+  -- the others stay
+  pub lost-bit : (k : ℕ) → testBit u k ≡ testBit w k and not (eqb k a)
+  unfolding lacks
+  lost-bit k = m .is k ∙ ap (λ (b : Bool). testBit w k and not b) (testBit-one a k s)
+
+  -- so that the smallest of them is greater
+  pub lost-more : {b : ℕ} → Least (testBit w) 0 64 a → Least (testBit u) 0 64 b → a < b
+  lost-more {b} p q =
+      ⊎-elim (λ g. g)
+      (λ g.
+      let t = sym (lost-bit b) ∙ q .hit (omega arith) in
+      absurd
+      (⊎-elim (λ x. clash (and-left _ _ t) (p .none b (omega arith) x (omega arith)))
+      (λ x. eqb-false b a (not-true _ (and-right _ _ t)) (omega arith)) (split b a)))
+      (split a b)
 
 -- ── of two words ──
 

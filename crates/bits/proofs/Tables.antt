@@ -11,8 +11,8 @@ use lib.Dec.{eqb}
 use lib.ListN.{length, getD, set, length-set}
 use lib.Seq.{getD-set-same, getD-set-other, ext-getD}
 use borrow.Author.Tests.{eqb-true, eqb-false, eq-eqb, ne-eqb}
-use Rattle.base.specs.Base.{_and_, _or_}
-use Rattle.base.proofs.Tests.{ifso, split, same-test, both, and-left, and-right, and-on, and-no-left, and-no-right, or-on, or-off, or-assoc, same-eqb}
+use Rattle.base.specs.Base.{_and_, _or_, pick}
+use Rattle.base.proofs.Tests.{ifso, split, same-test, both, and-left, and-right, and-on, and-no-left, and-no-right, or-on, or-off, or-assoc, pick-on, pick-off, same-eqb}
 use Rattle.bits.specs.Bits.{testBit, bitOf, Holds, nothing, either, plusBit, plusRow, rowOf}
 use Rattle.bits.proofs.Words.{testBit-zero, testBit-or, testBit-one}
 
@@ -164,6 +164,31 @@ row-joined t a p q h ha =
           or-word u (2 * a + 1) q (omega (arith, length-set t (2 * a) (bitOr (getD t (2 * a) 0) p))) x y
           ∙ rw (or-word t (2 * a) p (omega arith) x y) (or-assoc _ _ _ ∙ ap (λ (v : Bool). bitOf t x y or v) (row-word p q a x y hy));
     }
+
+-- row a becomes the words p and q
+pub row-set : (t : List ℕ) (a p q : ℕ) → length t ≡ 256 → a < 128 → (x y : ℕ) → x < 128 → y < 128
+    → bitOf (set (set t (2 * a) p) (2 * a + 1) q) x y ≡ pick (eqb x a) (rowOf p q y) (bitOf t x y)
+unfolding bitOf
+row-set t a p q h ha x y hx hy =
+    let u = set t (2 * a) p in
+    let long : 2 * a + 1 < length u = omega (arith, length-set t (2 * a) p) in
+    ifso (eqb x a)
+    (λ e.
+    let z : x ≡ a = eqb-true x a e in
+    rw (pick-on (eqb x a) (rowOf p q y) (testBit (getD t (2 * x + y / 64) 0) (y % 64)) e, z)
+    (⊎-elim
+    (λ l.
+    let w : 2 * a + y / 64 ≡ 2 * a = omega arith in
+    rw (w, getD-set-other u (2 * a + 1) (2 * a) q 0 (λ n. omega arith), getD-set-same t (2 * a) p 0 (omega arith)) (sym (row-low p q y l)))
+    (λ l.
+    let w : 2 * a + y / 64 ≡ 2 * a + 1 = omega arith in
+    rw (w, getD-set-same u (2 * a + 1) q 0 long) (sym (row-high p q y l hy)))
+    (split y 64)))
+    (λ e.
+    let n = eqb-false x a e in
+    rw (pick-off (eqb x a) (rowOf p q y) (testBit (getD t (2 * x + y / 64) 0) (y % 64)) e)
+    (ap (λ (w : ℕ). testBit w (y % 64))
+    (getD-set-other u (2 * a + 1) (2 * x + y / 64) q 0 (λ z. n (omega arith)) ∙ getD-set-other t (2 * a) (2 * x + y / 64) p 0 (λ z. n (omega arith)))))
 
 -- a table's row, by its words
 pub row-own : (t : List ℕ) (a y : ℕ) → y < 128 → rowOf (getD t (2 * a) 0) (getD t (2 * a + 1) 0) y ≡ bitOf t a y

@@ -8,7 +8,7 @@ use borrow.Author.Tests.{eqb-true, eqb-false, ne-eqb}
 use Rattle.base.proofs.Tests.{ifso, pick-off}
 use Rattle.theory.specs.Leads.{via}
 use Rattle.rules.specs.History.{txCount, size}
-use Rattle.rules.specs.Levels.{basic, leads, isRival}
+use Rattle.rules.specs.Levels.{isRead, basic, leads, isRival}
 use Rattle.table.specs.Table.{historyOf}
 use Rattle.bits.specs.Bits.{bitOf, Holds, Under, either}
 use Rattle.pairs.specs.Pairs.{before}
@@ -16,7 +16,8 @@ use Rattle.pairs.proofs.Pairs.{basic-closes, basic-leads}
 use Rattle.rivals.specs.Rivals.{pairsFor, Told}
 use Rattle.rivals.proofs.Seen.{goes-by-basic, goes-by-leads}
 use Rattle.rivals.proofs.Rivals.{forced-closes, forced-leads, basic-joined}
-use Rattle.lists.specs.Lists.{Judging}
+use Rattle.lists.specs.Lists.{listedIn, Judging}
+use Rattle.lists.proofs.Levels.{told-listed-pairs}
 use Rattle.judging.specs.Judging.{Known, AtLevel, Forcing}
 
 -- x: the number of transactions; b: basic pairs
@@ -49,7 +50,7 @@ pub forcing : {h k b f v : List ℕ} {level : ℕ} → AtLevel h k level → Hol
 forcing {h} {level = level} a basics rivals both =
     record { ready = a .ready; forces = basic-joined (historyOf h) level basics rivals both; rivals = rivals }
 
--- x: the number of transactions; s: what leads to what through f
+-- x: the number of transactions; s: what leads to what through f; l: those of f that are listed; r: the pairs of reads
 module _ {h k f v : List ℕ} {level : ℕ} (w : Forcing h k f v level) where
   pub forced-below : Under (size (historyOf h)) f
   forced-below = forced-closes (w .ready .settled .held) level (w .forces)
@@ -58,6 +59,7 @@ module _ {h k f v : List ℕ} {level : ℕ} (w : Forcing h k f v level) where
     pub forced-under : Under (x + 1) f
     forced-under = rw e forced-below
 
-    pub judging : {s : List ℕ} → Holds s (via (bitOf f) (x + 1)) → Judging h k f s v level
-    judging l =
-        record { ready = w .ready; forces = w .forces; leads = forced-leads (w .ready .settled .held) level (w .forces) (rw e at l); rivals = w .rivals }
+    pub judging : {s l r : List ℕ} → Holds s (via (bitOf f) (x + 1)) → Holds l (listedIn f s) × Holds r (before (isRead (historyOf h))) → Judging h l r v level
+    judging c p =
+        let leads = forced-leads (w .ready .settled .held) level (w .forces) (rw e at c) in
+        record { settled = w .ready .settled; lists = told-listed-pairs (historyOf h) level (w .forces) leads (p .0); reads = p .1; rivals = w .rivals }

@@ -20,12 +20,11 @@ use Rattle.judging.specs.declared.Counts.{Counts}
 use Rattle.judging.specs.Judging.{Counted, OnAcceptance, OnRejection, OnReading}
 
 -- x: the number of transactions
-pub counted : {h f c : List ℕ} {n : Counts} {x : ℕ} → x ≡ txCount (historyOf h) → (n .findings ≡ length (findings (historyOf h))) × (n .findings ≤ 1024)
-    → (n .pairs ≡ pairCount f c (x + 1)) × (n .pairs ≤ 16384) → Counted h f c n
-counted {f = f} {c = c} e a b =
-    record { found = a .0; found-few = a .1; listed = b .0 ∙ ap (λ (y : ℕ). pairCount f c (y + 1)) e; listed-few = b .1 }
+pub counted : {h l : List ℕ} {n : Counts} {x : ℕ} → x ≡ txCount (historyOf h) → (n .findings ≡ length (findings (historyOf h))) × (n .findings ≤ 1024)
+    → (n .pairs ≡ pairCount l (x + 1)) × (n .pairs ≤ 16384) → Counted h l n
+counted {l = l} e a b = record { found = a .0; found-few = a .1; listed = b .0 ∙ ap (λ (y : ℕ). pairCount l (y + 1)) e; listed-few = b .1 }
 
-module _ {h k f c v : List ℕ} {n : Counts} (m : Counted h f c n) (level : ℕ) (j : Judging h k f c v level) where
+module _ {h l r v : List ℕ} {n : Counts} (m : Counted h l n) (level : ℕ) (j : Judging h l r v level) where
   abbrev H : History
   H = historyOf h
 
@@ -44,9 +43,9 @@ module _ {h k f c v : List ℕ} {n : Counts} (m : Counted h f c n) (level : ℕ)
   module _ (fo po : List ℕ) where
     pub reject-findings : length fo < 6 * n .findings → OnRejection H level fo po fo po (Refused 12 (6 * n .findings))
     unfolding reported
-    reject-findings l = record { is = λ o. rw findings-bytes (sym (rejection-short level fo po o H (omega (arith, findings-bytes)))) }
+    reject-findings q = record { is = λ o. rw findings-bytes (sym (rejection-short level fo po o H (omega (arith, findings-bytes)))) }
 
-    module _ (l : 6 * n .findings ≤ length fo) where
+    module _ (q : 6 * n .findings ≤ length fo) where
       pub reject-pairs : length po < 4 * n .pairs → OnRejection H level fo po fo po (Refused 13 (4 * n .pairs))
       unfolding reported
       reject-pairs l2 =
@@ -57,7 +56,7 @@ module _ {h k f c v : List ℕ} {n : Counts} (m : Counted h f c n) (level : ℕ)
                 (sym (rejection-short-pairs level fo po o H (omega (arith, findings-bytes)) (omega (arith, pairs-bytes))));
           }
 
-      pub reject-fits : 4 * n .pairs ≤ length po → {fo2 po2 : List ℕ} {a b : ℕ} → Appended fo 0 fo2 a (findingList H) → Appended po 0 po2 b (pairsIn H f c v)
+      pub reject-fits : 4 * n .pairs ≤ length po → {fo2 po2 : List ℕ} {a b : ℕ} → Appended fo 0 fo2 a (findingList H) → Appended po 0 po2 b (pairsIn H l r v)
           → OnRejection H level fo po fo2 po2 (Rejected (n .findings) (n .pairs))
       unfolding reported
       reject-fits l2 x y =

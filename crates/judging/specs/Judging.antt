@@ -56,11 +56,11 @@ pub record Forcing (h k f v : List ℕ) (level : ℕ) : Type 0 where
   pub forces : Holds f (before (forced (historyOf h) level))
   pub rivals : Holds v (before (isRival (historyOf h) level))
 
--- how many findings and listed pairs there are, where f has the forced pairs, and c what leads to what through them
-pub record Counted (h f c : List ℕ) (n : Counts) : Type 0 where
+-- how many findings and listed pairs there are, where l has the listed pairs
+pub record Counted (h l : List ℕ) (n : Counts) : Type 0 where
   pub found : n .findings ≡ length (findings (historyOf h))
   pub found-few : n .findings ≤ 1024
-  pub listed : n .pairs ≡ pairCount f c (size (historyOf h))
+  pub listed : n .pairs ≡ pairCount l (size (historyOf h))
   pub listed-few : n .pairs ≤ 16384
 
 -- the order by the document's rule fills the first n bytes of b

@@ -6,14 +6,14 @@ ghost use lib.ListN.{length};
 ghost use Rattle.base.specs.Base.{pick, count};
 ghost use Rattle.theory.specs.Leads.{via};
 ghost use Rattle.rules.specs.History.{History, size, committed};
-ghost use Rattle.rules.specs.Levels.{basic, forced};
+ghost use Rattle.rules.specs.Levels.{isRead, basic, forced};
 ghost use Rattle.rules.specs.Outcome.{findings, pairs, reported, outcome, judged};
 ghost use Rattle.table.specs.Table.{tableWords, historyOf, Settled};
 ghost use Rattle.bits.specs.Bits.{bitOf, Holds, Under};
 ghost use Rattle.order.specs.Sets.{Gathered};
 ghost use Rattle.pairs.specs.Pairs.{Ready, before};
 ghost use Rattle.rivals.specs.Rivals.{Told};
-ghost use Rattle.lists.specs.Lists.{Tables, Listing, Judging};
+ghost use Rattle.lists.specs.Lists.{listedIn, Listing, Judging};
 ghost use Rattle.judging.specs.Judging.{Known, AtLevel, Forcing, Counted, Arranged, OnAcceptance, OnRejection, OnReading, Prepared};
 use order::Words;
 use rules::Answer;
@@ -106,31 +106,31 @@ struct Counts {
     pairs: usize,
 }
 
-fn count(h: &[u64], k: &[u8], f: &[u64; 256], c: &[u64; 256]) -> Counts
-    requires { ⌜ Ready (now h) (now k) × Tables (now f) (now c) (size (historyOf (now h))) ⌝ }
-    ensures { λ r. ⌜ Counted (now (h .entry)) (now (f .entry)) (now (c .entry)) r ⌝ }
+fn count(h: &[u64], k: &[u8], l: &[u64; 256]) -> Counts
+    requires { ⌜ Ready (now h) (now k) × Under (size (historyOf (now h))) (now l) ⌝ }
+    ensures { λ r. ⌜ Counted (now (h .entry)) (now (l .entry)) r ⌝ }
 {
     let findings = lists::count_findings(h, k);
-    let pairs = lists::count_pairs(f, c, table::txs(h) + 1);
+    let pairs = lists::count_pairs(l, table::txs(h) + 1);
     Counts {
         findings: findings,
         pairs: pairs,
     }
 }
 
-// Both counts come before the first byte is written: "on rejection only, 12 and 13".
+// Both counts come before the first byte is written: "on rejection only, 12 and 13". l has the listed pairs, r those of reads, v those of rivals.
 fn reject(
     h: &[u64],
     k: &[u8],
-    f: &[u64; 256],
-    c: &[u64; 256],
+    l: &[u64; 256],
+    r: &[u64; 256],
     v: &[u64; 256],
     n: Counts,
     findings: &mut [u8],
     pairs: &mut [u8],
 ) -> Answer
-    requires { ⌜ Listing (now h) (now k) (now f) (now c) (now v) × Counted (now h) (now f) (now c) n ⌝ }
-    ensures { λ r. ⌜ ((level : ℕ) → Judging (now (h .entry)) (now (k .entry)) (now (f .entry)) (now (c .entry)) (now (v .entry)) level → OnRejection (historyOf (now (h .entry))) level (now (findings .entry)) (now (pairs .entry)) (now (findings .exit)) (now (pairs .exit)) r) ⌝ }
+    requires { ⌜ Ready (now h) (now k) × Listing (now h) (now l) (now r) (now v) × Counted (now h) (now l) n ⌝ }
+    ensures { λ q. ⌜ ((level : ℕ) → Judging (now (h .entry)) (now (l .entry)) (now (r .entry)) (now (v .entry)) level → OnRejection (historyOf (now (h .entry))) level (now (findings .entry)) (now (pairs .entry)) (now (findings .exit)) (now (pairs .exit)) q) ⌝ }
 {
     if findings.len() < 6 * n.findings {
         return Answer::Refused(12, 6 * n.findings);
@@ -139,7 +139,7 @@ fn reject(
         return Answer::Refused(13, 4 * n.pairs);
     }
     lists::put_findings(h, k, findings);
-    lists::put_pairs(h, k, f, c, v, pairs);
+    lists::put_pairs(h, l, r, v, pairs);
     Answer::Rejected(n.findings, n.pairs)
 }
 
@@ -147,17 +147,17 @@ fn reject(
 fn reject_listed(
     h: &[u64],
     k: &[u8],
-    f: &[u64; 256],
-    c: &[u64; 256],
+    l: &[u64; 256],
+    r: &[u64; 256],
     v: &[u64; 256],
     findings: &mut [u8],
     pairs: &mut [u8],
 ) -> Answer
-    requires { ⌜ Listing (now h) (now k) (now f) (now c) (now v) ⌝ }
-    ensures { λ r. ⌜ ((level : ℕ) → Judging (now (h .entry)) (now (k .entry)) (now (f .entry)) (now (c .entry)) (now (v .entry)) level → OnRejection (historyOf (now (h .entry))) level (now (findings .entry)) (now (pairs .entry)) (now (findings .exit)) (now (pairs .exit)) r) ⌝ }
+    requires { ⌜ Ready (now h) (now k) × Listing (now h) (now l) (now r) (now v) × Under (size (historyOf (now h))) (now l) ⌝ }
+    ensures { λ q. ⌜ ((level : ℕ) → Judging (now (h .entry)) (now (l .entry)) (now (r .entry)) (now (v .entry)) level → OnRejection (historyOf (now (h .entry))) level (now (findings .entry)) (now (pairs .entry)) (now (findings .exit)) (now (pairs .exit)) q) ⌝ }
 {
-    let n = count(h, k, f, c);
-    reject(h, k, f, c, v, n, findings, pairs)
+    let n = count(h, k, l);
+    reject(h, k, l, r, v, n, findings, pairs)
 }
 
 // .. for its n findings alone, where no pair is listed: the list of pairs is empty, and fits.
@@ -203,6 +203,15 @@ fn lead(f: &[u64; 256], s: &mut [u64; 256], n: usize)
 {
     bits::copy(f, s);
     bits::close(s, n);
+}
+
+// f: forced pairs, of which the listed ones stay; s: what leads to what through them, in whose room the pairs of reads come.
+fn list(h: &[u64], k: &[u8], f: &mut [u64; 256], s: &mut [u64; 256])
+    requires { ⌜ Ready (now h) (now k) × Under (size (historyOf (now h))) (now f) × (length (now s) ≡ 256) ⌝ }
+    ensures { λ r. ⌜ Holds (now (f .exit)) (listedIn (now (f .entry)) (now (s .entry))) × Holds (now (s .exit)) (before (isRead (historyOf (now (h .entry))))) ⌝ }
+{
+    lists::sift(f, s, table::txs(h) + 1);
+    pairs::fill_reads(h, k, s);
 }
 
 // s: basic pairs, which become what the search for rivals goes by. Levels 1 and 2 ask for one of them: "an earlier clean external read in t3, of any key,
@@ -291,6 +300,7 @@ pub fn judge_history(
         return decide_placed(h, k, &shown, n, findings, order);
     }
     lead(&f, &mut s, table::txs(h) + 1);
+    list(h, k, &mut f, &mut s);
     reject_listed(h, k, &f, &s, &v, findings, pairs)
 }
 

@@ -1,20 +1,20 @@
 -- The two lists of a rejection, place by place. Pairs are read off tables whose row b has the bits of what stands before b: f has the forced pairs,
--- c what leads to what through them, v the rivals.
-use Prim.Native.Nat.{ℕ, _+_, _≤_, _<_}
+-- c what leads to what through them, l the listed pairs, r those of reads, v those of rivals.
+use Prim.Native.Nat.{ℕ, _+_, _<_}
 use mathlib.Core.Path.{_≡_}
-use mathlib.Core.Bool.{Bool, true}
+use mathlib.Core.Bool.{Bool, not}
 use mathlib.Core.List.{List, [], _∷_}
-use lib.Dec.{ltb}
+use lib.Dec.{ltb, eqb}
 use lib.ListN.{length}
-use Rattle.base.specs.Base.{_and_, pick, listed, those}
-use Rattle.theory.specs.Leads.{via}
+use Rattle.base.specs.Base.{_and_, _or_, pick, listed, those}
+use Rattle.theory.specs.Leads.{isListed}
 use Rattle.rules.specs.History.{History, size}
 use Rattle.rules.specs.Reads.{isFinding}
 use Rattle.rules.specs.Levels.{isStart, isSession, isRead, isRival, forced}
 use Rattle.rules.specs.Outcome.{findingBytes}
-use Rattle.table.specs.Table.{historyOf}
-use Rattle.bits.specs.Bits.{bitOf, Holds}
-use Rattle.pairs.specs.Pairs.{before, Ready}
+use Rattle.table.specs.Table.{historyOf, Settled}
+use Rattle.bits.specs.Bits.{testBit, bitOf, Holds}
+use Rattle.pairs.specs.Pairs.{before}
 
 -- what number i adds to a list of those that pass
 unfoldable pub entryAt : (ℕ → Bool) → ℕ → List ℕ
@@ -32,46 +32,51 @@ findingAt h i = pick (isFinding h i) (findingBytes h i) []
 
 -- ── pairs ──
 
--- "A pair is listed if its second leads to its first through forced pairs"
-unfoldable pub isIn : List ℕ → List ℕ → ℕ → ℕ → Bool
-isIn f c a b = bitOf f b a and bitOf c a b
+-- "A pair is listed if its second leads to its first through forced pairs": the pair (y, x), in row x
+unfoldable pub listedIn : List ℕ → List ℕ → ℕ → ℕ → Bool
+listedIn f c x y = bitOf f x y and bitOf c y x
 
--- the seconds of the listed pairs whose first is a, of numbers below n; how many pairs are listed
-unfoldable pub secondsOf : List ℕ → List ℕ → ℕ → ℕ → List ℕ
-secondsOf f c n a = those 0 n (isIn f c a)
+-- what a table f has become where these are put in its place, in the rows below n
+unfoldable pub siftedTo : List ℕ → List ℕ → ℕ → ℕ → ℕ → Bool
+siftedTo f c n x y = pick (ltb x n) (listedIn f c x y) (bitOf f x y)
 
-unfoldable pub pairCount : List ℕ → List ℕ → ℕ → ℕ
-pairCount f c n = length (listed 0 n (secondsOf f c n))
+-- r has those bits y of w, of the 64 numbers from `base` on, to which b leads
+pub record LedTo (c : List ℕ) (b base w r : ℕ) : Type 0 where
+  pub is : (y : ℕ) → y < 64 → testBit r y ≡ testBit w y and bitOf c (base + y) b
+
+-- r has the bits of w, but not a where `led` does not hold
+pub record Dropped (w a : ℕ) (led : Bool) (r : ℕ) : Type 0 where
+  pub is : (y : ℕ) → testBit r y ≡ testBit w y and (not (eqb y a) or led)
+
+-- the pair (a, b) is one of the table's
+unfoldable pub isIn : List ℕ → ℕ → ℕ → Bool
+isIn l a b = bitOf l b a
+
+-- the seconds of the listed pairs whose first is a, the firsts of those whose second is b, of numbers below n; how many pairs are listed
+unfoldable pub secondsOf : List ℕ → ℕ → ℕ → List ℕ
+secondsOf l n a = those 0 n (isIn l a)
+
+unfoldable pub firstsOf : List ℕ → ℕ → ℕ → List ℕ
+firstsOf l n b = those 0 n (bitOf l b)
+
+unfoldable pub pairCount : List ℕ → ℕ → ℕ
+pairCount l n = length (listed 0 n (secondsOf l n))
 
 -- "Reasons are a sum of 1 start, 2 session, 4 read, 8 rival; every reason that holds is in it."
-unfoldable pub reasonsIn : History → List ℕ → ℕ → ℕ → ℕ
-reasonsIn h v a b = pick (isStart h a b) 1 0 + pick (isSession h a b) 2 0 + pick (isRead h a b) 4 0 + pick (bitOf v b a) 8 0
+unfoldable pub reasonsIn : History → List ℕ → List ℕ → ℕ → ℕ → ℕ
+reasonsIn h r v a b = pick (isStart h a b) 1 0 + pick (isSession h a b) 2 0 + pick (bitOf r b a) 4 0 + pick (bitOf v b a) 8 0
 
 -- what the pair adds to the list; the pairs whose first is a; all pairs, by first and then second
 unfoldable pub pairAt : History → List ℕ → List ℕ → List ℕ → ℕ → ℕ → List ℕ
-pairAt h f c v a b = pick (isIn f c a b) (a ∷ b ∷ reasonsIn h v a b ∷ 0 ∷ []) []
+pairAt h l r v a b = pick (isIn l a b) (a ∷ b ∷ reasonsIn h r v a b ∷ 0 ∷ []) []
 
 unfoldable pub rowAt : History → List ℕ → List ℕ → List ℕ → ℕ → List ℕ
-rowAt h f c v a = listed 0 (size h) (pairAt h f c v a)
+rowAt h l r v a = listed 0 (size h) (pairAt h l r v a)
 
 unfoldable pub pairsIn : History → List ℕ → List ℕ → List ℕ → List ℕ
-pairsIn h f c v = listed 0 (size h) (rowAt h f c v)
+pairsIn h l r v = listed 0 (size h) (rowAt h l r v)
 
 -- ── tables ──
-
--- tables of numbers below n: a first that does not lead to itself has no listed pair, so its row may be left out
-pub record Tables (f c : List ℕ) (n : ℕ) : Type 0 where
-  pub forced-room : length f ≡ 256
-  pub leads-room : length c ≡ 256
-  pub few : n ≤ 128
-  pub loops : (a b : ℕ) → a < n → b < n → isIn f c a b ≡ true → bitOf c a a ≡ true
-
--- .. with a row and a bit for a and b
-pub record Cell (f c : List ℕ) (a b : ℕ) : Type 0 where
-  pub forced-room : length f ≡ 256
-  pub leads-room : length c ≡ 256
-  pub one : a < 128
-  pub two : b < 128
 
 -- a and b are transactions of the history, or 0
 pub record HasPair (h : List ℕ) (a b : ℕ) : Type 0 where
@@ -79,14 +84,15 @@ pub record HasPair (h : List ℕ) (a b : ℕ) : Type 0 where
   pub two : b < size (historyOf h)
 
 -- the tables of a history's transactions
-pub record Listing (h k f c v : List ℕ) : Type 0 where
-  pub ready : Ready h k
-  pub tables : Tables f c (size (historyOf h))
+pub record Listing (h l r v : List ℕ) : Type 0 where
+  pub settled : Settled h
+  pub listed-room : length l ≡ 256
+  pub reads-room : length r ≡ 256
   pub rivals-room : length v ≡ 256
 
 -- .. at a level
-pub record Judging (h k f c v : List ℕ) (level : ℕ) : Type 0 where
-  pub ready : Ready h k
-  pub forces : Holds f (before (forced (historyOf h) level))
-  pub leads : Holds c (before (via (forced (historyOf h) level) (size (historyOf h))))
+pub record Judging (h l r v : List ℕ) (level : ℕ) : Type 0 where
+  pub settled : Settled h
+  pub lists : Holds l (before (isListed (size (historyOf h)) (forced (historyOf h) level)))
+  pub reads : Holds r (before (isRead (historyOf h)))
   pub rivals : Holds v (before (isRival (historyOf h) level))

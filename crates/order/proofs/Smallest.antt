@@ -5,12 +5,12 @@ use mathlib.Core.Bool.{Bool, true, false, not}
 use mathlib.Core.List.{List}
 use mathlib.Core.Logic.{⊎-elim}
 use native.Mathlib.Omega.{arith}
-use borrow.Author.Tests.{eqb-true, eq-eqb}
+use borrow.Author.Tests.{eqb-true}
 use Rattle.base.specs.Base.{_and_, some, first}
-use Rattle.base.proofs.Tests.{ifso, split, clash, both, and-left, and-no-left, and-no-right}
+use Rattle.base.proofs.Tests.{ifso, split, clash, is-true, both, and-left, and-no-left, and-no-right}
 use Rattle.base.proofs.Searches.{first-cases, first-is}
 use Rattle.bits.specs.Bits.{testBit, lacks, Minus, Least}
-use Rattle.bits.proofs.Words.{testBit-one}
+use Rattle.bits.proofs.Smallest.{lost-bit}
 use Rattle.order.specs.declared.Words.{Words}
 use Rattle.order.specs.Sets.{words}
 use Rattle.order.specs.Ordering.{waits, isNext, isFree}
@@ -42,31 +42,12 @@ module _ (f : List ℕ) (p : Words) (left base : ℕ) where
   came-start l = record { least = l; within = λ k t. t; tried = λ k _ t. lacks-bit k t }
 
   module _ {set a : ℕ} (c : Came f p left base set a) (s : a < 64) {u b : ℕ} (m : Minus set ((1 * 2 ^ a) % 2 ^ 64) u) (l : Least (testBit u) 0 64 b) where
-    -- a is taken out
+    -- a is taken out, and no other
     without-is : (k : ℕ) → testBit u k ≡ true → testBit set k ≡ true
-    unfolding lacks
-    without-is k t = and-left _ _ (sym (m .is k) ∙ t)
-
-    taken-out : testBit u a ≡ false
-    unfolding lacks
-    taken-out = m .is a ∙ and-no-right _ _ (ap not (testBit-one a a s ∙ eq-eqb a a refl))
+    without-is k t = and-left _ _ (sym (lost-bit s m k) ∙ t)
 
     other-stays : (k : ℕ) → testBit set k ≡ true → testBit u k ≡ false → k ≡ a
-    unfolding lacks
-    other-stays k t n =
-        ifso (testBit ((1 * 2 ^ a) % 2 ^ 64) k) (λ y. eqb-true k a (sym (testBit-one a k s) ∙ y))
-        (λ y. absurd (clash (both _ _ t (ap not y)) (sym (m .is k) ∙ n)))
-
-    -- .. so that the next one is greater
-    pub came-more : a < b
-    came-more =
-        ⊎-elim (λ g. g)
-        (λ g.
-        let t = l .hit (omega arith) in
-        absurd
-        (⊎-elim (λ x. clash (without-is b t) (c .least .none b (omega arith) x (omega arith)))
-        (λ x. let z : b ≡ a = omega arith in clash (rw z at t) taken-out) (split b a)))
-        (split a b)
+    other-stays k t n = eqb-true k a (is-true _ (λ y. clash (both _ _ t (ap not y)) (sym (lost-bit s m k) ∙ n)))
 
     pub came-next : {r : Bool} → r ≡ not (some 0 128 (waits f p (base + a))) → r ≡ false → Came f p left base u b
     came-next e q =

@@ -9,8 +9,8 @@ use lib.ListN.{length, getD}
 use lib.Dec.{eqb}
 use borrow.Author.Tests.{eqb-true, eq-eqb, ltb-true, lt-ltb, le-leb, lt-leb}
 use Rattle.base.specs.Base.{_and_, _or_, last}
-use Rattle.base.proofs.Tests.{split, clash, is-false, same-test, both, and-left, and-right, and-on, and-no-right, or-cases, or-left, or-right, or-off, or-assoc, below-more}
-use Rattle.base.proofs.Searches.{some-at, some-none, some-same}
+use Rattle.base.proofs.Tests.{split, clash, is-false, same-test, both, and-left, and-right, and-on, and-no-right, or-cases, or-left, or-right, or-on, or-off, or-assoc, below-more}
+use Rattle.base.proofs.Searches.{some-at, some-same}
 use Rattle.base.proofs.Chains.{last-passes, last-none}
 use Rattle.theory.specs.Leads.{Leads, then, via}
 use Rattle.theory.proofs.Leads.{via-flip}
@@ -91,13 +91,6 @@ reads-of h t a i e = and-right _ _ (and-left _ _ e)
 basic-is : (h : History) (a b : ℕ) → basic h a b ≡ precedes h a b or isRead h a b
 unfolding basic precedes
 basic-is h a b = refl
-
--- transaction 0 reads nothing
-pub read-zero : {h : List ℕ} → Held h → (a : ℕ) → isRead (historyOf h) a 0 ≡ false
-unfolding isRead
-read-zero {h} p a =
-    some-none (readsFrom (historyOf h) 0 a) (opCount (historyOf h) + 1) 1
-    (λ i f t. is-false _ (λ e. omega (arith, reads-parts (historyOf h) 0 a i e .1, p .txs-in i f (omega arith) .0)))
 
 module _ {h : List ℕ} (p : Held h) (a b : ℕ) where
   read-under : isRead (historyOf h) a b ≡ true → (a < size (historyOf h)) × (b < size (historyOf h))
@@ -262,6 +255,10 @@ read-bit h i x y =
 reads-are : (h : History) (x y : ℕ) → readBits h x y ≡ isRead h y x
 unfolding readBits across isRead
 reads-are h x y = some-same (λ i. readBit h i x y) (readsFrom h x y) (opCount h + 1) 1 (λ i a b. read-bit h i x y)
+
+pub reads-filled : {u w : List ℕ} (h : History) → Holds u nothing → Holds w (either (bitOf u) (readBits h)) → Holds w (before (isRead h))
+unfolding nothing either before
+reads-filled h q r = holds-same r (λ x y hx hy. or-on _ _ (q .is x y hx hy) ∙ reads-are h x y)
 
 pub basic-filled : {u w : List ℕ} (h : History) → Holds u (ordersBelow h (size h)) → Holds w (either (bitOf u) (readBits h)) → Holds w (before (basic h))
 unfolding either before

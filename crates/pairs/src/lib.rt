@@ -1,8 +1,8 @@
 // "Basic pairs, always forced": start, session and read. A table of pairs is kept by predecessor: row b has the bits of what stands before b.
 ghost use mathlib.Core.Path.{_≡_};
-ghost use Prim.Native.Nat.{_+_, _≤_, _<_};
+ghost use Prim.Native.Nat.{_+_, _<_};
 ghost use lib.ListN.{length};
-ghost use Rattle.rules.specs.History.{txCount, size};
+ghost use Rattle.rules.specs.History.{size};
 ghost use Rattle.rules.specs.Levels.{isStart, isSession, isRead, basic};
 ghost use Rattle.table.specs.Table.{historyOf, HasTx, HasOp, Settled, Below};
 ghost use Rattle.bits.specs.Bits.{bitOf, Holds, nothing, either, plusRow};
@@ -44,25 +44,7 @@ pub fn is_session(h: &[u64], a: usize, b: usize) -> bool
     table::session_of(h, a) == table::session_of(h, b)
 }
 
-// "read (the source before the reader of a clean external read)". Only b's own operations are looked at, from its last down; transaction 0 has none.
-pub fn is_read(h: &[u64], k: &[u8], a: usize, b: usize) -> bool
-    requires { ⌜ Ready (now h) (now k) × (a ≤ txCount (historyOf (now h))) × (b ≤ txCount (historyOf (now h))) ⌝ }
-    ensures { λ r. ⌜ r ≡ isRead (historyOf (now (h .entry))) a b ⌝ }
-{
-    if b == 0 {
-        return false;
-    }
-    let mut i = table::last_op(h, b);
-    while 0 < i {
-        if k[i] as usize == 8 + a {
-            return true;
-        }
-        i = table::prev_op(h, i);
-    }
-    false
-}
-
-// ── the table of basic pairs ──
+// ── tables of pairs ──
 
 // The last transaction before b that stands before it by session; 0, which stands before every other, where there is none.
 fn prior(h: &[u64], b: usize) -> usize
@@ -142,5 +124,14 @@ pub fn fill_basic(h: &[u64], k: &[u8], t: &mut [u64])
 {
     bits::clear(t);
     mark_orders(h, t);
+    mark_reads(h, k, t);
+}
+
+// Row b has the bits of the transactions that are before b in a read pair: "the source before the reader of a clean external read".
+pub fn fill_reads(h: &[u64], k: &[u8], t: &mut [u64])
+    requires { ⌜ Ready (now h) (now k) × (length (now t) ≡ 256) ⌝ }
+    ensures { λ r. ⌜ Holds (now (t .exit)) (before (isRead (historyOf (now (h .entry))))) ⌝ }
+{
+    bits::clear(t);
     mark_reads(h, k, t);
 }

@@ -7,14 +7,14 @@ returns : tie.Need-returns
 returns c =
     let i = c .before in
     let s = i .before .before .before .before .before .before in
-    λ level j. reject-findings (s .pre .1) level j _ _ (i .if1 .taken)
+    λ level j. reject-findings (s .pre .2) level j _ _ (i .if1 .taken)
 
 returns-2 : tie.Need-returns-2
 returns-2 c =
     let i = c .before in
     let ifx = i .before .before in
     let s = ifx .before .before .before .before .before .before in
-    λ level j. reject-pairs (s .pre .1) level j _ _ (ifx .if1 .left) (i .if2 .taken)
+    λ level j. reject-pairs (s .pre .2) level j _ _ (ifx .if1 .left) (i .if2 .taken)
 
 returns-3 : tie.Need-returns-3
 returns-3 c =
@@ -23,7 +23,7 @@ returns-3 c =
     let i = pu .before .before in
     let ifx = i .before .before in
     let s = ifx .before .before .before .before .before .before in
-    λ level j. reject-fits (s .pre .1) level j _ _ (ifx .if1 .left) (i .if2 .left) (pu .put-findings .ensures) (p .put-pairs .ensures)
+    λ level j. reject-fits (s .pre .2) level j _ _ (ifx .if1 .left) (i .if2 .left) (pu .put-findings .ensures) (p .put-pairs .ensures)
 
 pub reject-spec : {M : Type 1} → statement M
 reject-spec =

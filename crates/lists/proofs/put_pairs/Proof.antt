@@ -9,17 +9,18 @@ use Rattle.lists.proofs.put_pairs.Statement.{statement}
 use Rattle.lists.proofs.put_pairs.Tie as tie
 
 abbrev Inv-loop : tie.InvT-loop
-Inv-loop h k f c v out₀ n at₀ a₀ out at a = Filling (rowAt (historyOf h) f c v) 0 (size (historyOf h)) out₀ 0 a out at
+Inv-loop h l r v out₀ n at₀ a₀ out at a = Filling (rowAt (historyOf h) l r v) 0 (size (historyOf h)) out₀ 0 a out at
 
 abbrev μ-loop : tie.MeasureT-loop
-μ-loop h k f c v out₀ n at₀ a₀ out at a = n + 1 - a
+μ-loop h l r v out₀ n at₀ a₀ out at a = n + 1 - a
 
 put-row-requires : tie.Need-put-row-requires Inv-loop μ-loop
 put-row-requires c κs =
-    let p = c .before .before .before .before .before .before .before .before .before .before .pre in (
+    let p = c .before .before .before .before .before .before .before .before .before .pre in
+    let x = c .before .before .before .txs .ensures in (
       p .0,
-      omega (arith, c .before .before .before .txs .ensures),
-      fill-room _ _ _ _ _ (c .before .before .loop .inv) (pairs-fit (p .0) (p .1)) (omega (arith, c .before .before .before .txs .ensures)),
+      omega (arith, x),
+      fill-room _ _ _ _ _ (c .before .before .loop .inv) (pairs-fit _ _ _ _ (p .1)) (omega (arith, x)),
     )
 
 loop-again : tie.Need-loop-again Inv-loop μ-loop
@@ -34,11 +35,11 @@ returns c = fill-end _ _ _ _ _ (c .before .loop .inv) (omega (arith, c .before .
 pub put-pairs-spec : {M : Type 1} → statement M
 put-pairs-spec =
     tie.close
-    (tie.spec Inv-loop μ-loop (λ c κs. c .before .before .before .before .before .before .pre .0 .ready .settled .held)
-    (λ c. fill-start _ _ _ _ _ (omega arith)) put-row-requires
+    (tie.spec Inv-loop μ-loop (λ c κs. c .before .before .before .before .before .pre .0 .settled .held) (λ c. fill-start _ _ _ _ _ (omega arith))
+    put-row-requires
     (λ c. omega (
       arith,
       c .before .before .before .before .before .before .txs .ensures,
-      c .before .before .before .before .before .before .before .before .before .before .before .before .before .pre .0 .tables .few,
+      c .before .before .before .before .before .before .before .before .before .before .before .before .pre .0 .settled .held .few,
     ))
     (λ c. omega arith) loop-again (λ c. appended-length (c .before .loop .inv .is)) returns)

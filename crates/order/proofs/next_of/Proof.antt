@@ -1,8 +1,9 @@
 use borrow.Author.Needs.{needs}
 use Prim.Native.Nat.{_-_}
 use native.Mathlib.Omega.{arith}
+use Rattle.bits.proofs.Smallest.{lost-more}
 use Rattle.order.specs.Sets.{words}
-use Rattle.order.proofs.Smallest.{Came, came-start, came-next, came-more, came-hit, came-end}
+use Rattle.order.proofs.Smallest.{Came, came-start, came-next, came-hit, came-end}
 use Rattle.order.proofs.next_of.Statement.{statement}
 use Rattle.order.proofs.next_of.Tie as tie
 
@@ -50,7 +51,7 @@ least-requires-2 c κs =
 
 loop-less : tie.Need-loop-less Inv-loop μ-loop
 loop-less c =
-    omega (arith, came-more _ _ _ _ (c .before .before .before .before .before .loop .inv) (c .before .before .before .before .loop-test .taken) (c .before .without .ensures) (c .least2 .ensures .0), c .least2 .ensures .1)
+    omega (arith, lost-more (c .before .before .before .before .loop-test .taken) (c .before .without .ensures) (c .before .before .before .before .before .loop .inv .least) (c .least2 .ensures .0), c .least2 .ensures .1)
 
 loop-again : tie.Need-loop-again Inv-loop μ-loop
 loop-again c =

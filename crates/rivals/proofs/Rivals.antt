@@ -220,6 +220,22 @@ module _ (h : History) (level t3 j : ℕ) (p : ℕ → Bool) (x y : ℕ) where
       some-of (λ t2. rivalBitsIf h level t3 j p t2 x y) 128 0 (a .rival) (omega arith) (a .few)
       (both _ _ (a .passes) (some-of (λ i. rivalBit h level t3 (a .rival) i x y) (j + 1) 1 (a .by) (a .from) (omega (arith, a .to)) (a .marks)))
 
+-- more reads and more rivals mark what fewer do
+among-more : (h : History) (level t3 x y j k : ℕ) (p q : ℕ → Bool) → ((t2 : ℕ) → t2 < 128 → p t2 ≡ true → q t2 ≡ true) → j ≤ k
+    → rivalsAmong h level t3 j p x y ≡ true → rivalsAmong h level t3 k q x y ≡ true
+among-more h level t3 x y j k p q s l e =
+    let u = among-at h level t3 j p x y e in
+    among-is h level t3 k q x y
+    (record {
+      rival = u .rival;
+      few = u .few;
+      passes = s (u .rival) (u .few) (u .passes);
+      by = u .by;
+      from = u .from;
+      to = omega (arith, u .to);
+      marks = u .marks;
+    })
+
 -- ── read by read, from the last of t3 down ──
 
 -- an operation of t below n lies up to the last of these
@@ -393,32 +409,12 @@ module _ {h : History} {level t3 i lo hi : ℕ} {v : List ℕ} {a b : ℕ} (on :
           (λ e. ⊎-elim (λ f. or-left _ _ (or-left _ _ f)) (λ f. back (among-at h level t3 i (rowOf lo hi) x y f)) (or-cases _ _ e))
         where
           now : rivalsAmong h level t3 i (rowOf a b) x y ≡ true → rivalsAmong h level t3 i (rowOf lo hi) x y ≡ true
-          now e =
-              let u = among-at h level t3 i (rowOf a b) x y e in
-              among-is h level t3 i (rowOf lo hi) x y
-              (record {
-                rival = u .rival;
-                few = u .few;
-                passes = and-left _ _ (sym (row-candidates ca cb (u .rival) (u .few)) ∙ u .passes);
-                by = u .by;
-                from = u .from;
-                to = u .to;
-                marks = u .marks;
-              })
+          now =
+              among-more h level t3 x y i i (rowOf a b) (rowOf lo hi) (λ t2 f c. and-left _ _ (sym (row-candidates ca cb t2 f) ∙ c)) (omega arith)
 
           later : rivalsAmong h level t3 r (rowOf lo' hi') x y ≡ true → rivalsAmong h level t3 i (rowOf lo hi) x y ≡ true
-          later e =
-              let u = among-at h level t3 r (rowOf lo' hi') x y e in
-              among-is h level t3 i (rowOf lo hi) x y
-              (record {
-                rival = u .rival;
-                few = u .few;
-                passes = and-left _ _ (sym (row-minus na nb (u .rival) (u .few)) ∙ u .passes);
-                by = u .by;
-                from = u .from;
-                to = omega (arith, u .to, q .below);
-                marks = u .marks;
-              })
+          later =
+              among-more h level t3 x y r i (rowOf lo' hi') (rowOf lo hi) (λ t2 f c. and-left _ _ (sym (row-minus na nb t2 f) ∙ c)) (omega (arith, q .below))
 
           back : Among h level t3 i (rowOf lo hi) x y
               → (bitOf v x y or rivalsAmong h level t3 i (rowOf a b) x y) or rivalsAmong h level t3 r (rowOf lo' hi') x y ≡ true
@@ -505,18 +501,7 @@ module _ {h : History} {level t3 i lo hi : ℕ} {v : List ℕ} {a b : ℕ} (on :
               })
 
           later : rivalsAmong h level t3 r (rowOf lo hi) x y ≡ true → rivalsAmong h level t3 i (rowOf lo hi) x y ≡ true
-          later e =
-              let u = among-at h level t3 r (rowOf lo hi) x y e in
-              among-is h level t3 i (rowOf lo hi) x y
-              (record {
-                rival = u .rival;
-                few = u .few;
-                passes = u .passes;
-                by = u .by;
-                from = u .from;
-                to = omega (arith, u .to, q .below);
-                marks = u .marks;
-              })
+          later = among-more h level t3 x y r i (rowOf lo hi) (rowOf lo hi) (λ t2 f c. c) (omega (arith, q .below))
 
           back : Among h level t3 i (rowOf lo hi) x y
               → (bitOf v x y or (eqb x (sourceOf h i) and rowOf a b y)) or rivalsAmong h level t3 r (rowOf lo hi) x y ≡ true

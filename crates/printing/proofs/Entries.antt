@@ -5,12 +5,12 @@ use mathlib.Core.List.{List, [], _∷_}
 use native.Mathlib.Nat.{mul-add}
 use native.Mathlib.Omega.{arith}
 use native.Mathlib.Numerals.{add-one}
-use lib.ListN.{length, getD, drop, length-append, List·getD-append}
+use lib.ListN.{length, getD, drop, length-append}
 use lib.Seq.{drop-cons}
 use Rattle.base.specs.Base.{listed, joined}
 use Rattle.base.proofs.Searches.{downward, listed-step, listed-end, listed-same, joined-length, joined-at}
 use Rattle.rules.specs.Numbers.{le, over}
-use Rattle.rules.proofs.Numbers.{le-same}
+use Rattle.rules.proofs.Numbers.{le-same, over-at}
 use Rattle.rules.specs.History.{History, originOf}
 use Rattle.rules.specs.Outcome.{Pair, findings, findingBytes, findingList, pairs, pairBytes, pairList}
 use Rattle.text.specs.Lines.{readLine, pairLine}
@@ -20,11 +20,7 @@ use Rattle.printing.specs.Printing.{entryLine, listText}
 
 -- ── what is written over a buffer ──
 
--- its front is what was written, and is there
-pub over-at : (l b : List ℕ) (k : ℕ) → k < length l → getD (over l b) k 0 ≡ getD l k 0
-unfolding over
-over-at l b k h = List·getD-append l (drop (length l) b) 0 k h
-
+-- it fits into what the buffer then holds
 pub over-most : (l b : List ℕ) → length l ≤ length (over l b)
 unfolding over
 over-most l b = omega (arith, length-append l (drop (length l) b))

@@ -6,3 +6,4 @@ pub mod Kind
 pub mod Pairs
 pub mod Lists
 pub mod Outcome
+pub mod Answers

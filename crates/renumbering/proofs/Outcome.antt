@@ -1,4 +1,4 @@
--- The outcomes are alike, choice by choice.
+-- The outcomes are alike but for the findings' bytes, choice by choice.
 use Prim.Native.Nat.{ℕ}
 use mathlib.Core.Path.{_≡_, refl}
 use mathlib.Core.List.{List}
@@ -10,42 +10,39 @@ use Rattle.demand1.specs.Lawful.{LawfulHistory}
 use Rattle.demand1.specs.Rows.{HasHistory}
 use Rattle.demand1.proofs.Lawful.{lawful-history}
 use Rattle.demand1.proofs.Readings.{read-has}
-use Rattle.demand3.proofs.Findings.{findings-are}
-use Rattle.demand3.proofs.Bytes.{findings-spelt}
-use Rattle.renumbering.specs.Renumbering.{Renumbers, put, kept, JudgedAlike}
-use Rattle.renumbering.proofs.Numbers.{renumbered-lawful}
+use Rattle.renumbering.specs.Renumbering.{Renumbers}
 use Rattle.renumbering.proofs.Lists.{as-many, same-long, same-order, same-pairs, same-pair-list, same-accepted}
 
--- an outcome that leaves the findings' buffer as it was is like itself
-alike-kept : {h g : History} {fs : List ℕ} (x : Outcome) → x .findings ≡ fs → JudgedAlike h g fs x x
-alike-kept x k = record { same-report = refl; same-pairs = refl; same-order = refl; findings-put = kept k k }
+-- the same report, pairs and order; of the findings nothing is said
+pub record JudgedAlike (A B : Outcome) : Type 0 where
+  pub same-report : B .report ≡ A .report
+  pub same-pairs : B .pairs ≡ A .pairs
+  pub same-order : B .order ≡ A .order
+
+-- an outcome is like itself
+alike-itself : (x : Outcome) → JudgedAlike x x
+alike-itself x = record { same-report = refl; same-pairs = refl; same-order = refl }
 
 module _ {to back : ℕ → ℕ} {h g : History} (ok : LawfulHistory h) (r : Renumbers to back h g) (level : ℕ) (fs ps os : List ℕ) where
-  abbrev Alike : Outcome → Outcome → Type 0
-  Alike = JudgedAlike h g fs
-
-  accepted-alike : Alike (acceptance h level fs ps os) (acceptance g level fs ps os)
+  accepted-alike : JudgedAlike (acceptance h level fs ps os) (acceptance g level fs ps os)
   unfolding acceptance
-  accepted-alike = rw (same-order ok r level) (pick-alike Alike _ (alike-kept _ refl) (alike-kept _ refl))
+  accepted-alike = rw (same-order ok r level) (alike-itself _)
 
-  rejected-alike : Alike (rejection h level fs ps os) (rejection g level fs ps os)
+  rejected-alike : JudgedAlike (rejection h level fs ps os) (rejection g level fs ps os)
   unfolding rejection
   rejected-alike =
-      let too = renumbered-lawful r ok in
       rw (same-long ok r, same-pair-list ok r level, as-many ok r, same-pairs ok r level)
-      (pick-alike Alike _ (alike-kept _ refl)
-      (pick-alike Alike _ (alike-kept _ refl)
-      (record { same-report = refl; same-pairs = refl; same-order = refl; findings-put = put (findings-are ok) (findings-spelt ok) (findings-are too) (findings-spelt too) refl refl })))
+      (pick-alike JudgedAlike _ (alike-itself _)
+      (pick-alike JudgedAlike _ (alike-itself _) (record { same-report = refl; same-pairs = refl; same-order = refl })))
 
-  pub judged-alike : (n m : ℕ)
-      → JudgedAlike h g fs (judgedRead (read h n) level fs ps os) (judgedRead (read g m) level fs ps os)
+  judged-alike : (n m : ℕ) → JudgedAlike (judgedRead (read h n) level fs ps os) (judgedRead (read g m) level fs ps os)
   unfolding judgedRead
-  judged-alike n m = rw (same-accepted ok r level) (pick-alike Alike _ accepted-alike rejected-alike)
+  judged-alike n m = rw (same-accepted ok r level) (pick-alike JudgedAlike _ accepted-alike rejected-alike)
 
 -- two traces that are read into such histories; a level that is none is refused before either is read
 pub traces-alike : {to back : ℕ → ℕ} {h g : History} → Renumbers to back h g → (s m : List ℕ) → HasHistory s h → HasHistory m g → (level : ℕ) (fs ps os : List ℕ)
-    → JudgedAlike h g fs (judged s level fs ps os) (judged m level fs ps os)
+    → JudgedAlike (judged s level fs ps os) (judged m level fs ps os)
 unfolding judged
-traces-alike {h = h} {g} r s m a b level fs ps os =
+traces-alike r s m a b level fs ps os =
     rw (read-has a, read-has b)
-    (pick-alike (JudgedAlike h g fs) _ (judged-alike (lawful-history a) r level fs ps os (a .notes) (b .notes)) (alike-kept _ refl))
+    (pick-alike JudgedAlike _ (judged-alike (lawful-history a) r level fs ps os (a .notes) (b .notes)) (alike-itself _))

@@ -1,17 +1,21 @@
 -- Document 02, request Five: "Verdicts, orders and pairs stay equal; findings may differ only in operation numbers, so in their order." Two histories that
 -- differ by the numbers of their operations, and what judging them then has in common.
-use Prim.Native.Nat.{ℕ, _<_}
+use Prim.Native.Nat.{ℕ, _+_, _*_, _<_}
 use mathlib.Core.Path.{_≡_}
 use mathlib.Core.List.{List}
 use mathlib.Core.Logic.{_↔_}
+use lib.ListN.{getD, drop}
 use Rattle.theory.specs.Entries.{Number}
-use Rattle.rules.specs.Numbers.{over}
+use Rattle.rules.specs.Numbers.{le}
 use Rattle.rules.specs.History.{History, op, opCount}
-use Rattle.rules.specs.Outcome.{Outcome}
+use Rattle.rules.specs.Outcome.{rejects, rejecting, reported}
+use Rattle.rules.specs.declared.Answer.{Answer}
 use Rattle.demand1.specs.Lawful.{IsOp}
 use Rattle.demand2.specs.Kinds.{HasKind}
 use Rattle.demand3.specs.Writes.{WriteNumber}
-use Rattle.demand3.specs.Lists.{Finding, Findings, FindingBytes}
+use Rattle.demand3.specs.Lists.{Finding}
+
+-- ── histories ──
 
 -- operation i of h has the number `to i` in g, and operation j of g the number `back j` in h: one to one, with the order kept within each transaction. Number
 -- 0, which no operation has, stays
@@ -44,16 +48,28 @@ pub record SameFindings (to back : ℕ → ℕ) (h g : History) : Type 0 where
   pub each-to : (i : ℕ) → Finding h i → Finding g (to i) × Corresponds to h g i (to i)
   pub each-back : (j : ℕ) → Finding g j → Finding h (back j) × Corresponds to h g (back j) j
 
--- what the findings buffers of two outcomes hold, where both held fs: both what they held, or each the list of its history's findings, by its own operation
--- numbers
-pub data FindingsPut (h g : History) (fs a b : List ℕ) : Type 0 where
-  kept : a ≡ fs → b ≡ fs → FindingsPut h g fs a b
-  put : {l m x y : List ℕ} → Findings h l → FindingBytes h l x → Findings g m → FindingBytes g m y → a ≡ over x fs → b ≡ over y fs → FindingsPut h g fs a b
+-- ── answers ──
 
--- the outcomes A, of a trace that is read into h, and B, of one that is read into g, at one level and with buffers of the same content: "Verdicts, orders and
--- pairs stay equal", the pairs' reasons, all counts and refusals too; the findings by the list of each
-pub record JudgedAlike (h g : History) (fs : List ℕ) (A B : Outcome) : Type 0 where
-  pub same-report : B .report ≡ A .report
-  pub same-pairs : B .pairs ≡ A .pairs
-  pub same-order : B .order ≡ A .order
-  pub findings-put : FindingsPut h g fs (A .findings) (B .findings)
+-- entry j of the findings F has become entry k of the findings F': "differ only in operation numbers"
+pub record Became (to : ℕ → ℕ) (F : List ℕ) (j : ℕ) (F' : List ℕ) (k : ℕ) : Type 0 where
+  pub same-transaction : getD F' (6 * k) 0 ≡ getD F (6 * j) 0
+  pub same-kind : getD F' (6 * k + 1) 0 ≡ getD F (6 * j + 1) 0
+  -- the numbers of the read and of its write are the new ones; 0, no write, stays
+  pub number : le 2 F' (6 * k + 2) ≡ to (le 2 F (6 * j + 2))
+  pub write : le 2 F' (6 * k + 4) ≡ to (le 2 F (6 * j + 4))
+
+-- each of the f findings has become one, at any place ("so in their order"), and each of the other f is what one became; the bytes behind them are the same
+pub record FindingsBecame (to : ℕ → ℕ) (f : ℕ) (F F' : List ℕ) : Type 0 where
+  pub each-to : (j : ℕ) → j < f → (k : ℕ) × (k < f) × Became to F j F' k
+  pub each-from : (k : ℕ) → k < f → (j : ℕ) × (j < f) × Became to F j F' k
+  pub behind : drop (6 * f) F' ≡ drop (6 * f) F
+
+-- the answers r and q to two traces, at one level and with buffers of the same content, and what the buffers then hold (F, P, O, and with a prime): "Verdicts,
+-- orders and pairs stay equal", the pairs' reasons, all counts and refusals too
+pub record AnswersAlike (to : ℕ → ℕ) (r q : Answer) (F P O F' P' O' : List ℕ) : Type 0 where
+  pub same-answer : q ≡ r
+  pub same-pairs : P' ≡ P
+  pub same-order : O' ≡ O
+  -- a refusal and an acceptance write no finding
+  pub no-findings : (reported r .verdict ≡ rejects → ⊥) → F' ≡ F
+  pub on-rejection : (f p : ℕ) → reported r ≡ rejecting f p → FindingsBecame to f F F'

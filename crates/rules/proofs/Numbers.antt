@@ -4,8 +4,8 @@ use mathlib.Core.Path.{_≡_, refl, ap, sym, _∙_}
 use mathlib.Core.List.{List, [], _∷_, _++_, append-assoc, append-nil}
 use native.Mathlib.Omega.{arith}
 use native.Mathlib.Numerals.{add-one, unary-clauses}
-use lib.ListN.{length, getD, take, drop}
-use lib.Seq.{getD-append-add, getD-take, take-suc, take-append-seam, append-snoc}
+use lib.ListN.{length, getD, take, drop, List·getD-append}
+use lib.Seq.{getD-append-add, getD-take, take-suc, take-append-seam, drop-append-seam, append-snoc}
 use Rattle.base.proofs.Fill.{Appended}
 use Rattle.rules.specs.Numbers.{le, bytes, over}
 
@@ -92,3 +92,17 @@ appended-over {o} {b} {n} {xs} x = let e : n ≡ length xs = omega (arith, x .en
 pub over-front : (l o : List ℕ) → take (length l) (over l o) ≡ l
 unfolding over
 over-front l o = take-append-seam l (drop (length l) o)
+
+-- .. byte by byte
+pub over-at : (l o : List ℕ) (k : ℕ) → k < length l → getD (over l o) k 0 ≡ getD l k 0
+unfolding over
+over-at l o k h = List·getD-append l (drop (length l) o) 0 k h
+
+-- .. and the numbers that stand in it
+pub over-le : (w : ℕ) (l o : List ℕ) (k : ℕ) → k + w ≤ length l → le w (over l o) k ≡ le w l k
+over-le w l o k h = sym (le-take w k (length l) (over l o) h) ∙ ap (λ (x : List ℕ). le w x k) (over-front l o)
+
+-- behind it is what was there
+pub over-behind : (l o : List ℕ) → drop (length l) (over l o) ≡ drop (length l) o
+unfolding over
+over-behind l o = drop-append-seam l (drop (length l) o)

@@ -9,6 +9,7 @@ use Rattle.rules.specs.Edges.{as-they-should}
 use Rattle.rules.specs.Traces.{whole, T, r, w}
 use Rattle.rules.specs.Cases.{table}
 use Rattle.text.specs.Lines.{text, decimalBy, decimal, field, fields, line, levelWord, refusedLine, rejectedLine, acceptedLine, readLine, pairLine, notesLine}
+use Rattle.text.specs.Digits.{denotedFrom, denoted}
 use Rattle.text.specs.Answer.{findingText, pairText, blockText, readingText, answerText}
 
 -- a trace and its text
@@ -90,3 +91,8 @@ lineTable =
 pub as-spelt : lineTable ≡ map text ("0" ∷ "9" ∷ "10" ∷ "1024" ∷ "refused 2 32768\n" ∷ "rc accepted 0 127\n" ∷ "tcc rejected 10 16256\n" ∷ "read 127 1024 6 1023\n" ∷ "notes 0\n" ∷ "notes 4094\n" ∷ [])
 unfolding as-printed notesLine
 as-spelt = refl
+
+-- and read back
+pub as-denoted : map (λ s. denoted (text s)) ("0" ∷ "9" ∷ "10" ∷ "1024" ∷ []) ≡ 0 ∷ 9 ∷ 10 ∷ 1024 ∷ []
+unfolding denotedFrom denoted
+as-denoted = refl

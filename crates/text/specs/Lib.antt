@@ -1,3 +1,4 @@
 pub mod Lines
+pub mod Digits
 pub mod Answer
 pub mod Cases

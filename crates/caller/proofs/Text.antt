@@ -8,4 +8,4 @@ use Rattle.demands.specs.Printed.{TextPut}
 use Rattle.demands.proofs.Printed.{prints-iff}
 
 pub text-put : {s o b : List ℕ} {n : ℕ} → Written s o b n → TextPut s o b n
-text-put {s} x = record { text = answerText s; prints = prints-iff s (answerText s) .0 refl; long = x .end; is = x .is }
+text-put {s} x = record { text = answerText s; prints = prints-iff s (answerText s) .0 refl; long = x .end; short = x .short; is = x .is }

@@ -3,26 +3,23 @@ use Prim.Native.Nat.{ℕ, _+_, _≤_}
 use mathlib.Core.Path.{_≡_, sym, _∙_}
 use mathlib.Core.Bool.{true}
 use mathlib.Core.List.{List}
-use mathlib.Core.Logic.{_⊎_, inl, inr, ⊎-elim, _↔_}
+use mathlib.Core.Logic.{_⊎_, inl, inr, ⊎-elim}
 use native.Mathlib.Omega.{arith}
 use lib.ListN.{length}
-use borrow.Author.Tests.{leb-true, eqb-true, le-leb, eq-eqb}
-use Rattle.base.proofs.Tests.{clash, both, and-left, and-right, split}
+use borrow.Author.Tests.{le-leb, eq-eqb}
+use Rattle.base.proofs.Tests.{clash, both, split}
 use Rattle.rules.specs.History.{History, Op, tx, txCount, opened, closed, withOp}
 use Rattle.rules.specs.Records.{isSecond}
 use Rattle.rules.specs.Reading.{State}
 use Rattle.rules.proofs.History.{with-op-tx, open-count, open-old, open-new, close-count, close-this, close-other}
 use Rattle.demand1.specs.Lawful.{IsTx}
-use Rattle.demand1.specs.Rows.{kind, session, BeginsWith16, OpenOf, OneOpenEach, open-again, in-second, status-above-2, Passes, inPlace, valueLawful, the-latest, of-its-session, Next, after-open, after-read, after-write, after-close, after-note, after-edition, Reaches, start, on}
+use Rattle.demand1.specs.Rows.{kind, session, OpenOf, OneOpenEach, open-again, in-second, status-above-2, Passes, inPlace, valueLawful, the-latest, of-its-session, Next, after-open, after-read, after-write, after-close, after-note, after-edition, Reaches, start, on}
 use Rattle.demand1.proofs.Events.{same-or, at-least}
 
 -- "Edition 2 of the trace begins with a kind 16 record"
-pub second-iff : (s : List ℕ) → (isSecond s ≡ true) ↔ BeginsWith16 s
+pub begins-second : (s : List ℕ) → 4 ≤ length s → kind s 0 ≡ 16 → isSecond s ≡ true
 unfolding isSecond
-second-iff s = (
-  λ t. record { there = leb-true 4 (length s) (and-left _ _ t); first-kind = eqb-true (kind s 0) 16 (and-right _ _ t) },
-  λ b. both _ _ (le-leb 4 (length s) (b .there)) (eq-eqb (kind s 0) 16 (b .first-kind)),
-)
+begins-second s l k = both _ _ (le-leb 4 (length s) l) (eq-eqb (kind s 0) 16 k)
 
 -- a transaction that is open in g is open in h, where it is the same
 open-in : {g : History} (h : History) {n t : ℕ} → t ≤ txCount h → tx g t ≡ tx h t → OpenOf g n t → OpenOf h n t

@@ -49,11 +49,6 @@ module _ (s : List ℕ) (at : ℕ) where
   abbrev pub behind : ℕ
   behind = at + 2 + len
 
--- "Edition 2 of the trace begins with a kind 16 record": its first record has that kind. "Any other trace is edition 1"
-pub record BeginsWith16 (s : List ℕ) : Type 0 where
-  pub there : 4 ≤ length s
-  pub first-kind : kind s 0 ≡ 16
-
 -- ── which transactions are open ──
 
 -- edition 1: the trace is inside a transaction, the latest opened one being open

@@ -4,12 +4,15 @@ use mathlib.Core.Path.{_≡_, refl, ap}
 use mathlib.Core.List.{List, [], _∷_}
 use mathlib.Core.Logic.{_↔_}
 use native.Mathlib.Omega.{arith}
+use lib.ListN.{length, take}
 use Rattle.base.specs.Base.{joined}
 use Rattle.base.proofs.Tests.{ifso, pick-on, pick-off}
 use Rattle.theory.specs.Entries.{In, here, there}
+use Rattle.rules.specs.Numbers.{over}
 use Rattle.rules.specs.History.{History}
 use Rattle.rules.specs.Reading.{Reading, refused, read, reading}
 use Rattle.rules.specs.Outcome.{Pair, findings, pairs, isAccepted}
+use Rattle.rules.proofs.Numbers.{over-whole}
 use Rattle.text.specs.Lines.{acceptedLine}
 use Rattle.text.specs.Answer.{findingText, pairText, blockText, readingText, answerText}
 use Rattle.demand1.specs.Lawful.{LawfulHistory}
@@ -22,7 +25,7 @@ use Rattle.demand3.proofs.Writes.{write-one}
 use Rattle.demand3.proofs.Forced.{reasons-are, reasons-one}
 use Rattle.demand3.proofs.Pairs.{pairs-are, pairs-one}
 use Rattle.demand3.proofs.Traces.{fault-iff, no-fault-iff}
-use Rattle.demands.specs.Printed.{ReadsPrinted, no-read, one-read, PairsPrinted, no-pair, one-pair, BlockPrinted, on-acceptance, on-rejection, Prints, on-refusal, on-reading}
+use Rattle.demands.specs.Printed.{ReadsPrinted, no-read, one-read, PairsPrinted, no-pair, one-pair, BlockPrinted, on-acceptance, on-rejection, Prints, on-refusal, on-reading, TextPut}
 
 -- ── lines ──
 
@@ -105,3 +108,9 @@ module _ (s : List ℕ) where
   -- so the text is the one that the document says
   pub prints-iff : (t : List ℕ) → (answerText s ≡ t) ↔ Prints s t
   prints-iff t = (λ e. rw e at prints-it, λ p. prints-one prints-it p)
+
+-- whoever lent room for any text has all of it
+pub text-whole : {s o b : List ℕ} {n : ℕ} → TextPut s o b n → 1048576 ≤ length o → Prints s (take n b)
+text-whole {s} {o} x h =
+    let e : take (length (x .text)) (over (take (length o) (x .text)) o) ≡ x .text = over-whole (x .text) o (omega (arith, x .long, x .short)) in
+    rw (x .is, x .long, e) (x .prints)

@@ -23,12 +23,12 @@ answer-says says-rejected = refl
 answer-says says-accepted = refl
 
 -- the judge that gives back what the definition says
-abbrev asDefined : Judge
+abbrev pub asDefined : Judge
 asDefined s level fs ps os =
     let o = judged s level fs ps os in
     record { answer = answerOf (outcome-says s level fs ps os); findings = o .findings; pairs = o .pairs; order = o .order }
 
-as-defined : (s : List ℕ) (level : ℕ) (fs ps os : List ℕ)
+pub as-defined : (s : List ℕ) (level : ℕ) (fs ps os : List ℕ)
     → let g = asDefined s level fs ps os in Demands s level fs ps os (g .answer) (g .findings) (g .pairs) (g .order)
 as-defined s level fs ps os =
     let o = judged s level fs ps os in

@@ -1,5 +1,5 @@
 -- What `judge` prints of any bytes, in the document's own terms. How a line is spelt is `text/specs/Lines.antt`.
-use Prim.Native.Nat.{ℕ}
+use Prim.Native.Nat.{ℕ, _≤_}
 use mathlib.Core.Path.{_≡_}
 use mathlib.Core.List.{List, [], _∷_, _++_}
 use lib.ListN.{length, take}
@@ -39,9 +39,11 @@ pub data Prints (s : List ℕ) : List ℕ → Type 0 where
   on-reading : {h : History} {x y z : List ℕ} → HasHistory s h → BlockPrinted h 1 x → BlockPrinted h 2 y → BlockPrinted h 3 z
       → Prints s (x ++ (y ++ z))
 
--- of the trace s that text was put over o, as far as o reaches, which made b of it; n, which is answered, is its length
+-- of the trace s that text was put over o, as far as o reaches, which made b of it; n, which is answered, is its length. No text is longer than 1,048,576 bytes,
+-- so with room for as many the first n bytes are all of it (`text-whole`)
 pub record TextPut (s o b : List ℕ) (n : ℕ) : Type 0 where
   pub text : List ℕ
   pub prints : Prints s text
   pub long : n ≡ length text
+  pub short : n ≤ 1048576
   pub is : b ≡ over (take (length o) text) o

@@ -5,3 +5,4 @@ pub mod Moved
 pub mod Moves
 pub mod Tally
 pub mod Back
+pub mod Alike

@@ -1,4 +1,4 @@
--- What is moved is what the request says: it is read, in the wanted edition, and is judged alike.
+-- What is moved is what the request says: it is read, in the wanted edition, record by record.
 use Prim.Native.Nat.{ℕ, _^_, _<_}
 use mathlib.Core.Path.{_≡_, ap, sym, _∙_}
 use mathlib.Core.Bool.{Bool, true, false}
@@ -13,7 +13,6 @@ use Rattle.rules.specs.declared.Event.the-variants.{End}
 use Rattle.demand1.specs.Lawful.{LawfulHistory}
 use Rattle.demand1.specs.Rows.{serial, ReadInto, HasHistory}
 use Rattle.demand1.proofs.Lawful.{lawful-history}
-use Rattle.demand1.proofs.Readings.{has-history}
 use Rattle.writing.specs.Listing.{historySteps}
 use Rattle.writing.specs.Forms.{mark, itemIn, preamble, wholeOf}
 use Rattle.writing.proofs.Grown.{Grown}
@@ -25,8 +24,6 @@ use Rattle.written.proofs.Slim.{EachSlim, le-below}
 use Rattle.written.proofs.Small.{slim-read}
 use Rattle.written.proofs.Whole.{wanted-edition}
 use Rattle.written.proofs.Readback.{read-back-in}
-use Rattle.renumbering.proofs.Lists.{same-findings}
-use Rattle.renumbering.proofs.Outcome.{traces-alike}
 use Rattle.moving.specs.Moving.{movedTrace}
 use Rattle.moving.specs.Renumbering.{asBlocks}
 use Rattle.moving.proofs.Renumbered.{blocks-count, in-turn}
@@ -86,9 +83,4 @@ module _ (second : Bool) (s : List ℕ) (b : AllBytes s) {h : History} (r : HasH
         records = rw (moved-as, ← same-whole) (records-are second (serial s 0) low grown slim);
         in-blocks = record { renumbers = renumbers lawful; in-turn = in-turn lawful };
         same-history = same-history d;
-        same-case =
-            record {
-              alike = traces-alike (renumbers lawful) s (movedTrace second (serial s 0) h) r (has-history moved-read);
-              findings = same-findings lawful (renumbers lawful);
-            };
       }

@@ -43,7 +43,7 @@ module _ (second : Bool) (s : List ℕ) (b : AllBytes s) (o : List ℕ) where
         → movedTo second s o ≡ fillOf (answering (length (movedTrace second (serial s 0) h))) (over (movedTrace second (serial s 0) h) o)
     moved-fits d l = moved-other second s o (read-has r) (other-test d) ∙ into-fits (movedTrace second (serial s 0) h) o (omega (arith, moved-length second s b r))
 
-  declined-is : (m p : ℕ) → MoveDeclines second s (length o) m p → movedTo second s o ≡ fillOf (refusing m p) o
+  pub declined-is : (m p : ℕ) → MoveDeclines second s (length o) m p → movedTo second s o ≡ fillOf (refusing m p) o
   declined-is m p (trace-refused {n} {at} x) = moved-refused second s o (refuses-iff s n at .1 x)
   declined-is m p (unchanged-short e r l) = moved-same second s o (read-has r) (same-test e) ∙ into-short s o l
   declined-is m p (moved-short {h} d r l) =
@@ -94,6 +94,16 @@ comes-one x y (unchanged e r) (unchanged d q) = refl
 comes-one x y (unchanged e r) (was-moved d m) = absurd (d e)
 comes-one x y (was-moved d m) (unchanged e r) = absurd (d e)
 comes-one x y (was-moved d m) (was-moved e k) = moved-one x y m k
+
+-- .. and is put where it has room
+pub comes-is : (second : Bool) (s : List ℕ) → AllBytes s → {x : List ℕ} → ComesOut second s x → (o : List ℕ) → length x ≤ length o
+    → movedTo second s o ≡ fillOf (answering (length x)) (over x o)
+comes-is second s b (unchanged e r) o l = same-fits second s b o r e l
+comes-is second s b {x} (was-moved d m) o l =
+    let r = m .reads in
+    let e = moved-one x (movedTrace second (serial s 0) (m .history)) m (is-moved second s b r d) in
+    let long = moved-length second s b r in
+    rw e (moved-fits second s b o r d (omega (arith, long, ap length e)))
 
 -- any two outcomes that the promise admits coincide
 pub moves-one : {second : Bool} {s o : List ℕ} {r q : Filled} {c d : List ℕ} → Moves second s o r c → Moves second s o q d → (said r ≡ said q) × (c ≡ d)

@@ -19,7 +19,7 @@ use Rattle.moving.specs.Tally.{TalliedFill, talliedFill, filledOf, withNotes, m
 use Rattle.moving.proofs.Moving.{moved-refused}
 use Rattle.moving.proofs.Tally.{filled-is}
 use Rattle.noteless.proofs.Counted as notes
-use Rattle.moved.specs.Moved.{NotesTold, with-refusal, with-length, MovesToSecond}
+use Rattle.moved.specs.Moved.{MovesToSecond}
 use Rattle.moved.proofs.Moves.{moves, moves-one}
 
 module _ (s o c : List ℕ) where
@@ -36,30 +36,36 @@ module _ (s o c : List ℕ) where
           let w : k ≡ m = ap (λ (y : TalliedFill). y .notes) e ∙ rw (z, q) refl in
           (h, rw w (reads-iff s h m .0 q))
 
-  notes-told : (r : Tallied) → talliedFill r c ≡ movedToSecond s o → NotesTold s r
-  notes-told (T.Refused n p) e = with-refusal n p
-  notes-told (T.Length n k) e = with-length n k (notes.notes-counted (told-read n k e .1))
-
   -- any answer and content that the contract admits
   pub moves-to-second : AllBytes s → (r : Tallied) → talliedFill r c ≡ movedToSecond s o → MovesToSecond s o r c
-  unfolding movedToSecond
-  moves-to-second b r e =
+  unfolding movedToSecond talliedFill filledOf said
+  moves-to-second b (T.Refused n p) e =
       record {
-        moves = moves true s b o (filledOf r) c (filled-is r c _ _ e);
-        notes = notes-told r e;
-        second-none = λ t n k q. notes.second-none t (told-read n k (ap (λ (x : Tallied). talliedFill x c) (sym q) ∙ e) .1);
+        moves = moves true s b o _ c (filled-is (T.Refused n p) c _ _ e);
+        notes = λ m q. absurd (true≢false (ap (λ (x : Said). x .isRefused) q));
+        refused-none = λ t. refl;
+        second-none = λ t. refl;
+      }
+  moves-to-second b (T.Length n k) e =
+      let told = told-read n k e .1 in
+      record {
+        moves = moves true s b o _ c (filled-is (T.Length n k) c _ _ e);
+        notes = λ m q. notes.notes-counted told;
+        refused-none = λ t. absurd (false≢true t);
+        second-none = λ t. notes.second-none t told;
       }
 
 -- ── one outcome ──
 
 -- answers that say the same but for the notes, which are told of one trace
-told-one : {s : List ℕ} {r q : Tallied} → NotesTold s r → NotesTold s q → said (filledOf r) ≡ said (filledOf q) → r ≡ q
-unfolding said filledOf
-told-one (with-refusal n p) (with-refusal m q) e = rw (ap (λ (x : Said). x .no) e, ap (λ (x : Said). x .place) e)
-told-one (with-refusal n p) (with-length m k x) e = absurd (true≢false (ap (λ (x : Said). x .isRefused) e))
-told-one (with-length n k x) (with-refusal m p) e = absurd (false≢true (ap (λ (x : Said). x .isRefused) e))
-told-one (with-length n k x) (with-length m l y) e = rw (ap (λ (x : Said). x .length) e, number-one _<_ (λ i j a b. omega arith) x y)
+told-one : (s o : List ℕ) {c d : List ℕ} (r q : Tallied) → MovesToSecond s o r c → MovesToSecond s o q d → said (filledOf r) ≡ said (filledOf q) → r ≡ q
+unfolding said filledOf talliedFill
+told-one s o (T.Refused n p) (T.Refused m q) x y e = rw (ap (λ (x : Said). x .no) e, ap (λ (x : Said). x .place) e)
+told-one s o (T.Refused n p) (T.Length m k) x y e = absurd (true≢false (ap (λ (x : Said). x .isRefused) e))
+told-one s o (T.Length n k) (T.Refused m p) x y e = absurd (false≢true (ap (λ (x : Said). x .isRefused) e))
+told-one s o (T.Length n k) (T.Length m l) x y e =
+    rw (ap (λ (x : Said). x .length) e, number-one _<_ (λ i j a b. omega arith) (x .notes n refl) (y .notes m refl))
 
 -- any two outcomes that the promise admits coincide
 pub moves-to-second-one : {s o : List ℕ} {r q : Tallied} {c d : List ℕ} → MovesToSecond s o r c → MovesToSecond s o q d → (r ≡ q) × (c ≡ d)
-moves-to-second-one x y = let e = moves-one (x .moves) (y .moves) in (told-one (x .notes) (y .notes) (e .0), e .1)
+moves-to-second-one {s} {o} {r} {q} x y = let e = moves-one (x .moves) (y .moves) in (told-one s o r q x y (e .0), e .1)

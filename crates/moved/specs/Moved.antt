@@ -7,17 +7,16 @@ use mathlib.Core.List.{List}
 use lib.ListN.{length}
 use Rattle.rules.specs.History.{History, op, txCount, opCount}
 use Rattle.rules.specs.Records.{isSecond}
-use Rattle.rules.specs.Outcome.{judged}
 use Rattle.demand1.specs.Lawful.{IsOp}
 use Rattle.demand1.specs.Rows.{serial, Refuses, ReadInto, HasHistory}
+use Rattle.writing.specs.Filling.{answering, said}
 use Rattle.writing.specs.Forms.{wholeOf}
 use Rattle.writing.specs.declared.Filled.{Filled}
 use Rattle.written.specs.Fills.{Fills}
-use Rattle.renumbering.specs.Renumbering.{Renumbers, SameFindings, JudgedAlike}
+use Rattle.renumbering.specs.Renumbering.{Renumbers}
 use Rattle.moving.specs.Renumbering.{newNumber, oldNumber}
-use Rattle.moving.specs.Tally.{filledOf}
+use Rattle.moving.specs.Tally.{talliedFill, filledOf}
 use Rattle.moving.specs.declared.Tallied.{Tallied}
-use Rattle.moving.specs.declared.Tallied.the-variants as T
 use Rattle.noteless.specs.Texts.{NoteCount}
 use Rattle.moved.specs.Records.{RecordsAre}
 
@@ -27,12 +26,7 @@ pub record InBlocksOf (h g : History) : Type 0 where
   pub renumbers : Renumbers (newNumber h) (oldNumber h) h g
   pub in-turn : (i j : ℕ) → IsOp g i → IsOp g j → i < j → op g i .tx ≤ op g j .tx
 
--- "Verdicts, orders and pairs stay equal; findings may differ only in operation numbers, so in their order": of the traces s and b, read into h and g
-pub record SameCase (s b : List ℕ) (h g : History) : Type 0 where
-  pub alike : (level : ℕ) (fs ps os : List ℕ) → JudgedAlike h g fs (judged s level fs ps os) (judged b level fs ps os)
-  pub findings : SameFindings (newNumber h) (oldNumber h) h g
-
--- b is the trace s, moved to edition 2 or 1
+-- b is the trace s, moved to edition 2 or 1. That it is then judged alike is a theorem (`moved-alike`)
 pub record Moved (second : Bool) (s b : List ℕ) : Type 0 where
   pub history : History
   pub reads : HasHistory s history
@@ -45,7 +39,6 @@ pub record Moved (second : Bool) (s b : List ℕ) : Type 0 where
   -- "Going back, transactions become blocks in order of opening"; going to edition 2 they are blocks as they were
   pub in-blocks : InBlocksOf history moved-history
   pub same-history : second ≡ true → moved-history ≡ history
-  pub same-case : SameCase s b history moved-history
 
 -- what comes out of moving s
 pub data ComesOut (second : Bool) (s : List ℕ) : List ℕ → Type 0 where
@@ -70,14 +63,12 @@ pub data MoveDeclines (second : Bool) (s : List ℕ) (o : ℕ) : ℕ → ℕ →
 abbrev pub Moves : Bool → List ℕ → List ℕ → Filled → List ℕ → Type 0
 Moves second s o = Fills (MoveDeclines second s (length o)) (ComesOut second s) o
 
--- "The move to edition 2 now also answers how many notes the trace had": with a length, not with a refusal
-pub data NotesTold (s : List ℕ) : Tallied → Type 0 where
-  with-refusal : (n p : ℕ) → NotesTold s (T.Refused n p)
-  with-length : (n k : ℕ) → NoteCount s k → NotesTold s (T.Length n k)
-
 -- what is promised of moving s to edition 2, in a buffer that held o
 pub record MovesToSecond (s o : List ℕ) (r : Tallied) (b : List ℕ) : Type 0 where
   pub moves : Moves true s o (filledOf r) b
-  pub notes : NotesTold s r
+  -- "The move to edition 2 now also answers how many notes the trace had": with a length
+  pub notes : (n : ℕ) → said (filledOf r) ≡ answering n → NoteCount s (talliedFill r b .notes)
+  -- .. and none with a refusal
+  pub refused-none : said (filledOf r) .isRefused ≡ true → talliedFill r b .notes ≡ 0
   -- a trace that is edition 2 already had none
-  pub second-none : isSecond s ≡ true → (n k : ℕ) → r ≡ T.Length n k → k ≡ 0
+  pub second-none : isSecond s ≡ true → talliedFill r b .notes ≡ 0

@@ -81,12 +81,12 @@ module _ {s : List ℕ} (b : AllBytes s) (first : isSecond s ≡ false) where
           rw (behind-it nx .0, note-spelt s (st .at) b (f .sized .there) (f .sized .low) k, i) (note-behind u (serial s (st .at)) (payloadAt s (st .at)))
 
   -- "The first serial is kept and the rest follow it. Notes are left out": so it is there and back
-  pub back-without : {h : History} → HasHistory s h → WithoutNotes s (movedTrace false (serial s 0) h)
+  pub back-without : {h : History} → HasHistory s h → WithoutNotes (serial s 0) s (movedTrace false (serial s 0) h)
   unfolding movedTrace itemOf
   back-without r = of (r .reads)
     where
-      of : {h : History} {n : ℕ} → ReadInto s h n → WithoutNotes s (movedTrace false (serial s 0) h)
+      of : {h : History} {n : ℕ} → ReadInto s h n → WithoutNotes (serial s 0) s (movedTrace false (serial s 0) h)
       of (to-the-end {st} l rs p k e) =
           let end = End (txCount (st .history)) in
           let u = event-behind (serial s 0) (first-low s b) (historySteps (st .history)) (told-without rs) (serial s (st .at)) end (omega arith) in
-          record { first = serial s 0; low = first-low s b; next = _; records = rw (last-bytes b first st p k e, ← first-whole (serial s 0) (st .history)) at u }
+          record { low = first-low s b; next = _; records = rw (last-bytes b first st p k e, ← first-whole (serial s 0) (st .history)) at u }

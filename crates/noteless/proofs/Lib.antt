@@ -3,4 +3,5 @@ pub mod Texts
 pub mod Ahead
 pub mod Copied
 pub mod Without
+pub mod ButFor
 pub mod Back

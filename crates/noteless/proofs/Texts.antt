@@ -1,25 +1,26 @@
--- No byte of a note's text reaches an answer: a trace with other texts is read, judged, printed, turned into steps and moved to edition 2 as it was.
+-- No byte of a note's text reaches an answer: a trace with other texts is read, turned into steps, written again and moved to edition 2 as it was.
 use Prim.Native.Nat.{ℕ, zero, suc, _+_, _<_, _≤_}
 use mathlib.Core.Path.{_≡_, refl, ap, sym, _∙_}
-use mathlib.Core.Bool.{true}
+use mathlib.Core.Bool.{Bool, true}
 use mathlib.Core.List.{List}
 use mathlib.Core.Logic.{⊎-elim}
 use native.Mathlib.Omega.{arith}
 use lib.ListN.{length}
+use lib.Dec.{ltb}
 use lib.Seq.{ext-getD}
 use Rattle.base.specs.Base.{pick}
-use Rattle.base.proofs.Tests.{ifso, split}
+use Rattle.base.proofs.Tests.{ifso, split, pick-of, pick-alike}
+use Rattle.rules.specs.Numbers.{over}
 use Rattle.rules.specs.History.{History}
 use Rattle.rules.specs.Records.{isSecond, eventAt}
 use Rattle.rules.specs.Reading.{misplaced, unlawful, excess, repeats, stepRows, entered, State, begin, eventIn, met, refusalNo, after, Reading, refused, read, finished, walk, reading}
-use Rattle.rules.specs.Outcome.{judged}
-use Rattle.text.specs.Answer.{answerText}
 use Rattle.rules.specs.declared.Event.{Event}
 use Rattle.rules.specs.declared.Event.the-variants.{Note}
 use Rattle.demand1.specs.Rows.{kind, serial, session, behind, HasHistory}
 use Rattle.demand1.proofs.Events.{same-or, note-event}
 use Rattle.demand1.proofs.Agree.{Agree, agree-le, agree-kind, agree-serial, agree-second, SameHead, agree-len, agree-frame, agree-event}
 use Rattle.demand1.proofs.Readings.{has-read}
+use Rattle.writing.specs.Filling.{Said, refusing, answering, content, Fill, fillOf, into}
 use Rattle.writing.specs.Listing.{stepped}
 use Rattle.writing.specs.Rewriting.{again, rewritten, rewrittenRead, rewrittenWhole}
 use Rattle.written.specs.Writes.{recordAt}
@@ -27,6 +28,16 @@ use Rattle.moving.specs.Moving.{isSame, movedRead, movedTo}
 use Rattle.moving.specs.Tally.{movedToSecond}
 use Rattle.noteless.specs.Texts.{InText, OtherTexts}
 use Rattle.noteless.proofs.Counted.{records-apart, notes-counted, none-counted, second-none}
+
+-- what is answered of a content hangs on its length
+length-answers : (l k o : List ℕ) → length l ≡ length k → into (content l) o .answer ≡ into (content k) o .answer
+unfolding into
+length-answers l k o e =
+    pick-of answered (ltb (length o) (length l)) (fillOf (refusing 16 (length l)) o) (fillOf (answering (length l)) (over l o))
+    ∙ rw e (sym (pick-of answered (ltb (length o) (length k)) (fillOf (refusing 16 (length k)) o) (fillOf (answering (length k)) (over k o))))
+  where
+    answered : Fill → Said
+    answered f = f .answer
 
 -- ── the texts of notes and the records ──
 
@@ -58,7 +69,7 @@ module _ {s b : List ℕ} (x : OtherTexts s b) where
   same-front k d = agree-le (same-record k d) 2 (recordAt s k + 8) (omega arith) (omega arith)
 
   -- the edition is the same
-  same-second : isSecond b ≡ isSecond s
+  pub same-second : isSecond b ≡ isSecond s
   unfolding recordAt
   same-second = agree-second (same-header 0)
 
@@ -131,16 +142,6 @@ module _ {s b : List ℕ} (x : OtherTexts s b) where
   unfolding reading recordAt
   texts-reading = rw (x .same-length, same-walk (length s + 1) 0 begin refl)
 
-  -- so judging gives the same answer and fills the buffers with the same bytes
-  pub texts-judged : (level : ℕ) (fs ps os : List ℕ) → judged b level fs ps os ≡ judged s level fs ps os
-  unfolding judged
-  texts-judged level fs ps os = rw texts-reading
-
-  -- .. and the same is printed
-  pub texts-printed : answerText b ≡ answerText s
-  unfolding answerText
-  texts-printed = rw texts-reading
-
   -- ── steps ──
 
   -- the first serial is the same
@@ -186,6 +187,18 @@ module _ {s b : List ℕ} (x : OtherTexts s b) where
   same-to-second : (o : List ℕ) → movedTo true b o ≡ movedTo true s o
   unfolding movedTo
   same-to-second o = rw (texts-reading, same-moved (reading s) refl)
+
+  -- a move to edition 1 copies what is edition 1: its notes are in what comes out, so the bytes are its own, but the answer is the same
+  same-answer : (second : Bool) (r : Reading) (o : List ℕ) → into (movedRead second b r) o .answer ≡ into (movedRead second s r) o .answer
+  unfolding movedRead
+  same-answer second (refused n p) o = refl
+  same-answer second (read h n) o =
+      rw (same-second, same-first)
+      (length-answers _ _ o (pick-alike (λ (l k : List ℕ). length l ≡ length k) (isSame (isSecond s) second) (x .same-length) refl))
+
+  pub texts-moved-answer : (second : Bool) (o : List ℕ) → movedTo second b o .answer ≡ movedTo second s o .answer
+  unfolding movedTo
+  texts-moved-answer second o = rw texts-reading (same-answer second (reading s) o)
 
   -- so moving to edition 2 gives the same answer, the number of notes with it, and the same bytes
   pub texts-moved : (o : List ℕ) → movedToSecond b o ≡ movedToSecond s o

@@ -1,4 +1,4 @@
--- A trace without its notes is read into the same history, and judged alike.
+-- A trace without its notes is read into the same history.
 use Prim.Native.Nat.{ℕ, _+_, _%_, _^_, _<_, _≤_}
 use mathlib.Core.Path.{_≡_, refl, ap, sym, _∙_}
 use mathlib.Core.Bool.{false}
@@ -11,12 +11,9 @@ use Rattle.rules.specs.History.{History}
 use Rattle.rules.specs.Records.{isSecond, payloadAt}
 use Rattle.rules.specs.Reading.{State, begin, after}
 use Rattle.rules.specs.Traces.{Item, note, recordOf}
-use Rattle.rules.specs.Outcome.{judged, judgedRead}
-use Rattle.text.specs.Answer.{readingText, answerText}
 use Rattle.rules.proofs.Traces.{record-length}
 use Rattle.demand1.specs.Rows.{len, kind, serial, behind, lengthField, editionFirst, Passes, Reaches, start, on, ReadInto, to-the-end, HasHistory}
 use Rattle.demand1.proofs.Steps.{next-after}
-use Rattle.demand1.proofs.Readings.{reads-iff, read-has}
 use Rattle.written.proofs.Records.{record-len, record-kind, record-serial, record-payload, record-within, first-record}
 use Rattle.noteless.specs.Without.{ClosedUp, none, left-out, kept, WithoutNotes}
 use Rattle.noteless.proofs.Copied.{Copied, cameTo, copied-passes, copied-after}
@@ -196,22 +193,15 @@ module _ (s b : List ℕ) (short : length s ≤ 32768) (few : length b ≤ 32768
 
 -- ── the theorems ──
 
--- a trace without its notes is read into the same history, and has none
-pub without-read : {s b : List ℕ} → WithoutNotes s b → {h : History} → HasHistory s h → ReadInto b h 0
-without-read {s} {b} w r =
-    let short = read-short (r .reads) in
-    let a = all-ahead (r .reads) in
-    let u = w .records in
-    read-on s b short (omega (arith, shorter u)) (same-edition u short a) u [] [] refl refl
-    (record { at-is = refl; no-longer = omega arith; low = w .low; next = 0; follows = λ l. absurd (omega arith); reaches = start }) a
+module _ {first : ℕ} {s b : List ℕ} (w : WithoutNotes first s b) {h : History} (r : HasHistory s h) where
+  -- a trace without its notes is of the same edition
+  pub without-edition : isSecond b ≡ isSecond s
+  without-edition = same-edition (w .records) (read-short (r .reads)) (all-ahead (r .reads))
 
--- .. and judged alike, whatever the level and the buffers
-pub without-judged : {s b : List ℕ} → WithoutNotes s b → {h : History} → HasHistory s h → (level : ℕ) (fs ps os : List ℕ)
-    → judged b level fs ps os ≡ judged s level fs ps os
-unfolding judged judgedRead
-without-judged {b = b} w {h} r level fs ps os = rw (read-has r, reads-iff b h 0 .1 (without-read w r))
-
--- .. and the same is printed
-pub without-printed : {s b : List ℕ} → WithoutNotes s b → {h : History} → HasHistory s h → answerText b ≡ answerText s
-unfolding answerText readingText
-without-printed {b = b} w {h} r = rw (read-has r, reads-iff b h 0 .1 (without-read w r))
+  -- it is read into the same history, and has none
+  pub without-read : ReadInto b h 0
+  without-read =
+      let short = read-short (r .reads) in
+      let u = w .records in
+      read-on s b short (omega (arith, shorter u)) without-edition u [] [] refl refl
+      (record { at-is = refl; no-longer = omega arith; low = w .low; next = 0; follows = λ l. absurd (omega arith); reaches = start }) (all-ahead (r .reads))

@@ -44,11 +44,10 @@ unfolding as-they-should
 as-without-notes = refl
 
 -- the third is the first without its notes, its serials closed up
-pub bare-without : (p : List ℕ) → WithoutNotes (noted p) (bare 7)
+pub bare-without : (p : List ℕ) → WithoutNotes 7 (noted p) (bare 7)
 unfolding trace
 bare-without p =
     record {
-      first = 7;
       low = omega arith;
       next = 19;
       records =

@@ -5,7 +5,7 @@ use mathlib.Core.List.{List, [], _∷_, _++_, append-assoc, append-nil}
 use native.Mathlib.Omega.{arith}
 use native.Mathlib.Numerals.{add-one, unary-clauses}
 use lib.ListN.{length, getD, take, drop, List·getD-append}
-use lib.Seq.{getD-append-add, getD-take, take-suc, take-append-seam, drop-append-seam, append-snoc}
+use lib.Seq.{getD-append-add, getD-take, take-suc, take-all, take-append-seam, drop-append-seam, append-snoc}
 use Rattle.base.proofs.Fill.{Appended}
 use Rattle.rules.specs.Numbers.{le, bytes, over}
 
@@ -92,6 +92,10 @@ appended-over {o} {b} {n} {xs} x = let e : n ≡ length xs = omega (arith, x .en
 pub over-front : (l o : List ℕ) → take (length l) (over l o) ≡ l
 unfolding over
 over-front l o = take-append-seam l (drop (length l) o)
+
+-- .. also where it was put as far as the buffer reaches, which was far enough
+pub over-whole : (l o : List ℕ) → length l ≤ length o → take (length l) (over (take (length o) l) o) ≡ l
+over-whole l o h = ap (λ (x : List ℕ). take (length l) (over x o)) (take-all (length o) l h) ∙ over-front l o
 
 -- .. byte by byte
 pub over-at : (l o : List ℕ) (k : ℕ) → k < length l → getD (over l o) k 0 ≡ getD l k 0

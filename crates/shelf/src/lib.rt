@@ -4,11 +4,12 @@ ghost use mathlib.Core.Path.{_≡_};
 ghost use mathlib.Core.Bool.{false};
 ghost use Prim.Native.Nat.{_≤_};
 ghost use lib.ListN.{length, take};
-ghost use Rattle.writing.specs.Filling.{Gives};
+ghost use Rattle.rules.specs.Outcome.{reported, outcome, judged};
+ghost use Rattle.writing.specs.Filling.{said, Gives};
 ghost use Rattle.moving.specs.Moving.{movedTo};
-ghost use Rattle.noteless.specs.Texts.{OtherTexts};
+ghost use Rattle.moving.specs.Tally.{filledOf};
 ghost use Rattle.moved.specs.Moved.{Moves, MovesToSecond};
-ghost use Rattle.shelf.specs.Shelf.{CameBack, JudgedBoth, SameMoves};
+ghost use Rattle.shelf.specs.Shelf.{CameBack, MovedAndJudged};
 use moving::Tallied;
 use rules::Answer;
 use writing::Filled;
@@ -37,7 +38,7 @@ fn move_front(trace: &[u8], n: usize, out: &mut [u8]) -> Filled
 
 // To edition 2 and back: a trace of edition 1 without notes comes out with its own bytes, any other of edition 1 without its notes.
 pub fn there_and_back(trace: &[u8], between: &mut [u8], out: &mut [u8]) -> Filled
-    ensures { λ r. ⌜ CameBack (now (trace .entry)) (now (between .entry)) (now (out .entry)) r (now (out .exit)) ⌝ }
+    ensures { λ r. ⌜ CameBack (now (trace .entry)) (now (between .entry)) (now (out .entry)) r (now (between .exit)) (now (out .exit)) ⌝ }
 {
     let there = mover::to_edition_2(trace, between);
     match there {
@@ -46,17 +47,21 @@ pub fn there_and_back(trace: &[u8], between: &mut [u8], out: &mut [u8]) -> Fille
     }
 }
 
-// The answers to a trace and to another, such as what it was moved to.
-pub struct BeforeAfter {
+// ── moved, and judged before and after ──
+
+// The answer to a move, and the judge's answers to the trace and to what came out.
+pub struct MovedJudged {
+    pub moved: Filled,
     pub before: Answer,
     pub after: Answer,
 }
 
-// Two traces, judged at one level with buffers of the same content: one and what it was moved to, which are judged alike; or two that differ only in the texts
-// of their notes, or of which one is the other without its notes, which get the same outcome.
-pub fn judged_both(
+// The trace is moved to edition 2 or 1 and judged at a level before and after: alike, as far as operation numbers let it. Where the move is refused, nothing came
+// out, and no bytes are judged.
+pub fn moved_and_judged(
+    second: bool,
     trace: &[u8],
-    other: &[u8],
+    out: &mut [u8],
     level: u8,
     findings: &mut [u8],
     pairs: &mut [u8],
@@ -64,31 +69,60 @@ pub fn judged_both(
     findings2: &mut [u8],
     pairs2: &mut [u8],
     order2: &mut [u8],
-) -> BeforeAfter
-    ensures { λ r. ⌜ JudgedBoth (now (trace .entry)) (now (other .entry)) r (now (findings .entry)) (now (pairs .entry)) (now (order .entry)) (now (findings2 .entry)) (now (pairs2 .entry)) (now (order2 .entry)) (now (findings .exit)) (now (pairs .exit)) (now (order .exit)) (now (findings2 .exit)) (now (pairs2 .exit)) (now (order2 .exit)) ⌝ }
+) -> MovedJudged
+    ensures { λ r. ⌜ MovedAndJudged second (now (trace .entry)) (now (out .entry)) level r (now (out .exit)) (now (findings .entry)) (now (pairs .entry)) (now (order .entry)) (now (findings2 .entry)) (now (pairs2 .entry)) (now (order2 .entry)) (now (findings .exit)) (now (pairs .exit)) (now (order .exit)) (now (findings2 .exit)) (now (pairs2 .exit)) (now (order2 .exit)) ⌝ }
 {
+    let moved = move_to(second, trace, out);
     let before = judging::judge(trace, level, findings, pairs, order);
-    let after = judging::judge(other, level, findings2, pairs2, order2);
-    BeforeAfter {
+    let after = judge_front(out, length_of(moved), level, findings2, pairs2, order2);
+    MovedJudged {
+        moved: moved,
         before: before,
         after: after,
     }
 }
 
-// The answers to two traces that were moved to edition 2.
-pub struct TwoMoves {
-    pub one: Tallied,
-    pub other: Tallied,
+// One of the two moves, without the number of notes.
+fn move_to(second: bool, trace: &[u8], out: &mut [u8]) -> Filled
+    ensures { λ r. ⌜ Gives r (now (out .exit)) (movedTo second (now (trace .entry)) (now (out .entry))) ⌝ }
+{
+    if second {
+        let tallied = mover::to_edition_2(trace, out);
+        return filled_of(tallied);
+    }
+    mover::to_edition_1(trace, out)
 }
 
-// Two traces that differ only in the texts of their notes come out of a move to edition 2 with the same answer and the same bytes.
-pub fn moved_both(trace: &[u8], other: &[u8], out: &mut [u8], out2: &mut [u8]) -> TwoMoves
-    ensures { λ r. ⌜ (OtherTexts (now (trace .entry)) (now (other .entry)) → (now (out .entry) ≡ now (out2 .entry)) → SameMoves r (now (out .exit)) (now (out2 .exit))) ⌝ }
+fn filled_of(tallied: Tallied) -> Filled
+    ensures { λ r. ⌜ r ≡ filledOf tallied ⌝ }
 {
-    let one = mover::to_edition_2(trace, out);
-    let other = mover::to_edition_2(other, out2);
-    TwoMoves {
-        one: one,
-        other: other,
+    match tallied {
+        Tallied::Refused(no, place) => Filled::Refused(no, place),
+        Tallied::Length(n, _) => Filled::Length(n),
     }
+}
+
+// The length that was answered, 0 with a refusal.
+fn length_of(filled: Filled) -> usize
+    ensures { λ r. ⌜ r ≡ said filled .length ⌝ }
+{
+    match filled {
+        Filled::Refused(_, _) => 0,
+        Filled::Length(n) => n,
+    }
+}
+
+// The first n bytes, judged.
+fn judge_front(
+    trace: &[u8],
+    n: usize,
+    level: u8,
+    findings: &mut [u8],
+    pairs: &mut [u8],
+    order: &mut [u8],
+) -> Answer
+    requires { ⌜ n ≤ length (now trace) ⌝ }
+    ensures { λ r. ⌜ outcome (reported r) (now (findings .exit)) (now (pairs .exit)) (now (order .exit)) ≡ judged (take n (now (trace .entry))) level (now (findings .entry)) (now (pairs .entry)) (now (order .entry)) ⌝ }
+{
+    judging::judge(&trace[..n], level, findings, pairs, order)
 }

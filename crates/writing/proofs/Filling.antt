@@ -1,6 +1,7 @@
 -- Answers that are what the definition gives a lent buffer.
 use Prim.Native.Nat.{ℕ, _<_, _≤_}
-use mathlib.Core.Path.{_≡_, refl, sym}
+use mathlib.Core.Path.{_≡_, refl, ap, sym}
+use mathlib.Core.Bool.{true≢false, false≢true}
 use mathlib.Core.List.{List}
 use native.Mathlib.Omega.{arith}
 use lib.ListN.{length}
@@ -10,8 +11,18 @@ use Rattle.base.proofs.Fill.{Appended}
 use Rattle.base.proofs.Tests.{pick-on, pick-off}
 use Rattle.rules.specs.Numbers.{over}
 use Rattle.rules.proofs.Numbers.{appended-over}
+use Rattle.writing.specs.declared.Filled.{Filled}
 use Rattle.writing.specs.declared.Filled.the-variants.{Refused, Length}
-use Rattle.writing.specs.Filling.{refusing, answering, said, refusal, content, fillOf, into}
+use Rattle.writing.specs.Filling.{Said, refusing, answering, said, refusal, content, fillOf, into}
+
+-- an answer is known by what it says
+pub said-one : (r q : Filled) → said r ≡ said q → r ≡ q
+unfolding said
+said-one (Refused n p) (Refused m q) e =
+    let a : n ≡ m = ap (λ (x : Said). x .no) e in let b : p ≡ q = ap (λ (x : Said). x .place) e in rw (a, b)
+said-one (Refused n p) (Length m) e = absurd (true≢false (ap (λ (x : Said). x .isRefused) e))
+said-one (Length n) (Refused m q) e = absurd (false≢true (ap (λ (x : Said). x .isRefused) e))
+said-one (Length n) (Length m) e = ap Length (ap (λ (x : Said). x .length) e)
 
 -- a refusal
 pub into-refused : (n p : ℕ) (out : List ℕ) → fillOf (said (Refused n p)) out ≡ into (refusal n p) out

@@ -18,7 +18,7 @@ use Rattle.demand1.specs.Rows.{kind, session, key, value, status, Passes, editi
 use Rattle.demand1.proofs.Histories.{inside-current, outside-current}
 use Rattle.demand1.proofs.Events.{Framed, passes-framed, open-event, read-event, write-event, close-event, at-least, below}
 use Rattle.demand1.proofs.Steps.{inside}
-use Rattle.demand1.proofs.Sessions.{second-iff}
+use Rattle.demand1.proofs.Sessions.{begins-second}
 use Rattle.demand1.proofs.Checks.{write-found}
 use Rattle.writing.specs.Steps.{stepBytes}
 use Rattle.writing.specs.Listing.{historySteps}
@@ -53,7 +53,7 @@ module _ (s : List ℕ) (first : isSecond s ≡ false) (st : State) (p : Passes 
       ⊎-elim (λ l. p editionFirst (k, l))
       (λ g.
       let z : st .at ≡ 0 = omega arith in
-      clash (second-iff s .1 (record { there = omega (arith, f .sized .low, f .sized .there); first-kind = rw z at k })) first)
+      clash (begins-second s (omega (arith, f .sized .low, f .sized .there)) (rw z at k)) first)
       (split 0 (st .at))
 
   -- each is a step that is taken, or a note

@@ -1,5 +1,5 @@
 use borrow.Author.Needs.{needs}
-use Rattle.caller.proofs.Twice.{coincide}
+use Rattle.caller.proofs.Twice.{judged-twice}
 use Rattle.caller.proofs.judged_twice.Statement.{statement}
 use Rattle.caller.proofs.judged_twice.Tie as tie
 
@@ -8,7 +8,7 @@ returns : tie.Need-returns
 returns c =
     let second = c .before .before .before .before .before .before in
     let first = second .before .before .before .before .before .before .before .before .before .before in
-    coincide _ _ _ _ _ _ _ _ _ (first .judge .ensures) (second .judge2 .ensures)
+    judged-twice _ _ _ _ _ _ _ _ _ (first .judge .ensures) (second .judge2 .ensures)
 
 pub judged-twice-spec : {M : Type 1} → statement M
 judged-twice-spec =

@@ -1,0 +1,174 @@
+// A call made on two traces that are alike: the one is the other, moved to another edition; or they differ only in their notes. Each function makes one call on
+// both, knows nothing of it but its contract, and promises what document 02 says of it for each trace, whatever they are, and what the two have in common.
+ghost use Rattle.alike_calls.specs.Alike.{JudgedBoth, PrintedBoth, ListedBoth, RewrittenBoth, WholeBoth, MovedBoth, TalliedBoth, DecidedBoth, StrongestBoth};
+use moving::Tallied;
+use rules::Answer;
+use writing::Filled;
+
+// ── the judge ──
+
+pub struct TwoAnswers {
+    pub one: Answer,
+    pub other: Answer,
+}
+
+// Two traces, judged at one level.
+pub fn judged_both(
+    trace: &[u8],
+    other: &[u8],
+    level: u8,
+    findings: &mut [u8],
+    pairs: &mut [u8],
+    order: &mut [u8],
+    findings2: &mut [u8],
+    pairs2: &mut [u8],
+    order2: &mut [u8],
+) -> TwoAnswers
+    ensures { λ r. ⌜ JudgedBoth (now (trace .entry)) (now (other .entry)) level r (now (findings .entry)) (now (pairs .entry)) (now (order .entry)) (now (findings2 .entry)) (now (pairs2 .entry)) (now (order2 .entry)) (now (findings .exit)) (now (pairs .exit)) (now (order .exit)) (now (findings2 .exit)) (now (pairs2 .exit)) (now (order2 .exit)) ⌝ }
+{
+    let one = judging::judge(trace, level, findings, pairs, order);
+    let other = judging::judge(other, level, findings2, pairs2, order2);
+    TwoAnswers {
+        one: one,
+        other: other,
+    }
+}
+
+pub struct TwoLengths {
+    pub one: usize,
+    pub other: usize,
+}
+
+// Two traces, whose answers are put as text.
+pub fn printed_both(trace: &[u8], other: &[u8], out: &mut [u8], out2: &mut [u8]) -> TwoLengths
+    ensures { λ r. ⌜ PrintedBoth (now (trace .entry)) (now (other .entry)) r (now (out .entry)) (now (out2 .entry)) (now (out .exit)) (now (out2 .exit)) ⌝ }
+{
+    let one = printing::put_answer(trace, out);
+    let other = printing::put_answer(other, out2);
+    TwoLengths {
+        one: one,
+        other: other,
+    }
+}
+
+// ── the calls for C ──
+
+pub struct TwoNumbers {
+    pub one: u32,
+    pub other: u32,
+}
+
+// Two traces, decided at one level.
+pub fn decided_both(
+    trace: &[u8],
+    other: &[u8],
+    level: u32,
+    findings: &mut [u8],
+    pairs: &mut [u8],
+    order: &mut [u8],
+    counts: &mut [u8],
+    findings2: &mut [u8],
+    pairs2: &mut [u8],
+    order2: &mut [u8],
+    counts2: &mut [u8],
+) -> TwoNumbers
+    ensures { λ r. ⌜ DecidedBoth (now (trace .entry)) (now (other .entry)) level r (now (findings .entry)) (now (pairs .entry)) (now (order .entry)) (now (counts .entry)) (now (findings2 .entry)) (now (pairs2 .entry)) (now (order2 .entry)) (now (counts2 .entry)) (now (findings .exit)) (now (pairs .exit)) (now (order .exit)) (now (counts .exit)) (now (findings2 .exit)) (now (pairs2 .exit)) (now (order2 .exit)) (now (counts2 .exit)) ⌝ }
+{
+    let one = ferozhak::ferozhak_decide(trace, level, findings, pairs, order, counts);
+    let other = ferozhak::ferozhak_decide(other, level, findings2, pairs2, order2, counts2);
+    TwoNumbers {
+        one: one,
+        other: other,
+    }
+}
+
+// The strongest levels of two traces.
+pub fn strongest_both(trace: &[u8], other: &[u8]) -> TwoNumbers
+    ensures { λ r. ⌜ StrongestBoth (now (trace .entry)) (now (other .entry)) r ⌝ }
+{
+    let one = ferozhak::ferozhak_strongest(trace);
+    let other = ferozhak::ferozhak_strongest(other);
+    TwoNumbers {
+        one: one,
+        other: other,
+    }
+}
+
+// ── the calls that fill a buffer ──
+
+pub struct TwoFills {
+    pub one: Filled,
+    pub other: Filled,
+}
+
+// Two traces, turned into steps.
+pub fn listed_both(trace: &[u8], other: &[u8], out: &mut [u8], out2: &mut [u8]) -> TwoFills
+    ensures { λ r. ⌜ ListedBoth (now (trace .entry)) (now (other .entry)) r (now (out .entry)) (now (out2 .entry)) (now (out .exit)) (now (out2 .exit)) ⌝ }
+{
+    let one = lister::list_steps(trace, out);
+    let other = lister::list_steps(other, out2);
+    TwoFills {
+        one: one,
+        other: other,
+    }
+}
+
+// Two traces, written again, by way of a buffer for the steps of each.
+pub fn rewritten_both(
+    trace: &[u8],
+    other: &[u8],
+    steps: &mut [u8],
+    out: &mut [u8],
+    steps2: &mut [u8],
+    out2: &mut [u8],
+) -> TwoFills
+    ensures { λ r. ⌜ RewrittenBoth (now (trace .entry)) (now (other .entry)) r (now (steps .entry)) (now (out .entry)) (now (steps2 .entry)) (now (out2 .entry)) (now (steps .exit)) (now (out .exit)) (now (steps2 .exit)) (now (out2 .exit)) ⌝ }
+{
+    let one = rewriting::rewrite_trace(trace, steps, out);
+    let other = rewriting::rewrite_trace(other, steps2, out2);
+    TwoFills {
+        one: one,
+        other: other,
+    }
+}
+
+// .. without such buffers.
+pub fn whole_both(trace: &[u8], other: &[u8], out: &mut [u8], out2: &mut [u8]) -> TwoFills
+    ensures { λ r. ⌜ WholeBoth (now (trace .entry)) (now (other .entry)) r (now (out .entry)) (now (out2 .entry)) (now (out .exit)) (now (out2 .exit)) ⌝ }
+{
+    let one = rewriting::rewrite_whole(trace, out);
+    let other = rewriting::rewrite_whole(other, out2);
+    TwoFills {
+        one: one,
+        other: other,
+    }
+}
+
+// Two traces, moved to edition 1.
+pub fn moved_both_1(trace: &[u8], other: &[u8], out: &mut [u8], out2: &mut [u8]) -> TwoFills
+    ensures { λ r. ⌜ MovedBoth (now (trace .entry)) (now (other .entry)) r (now (out .entry)) (now (out2 .entry)) (now (out .exit)) (now (out2 .exit)) ⌝ }
+{
+    let one = mover::to_edition_1(trace, out);
+    let other = mover::to_edition_1(other, out2);
+    TwoFills {
+        one: one,
+        other: other,
+    }
+}
+
+pub struct TwoTallies {
+    pub one: Tallied,
+    pub other: Tallied,
+}
+
+// Two traces, moved to edition 2.
+pub fn moved_both_2(trace: &[u8], other: &[u8], out: &mut [u8], out2: &mut [u8]) -> TwoTallies
+    ensures { λ r. ⌜ TalliedBoth (now (trace .entry)) (now (other .entry)) r (now (out .entry)) (now (out2 .entry)) (now (out .exit)) (now (out2 .exit)) ⌝ }
+{
+    let one = mover::to_edition_2(trace, out);
+    let other = mover::to_edition_2(other, out2);
+    TwoTallies {
+        one: one,
+        other: other,
+    }
+}

@@ -7,7 +7,8 @@ use mathlib.Core.Logic.{_⊎_, inl, inr, ⊎-elim, _↔_}
 use native.Mathlib.Omega.{arith}
 use native.Mathlib.Numerals.{add-one}
 use lib.Dec.{ltb}
-use lib.ListN.{length}
+use lib.ListN.{length, take}
+use lib.Seq.{take-all, length-take-le}
 use borrow.Author.Tests.{lt-ltb, le-ltb}
 use Rattle.base.proofs.Tests.{split, pick-on, pick-off}
 use Rattle.rules.specs.History.{History}
@@ -136,6 +137,10 @@ has-record {s} x = of (x .reads)
     of : {h : History} {notes : ℕ} → ReadInto s h notes → 8 ≤ length s
     of (to-the-end {st} l r p k e) = omega (arith, after-within s st p .0, behind-at s st)
 
+-- .. and is not too long
+pub read-short : {s : List ℕ} {h : History} {notes : ℕ} → ReadInto s h notes → length s ≤ 32768
+read-short (to-the-end l r p k e) = l
+
 -- ── the theorems ──
 
 module _ (s : List ℕ) where
@@ -173,6 +178,21 @@ module _ (s : List ℕ) where
   pub boundary-refused : {st : State} → length s ≤ 32768 → Reaches s st → st .at ≡ length s → reading s ≡ refused 3 (length s)
   boundary-refused {st} l r e =
       rw (← e) (refused-is (at-record {c = lengthField} l r (record { fails = omega arith; none-before = λ d h f. omega arith })))
+
+-- ── the bytes that a program keeps ──
+
+-- "keeping 32,769 bytes at most" does no harm: of the bytes kept and their reading f makes what it makes of all of them, if of a refused trace it looks
+-- at the refusal alone. They are all of them, or both are too long
+pub kept-same : {A : Type 0} (f : List ℕ → Reading → A) → ((s t : List ℕ) (n p : ℕ) → f s (refused n p) ≡ f t (refused n p)) → (s : List ℕ)
+    → f (take 32769 s) (reading (take 32769 s)) ≡ f s (reading s)
+kept-same f alone s =
+    ⊎-elim
+    (λ (l : 32769 < length s).
+    rw (reading-long (take 32769 s) (omega (arith, length-take-le 32769 s (omega arith))), reading-long s (omega arith)) (alone (take 32769 s) s 2 32768))
+    (λ (l : length s ≤ 32769). rw (take-all 32769 s l)) (split 32769 (length s))
+
+pub kept-reading : (s : List ℕ) → reading (take 32769 s) ≡ reading s
+kept-reading = kept-same (λ s r. r) (λ s t n p. refl)
 
 -- ── whatever number of notes ──
 

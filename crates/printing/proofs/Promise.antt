@@ -1,12 +1,14 @@
--- What the promise of `put_answer` gives its caller.
+-- What the promises of `put_answer` and `answer_text` give their callers.
 use Prim.Native.Nat.{ℕ, _≤_}
-use mathlib.Core.Path.{_≡_, ap, sym, _∙_}
+use mathlib.Core.Path.{_≡_, refl, ap, sym, _∙_}
 use mathlib.Core.List.{List}
 use native.Mathlib.Omega.{arith}
 use lib.ListN.{length, take, drop}
 use lib.Seq.{take-all, take-at}
 use Rattle.rules.specs.Numbers.{over}
-use Rattle.text.specs.Answer.{answerText}
+use Rattle.rules.specs.Reading.{Reading}
+use Rattle.demand1.proofs.Readings.{kept-same}
+use Rattle.text.specs.Answer.{readingText, answerText}
 use Rattle.printing.specs.Printing.{Written}
 
 -- one answer, and one content of the buffer
@@ -19,3 +21,8 @@ unfolding over
 answer-whole {s} {o} {b} {n} x h =
     let e : take (length o) (answerText s) ≡ answerText s = take-all (length o) (answerText s) (omega (arith, x .end, x .short)) in
     ap (take n) (x .is ∙ ap (λ (t : List ℕ). over t o) e) ∙ take-at (answerText s) (drop (length (answerText s)) o) n (sym (x .end))
+
+-- "keeping 32,769 bytes at most" does no harm: the text of the bytes kept is the text of all of them
+pub kept-text : (s : List ℕ) → answerText (take 32769 s) ≡ answerText s
+unfolding answerText
+kept-text = kept-same (λ _ r. readingText r) (λ _ _ _ _. refl)

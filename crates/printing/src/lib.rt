@@ -3,7 +3,7 @@ ghost use mathlib.Core.Path.{_≡_};
 ghost use Prim.Native.Nat.{_+_, _*_, _≤_, _<_};
 ghost use lib.ListN.{length, getD};
 ghost use Rattle.rules.specs.Numbers.{le};
-ghost use Rattle.text.specs.Answer.{blockText};
+ghost use Rattle.text.specs.Answer.{blockText, answerText};
 ghost use Rattle.table.specs.Table.{historyOf};
 ghost use Rattle.show.specs.Laid.{Put, Short};
 ghost use Rattle.printing.specs.Printing.{Written, Taken, blocksText, width, entryLine, listText, rejectedText};
@@ -23,6 +23,17 @@ pub fn put_answer(trace: &[u8], out: &mut [u8]) -> usize
         Out::Bad(no, place) => show::put_refused(out, 0, no as usize, place),
         Out::Good(_) => put_blocks(&h, &k, out),
     }
+}
+
+// .. whole, as the front of a lent buffer that no text is longer than: what a program prints. Of the bytes behind it nothing can be said, since a buffer
+// whose part is handed back has no exit; no program looks at them.
+pub fn answer_text<'a>(trace: &[u8], text: &'a mut [u8; 1048576]) -> &'a [u8]
+    ensures { λ r. ⌜ (now r ≡ answerText (now (trace .entry))) × (r .ptr ≡ text .entry .ptr) ⌝ }
+{
+    let end = put_answer(trace, text);
+    let filled: &'a [u8; 1048576] = text;
+    let bytes: &'a [u8] = filled;
+    &bytes[..end]
 }
 
 // ── the blocks ──

@@ -38,15 +38,8 @@ fn judge_bytes(n: usize, bytes: &mut [u8], text: &mut [u8; 1048576])
 
 fn judge_trace(trace: &mut [u8], text: &mut [u8; 1048576]) {
     let n = io::read_full(0, trace);
-    let end = printing::put_answer(&trace[..n], text);
-    print_front(text, end);
-}
-
-// The first `end` bytes.
-fn print_front(text: &[u8], end: usize)
-    requires { ⌜ end ≤ length (now text) ⌝ }
-{
-    io::write_all(1, &text[..end]);
+    let answer = printing::answer_text(&trace[..n], text);
+    io::write_all(1, answer);
 }
 
 fn wide(b: u8) -> usize

@@ -1,10 +1,9 @@
 -- The whole call: a trace whose steps are refused, and one whose steps were listed.
 use Prim.Native.Nat.{ℕ, _≤_}
-use mathlib.Core.Path.{_≡_, refl, ap}
+use mathlib.Core.Path.{_≡_, refl, ap, sym, _∙_}
 use mathlib.Core.Bool.{Bool, false≢true}
 use mathlib.Core.List.{List}
 use lib.ListN.{length, take}
-use Rattle.base.specs.Base.{pick}
 use Rattle.rules.specs.Records.{serialAt, isSecond}
 use Rattle.rules.specs.Reading.{Reading, refused, read, reading}
 use Rattle.rules.specs.History.{History}
@@ -14,8 +13,8 @@ use Rattle.writing.specs.declared.Filled.the-variants.{Refused, Length}
 use Rattle.writing.specs.Filling.{refusing, answering, said, Fill, fillOf, into}
 use Rattle.writing.specs.Writing.{written}
 use Rattle.writing.specs.Listing.{stepsRead, stepped}
-use Rattle.writing.specs.Rewriting.{again, rewritten}
 use Rattle.writing.proofs.Within.{stepped-within}
+use Rattle.writing.proofs.Rewriting.{again-refused, again-listed}
 use Rattle.rewriting.specs.Rewriting.{Rewrote}
 
 -- ── what an answer with a length says ──
@@ -49,8 +48,10 @@ module _ (r : Filled) (s x x₂ : List ℕ) (e : fillOf (said r) x₂ ≡ steppe
   steps-are = ap (λ (y : Fill). y .buffer) e
 
   pub handed-on : (m p : ℕ) → r ≡ Refused m p → (out : List ℕ) → Rewrote (Refused m p) s x x₂ out out
-  unfolding said rewritten again pick
-  handed-on m p q out = record { is = rw (← e, q); steps = steps-are }
+  unfolding said
+  handed-on m p q out =
+      let refuses : stepped s x .answer ≡ refusing m p = ap (λ (y : Fill). y .answer) (sym e) ∙ ap said q in
+      record { is = sym (again-refused s x out refuses); steps = steps-are }
 
   module _ {n : ℕ} (q : r ≡ Length n) where
     listed : fillOf (answering n) x₂ ≡ stepped s x
@@ -65,5 +66,4 @@ module _ (r : Filled) (s x x₂ : List ℕ) (e : fillOf (said r) x₂ ≡ steppe
     front-there = stepped-within (answering n) x₂ s x listed
 
     pub written-again : {a : Filled} {out out₂ : List ℕ} → fillOf (said a) out₂ ≡ written (take n x₂) (serialAt s 0) out → Rewrote a s x x₂ out out₂
-    unfolding rewritten again pick
-    written-again d = record { is = rw (← listed) d; steps = steps-are }
+    written-again {out} d = record { is = d ∙ sym (again-listed s x out (sym listed)); steps = steps-are }

@@ -6,6 +6,7 @@ pub mod Followed
 pub mod Lengths
 pub mod Told
 pub mod Listing
+pub mod Rewriting
 pub mod Listed
 pub mod Within
 pub mod Forms

@@ -20,4 +20,6 @@ pub mod Bytes
 pub mod Writes
 pub mod Unused
 pub mod Lists
+pub mod Rewrites
+pub mod Given
 pub mod Enough

@@ -1,25 +1,23 @@
--- A trace turned into steps, and written again.
+-- The definition's outcome is what is promised of turning a trace into steps, and the promise leaves one.
 use Prim.Native.Nat.{ℕ, _+_, _*_, _<_, _≤_}
 use mathlib.Core.Path.{_≡_, refl, ap, sym, _∙_}
-use mathlib.Core.Bool.{true, false}
+use mathlib.Core.Bool.{false}
 use mathlib.Core.List.{List, [], append-nil}
 use mathlib.Core.Logic.{⊎-elim, _↔_}
 use native.Mathlib.Omega.{arith}
 use lib.ListN.{length}
-use Rattle.base.specs.Base.{pick, joined}
+use Rattle.base.specs.Base.{joined}
 use Rattle.base.proofs.Tests.{ifso, split}
 use Rattle.rules.specs.Numbers.{over}
 use Rattle.rules.specs.History.{History, txCount, opCount, current, empty}
 use Rattle.rules.specs.Records.{isSecond}
 use Rattle.rules.specs.Reading.{Reading, refused, read, reading}
-use Rattle.demand1.specs.Rows.{serial, ReadInto, HasHistory}
-use Rattle.rules.proofs.Numbers.{over-front}
-use Rattle.demand1.proofs.Readings.{refuses-iff, has-history, has-read, read-has, history-one}
-use Rattle.writing.specs.Filling.{refusing, answering, said, content, fillOf, into}
+use Rattle.demand1.specs.Rows.{HasHistory}
+use Rattle.demand1.proofs.Readings.{refuses-iff, has-read, read-has, history-one}
+use Rattle.writing.specs.Filling.{refusing, answering, said, fillOf}
 use Rattle.writing.specs.Steps.{stepsIn, stepBytes}
-use Rattle.writing.specs.Writing.{Followed, good, follow, traceOf, written}
+use Rattle.writing.specs.Writing.{Followed, good, follow}
 use Rattle.writing.specs.Listing.{historySteps, stepped}
-use Rattle.writing.specs.Rewriting.{again, rewritten}
 use Rattle.writing.specs.declared.Filled.{Filled}
 use Rattle.writing.proofs.Grown.{Grown, grown-none}
 use Rattle.writing.proofs.Filling.{into-short, into-fits}
@@ -35,10 +33,8 @@ use Rattle.written.proofs.StepBytes.{steps-back}
 use Rattle.written.proofs.Bytes.{steps-bytes}
 use Rattle.written.proofs.Unused.{known-steps, unused-steps}
 use Rattle.written.proofs.Comes.{steps-over, comes-follow, Ends, at-step, inside, outside, ends}
-use Rattle.written.proofs.Declined.{written-good}
 use Rattle.written.proofs.Fills.{CameOut, declining, putting, declines-iff, fills, fills-one}
 use Rattle.written.proofs.Small.{slim-read}
-use Rattle.written.proofs.Retold.{own-bytes}
 
 -- the bytes of a history's steps
 abbrev pub listing : History → List ℕ
@@ -48,11 +44,11 @@ listing h = joined stepBytes (historySteps h)
 
 module _ (s : List ℕ) (b : AllBytes s) (first : isSecond s ≡ false) {h : History} (r : HasHistory s h) where
   -- they are read back
-  listing-back : stepsIn (listing h) ≡ historySteps h
+  pub listing-back : stepsIn (listing h) ≡ historySteps h
   listing-back = steps-back (read-grown first r .0) (slim-read s b r)
 
   -- and followed into the trace's history
-  listing-good : follow empty 1 (stepsIn (listing h)) ≡ good h
+  pub listing-good : follow empty 1 (stepsIn (listing h)) ≡ good h
   listing-good =
       ap (follow empty 1) (listing-back ∙ sym (append-nil (historySteps h))) ∙ grown-follow (read-grown first r .0) [] ∙ follow-end h (1 + length (historySteps h)) (read-grown first r .1)
 
@@ -105,7 +101,7 @@ known {s} x a =
     grown = followed empty 1 (stepsIn x) grown-none good-now .0
 
 -- the steps of a trace are one
-steps-one : {s : List ℕ} (x y : List ℕ) → StepsOf s x → StepsOf s y → x ≡ y
+pub steps-one : {s : List ℕ} (x y : List ℕ) → StepsOf s x → StepsOf s y → x ≡ y
 steps-one {s} x y a b =
     let h : a .history ≡ b .history = history-one (a .reads) (b .reads) in
     known x a ∙ ap listing h ∙ sym (known y b)
@@ -118,20 +114,21 @@ module _ (s o : List ℕ) where
       let n = listing-length s first r in
       listed-first s o (read-has r) first ∙ into-short (listing h) o (omega arith) ∙ ap (λ (x : ℕ). fillOf (refusing 16 x) o) n
 
-  listed-fits : isSecond s ≡ false → {h : History} → HasHistory s h → stepsLength h ≤ length o
+  pub listed-fits : isSecond s ≡ false → {h : History} → HasHistory s h → stepsLength h ≤ length o
       → stepped s o ≡ fillOf (answering (length (listing h))) (over (listing h) o)
   listed-fits first {h} r l =
       let n = listing-length s first r in
       listed-first s o (read-has r) first ∙ into-fits (listing h) o (omega arith)
 
-  declined-is : (m p : ℕ) → ListDeclines s (length o) m p → stepped s o ≡ fillOf (refusing m p) o
-  declined-is m p (trace-refused {n} {at} x) = listed-refused s o (refuses-iff s n at .1 x)
-  declined-is m p (second-edition t r) = listed-second s o (read-has r) t
-  declined-is m p (steps-short first r l) = listed-short first r l
+  -- each refusal is the definition's
+  pub steps-refused : (m p : ℕ) → ListDeclines s (length o) m p → stepped s o ≡ fillOf (refusing m p) o
+  steps-refused m p (trace-refused {n} {at} x) = listed-refused s o (refuses-iff s n at .1 x)
+  steps-refused m p (second-edition t r) = listed-second s o (read-has r) t
+  steps-refused m p (steps-short first r l) = listed-short first r l
 
   module _ (b : AllBytes s) where
     abbrev Out : Type 0
-    Out = CameOut (ListDeclines s (length o)) (StepsOf s) o (stepped s o) declined-is
+    Out = CameOut (ListDeclines s (length o)) (StepsOf s) o (stepped s o) steps-refused
 
     out : Out
     out = by (reading s) refl
@@ -147,32 +144,12 @@ module _ (s o : List ℕ) where
 
     -- refused exactly then
     pub list-declines-iff : (m p : ℕ) → (stepped s o .answer ≡ refusing m p) ↔ ListDeclines s (length o) m p
-    list-declines-iff = declines-iff (ListDeclines s (length o)) (StepsOf s) o (stepped s o) declined-is out
+    list-declines-iff = declines-iff (ListDeclines s (length o)) (StepsOf s) o (stepped s o) steps-refused out
 
     -- any answer and content that the contract admits
     pub lists : (r : Filled) (c : List ℕ) → fillOf (said r) c ≡ stepped s o → ListsSteps s o r c
-    lists = fills (ListDeclines s (length o)) (StepsOf s) o (stepped s o) declined-is out
+    lists = fills (ListDeclines s (length o)) (StepsOf s) o (stepped s o) steps-refused out
 
 -- any two outcomes that the promise admits coincide
 pub lists-one : {s o : List ℕ} {r q : Filled} {c d : List ℕ} → ListsSteps s o r c → ListsSteps s o q d → (said r ≡ said q) × (c ≡ d)
 lists-one x y = fills-one steps-one x y
-
--- ── written again ──
-
--- the steps of an edition 1 trace without notes are written as its own bytes
-written-again : (s : List ℕ) → AllBytes s → isSecond s ≡ false → {h : History} → ReadInto s h 0 → (o : List ℕ) → written (listing h) (serial s 0) o ≡ into (content s) o
-written-again s b first {h} r o =
-    written-good (listing h) (serial s 0) o (listing-good s b first (has-history r))
-    ∙ ap (λ (x : List ℕ). into (content x) o) (ap (λ es. traceOf (serial s 0) es h) (listing-back s b first (has-history r)) ∙ own-bytes s b first r)
-
--- "a trace without notes, read and written again, gives its own bytes": one of edition 1, where both buffers have room
-pub own-again : (s : List ℕ) → AllBytes s → isSecond s ≡ false → {h : History} → ReadInto s h 0 → (x o : List ℕ) → stepsLength h ≤ length x → length s ≤ length o
-    → rewritten s x o ≡ fillOf (answering (length s)) (over s o)
-unfolding rewritten again pick
-own-again s b first {h} r x o l m =
-    rw (listed-fits s x first (has-history r) l, over-front (listing h) x) (written-again s b first r o ∙ into-fits s o m)
-
--- one of edition 2 is refused, for the record that it begins with
-pub second-again : (s : List ℕ) → isSecond s ≡ true → {h : History} → HasHistory s h → (x o : List ℕ) → rewritten s x o ≡ fillOf (refusing 6 0) o
-unfolding rewritten again pick
-second-again s t r x o = rw (listed-second s x (read-has r) t)

@@ -3,7 +3,7 @@ use Prim.Native.Nat.{ℕ, _+_, _*_, _%_, _^_, _<_, _≤_}
 use mathlib.Core.Path.{_≡_, refl, ap, sym, _∙_}
 use mathlib.Core.Bool.{false}
 use mathlib.Core.List.{List, [], _∷_, _++_}
-use mathlib.Core.Logic.{_⊎_, ⊎-elim, _↔_}
+use mathlib.Core.Logic.{⊎-elim, _↔_}
 use native.Mathlib.Omega.{arith}
 use lib.ListN.{length, getD, length-append, List·getD-append}
 use lib.Seq.{getD-at}
@@ -103,7 +103,8 @@ module _ (s : List ℕ) (b : AllBytes s) (n : ℕ) (low : n < 2 ^ 32) (o : List 
   abbrev Out : Type 0
   Out = CameOut (WriteDeclines s (length o)) (TraceOf s n) o (written s n o) (declined-is s n o)
 
-  out : Out
+  -- what comes out, by how the steps end
+  pub out : Out
   out = by (ends s) refl
     where
       by : {f : Followed} → Ends s f → follow empty 1 (stepsIn s) ≡ f → Out
@@ -124,7 +125,7 @@ module _ (s : List ℕ) (b : AllBytes s) (n : ℕ) (low : n < 2 ^ 32) (o : List 
 -- ── one outcome ──
 
 -- the trace of steps is one
-trace-one : {s : List ℕ} {n : ℕ} (x y : List ℕ) → TraceOf s n x → TraceOf s n y → x ≡ y
+pub trace-one : {s : List ℕ} {n : ℕ} (x y : List ℕ) → TraceOf s n x → TraceOf s n y → x ≡ y
 unfolding recordAt
 trace-one {s} {n} x y a b =
     let h : a .history ≡ b .history = says-one (a .says) (b .says) in

@@ -4,3 +4,5 @@ pub mod Declined
 pub mod Fills
 pub mod Writes
 pub mod Lists
+pub mod Rewrites
+pub mod Given

@@ -26,31 +26,34 @@ checkOf n =
 record Placed (c : Check) : Type 0 where
   pub is : checkOf (rank c) ≡ c
   pub below : rank c < 12
-  pub numbered : 0 < numberOf c
+  pub least : 3 ≤ numberOf c
   pub most : numberOf c ≤ 10
 
 -- each has one
 placed : (c : Check) → Placed c
-placed lengthField = record { is = refl; below = omega arith; numbered = omega arith; most = omega arith }
-placed lengthLow = record { is = refl; below = omega arith; numbered = omega arith; most = omega arith }
-placed bytesThere = record { is = refl; below = omega arith; numbered = omega arith; most = omega arith }
-placed serialFollows = record { is = refl; below = omega arith; numbered = omega arith; most = omega arith }
-placed kindKnown = record { is = refl; below = omega arith; numbered = omega arith; most = omega arith }
-placed lengthFits = record { is = refl; below = omega arith; numbered = omega arith; most = omega arith }
-placed editionFirst = record { is = refl; below = omega arith; numbered = omega arith; most = omega arith }
-placed editionIs2 = record { is = refl; below = omega arith; numbered = omega arith; most = omega arith }
-placed inPlace = record { is = refl; below = omega arith; numbered = omega arith; most = omega arith }
-placed valueLawful = record { is = refl; below = omega arith; numbered = omega arith; most = omega arith }
-placed withinLimit = record { is = refl; below = omega arith; numbered = omega arith; most = omega arith }
-placed newWrite = record { is = refl; below = omega arith; numbered = omega arith; most = omega arith }
+placed lengthField = record { is = refl; below = omega arith; least = omega arith; most = omega arith }
+placed lengthLow = record { is = refl; below = omega arith; least = omega arith; most = omega arith }
+placed bytesThere = record { is = refl; below = omega arith; least = omega arith; most = omega arith }
+placed serialFollows = record { is = refl; below = omega arith; least = omega arith; most = omega arith }
+placed kindKnown = record { is = refl; below = omega arith; least = omega arith; most = omega arith }
+placed lengthFits = record { is = refl; below = omega arith; least = omega arith; most = omega arith }
+placed editionFirst = record { is = refl; below = omega arith; least = omega arith; most = omega arith }
+placed editionIs2 = record { is = refl; below = omega arith; least = omega arith; most = omega arith }
+placed inPlace = record { is = refl; below = omega arith; least = omega arith; most = omega arith }
+placed valueLawful = record { is = refl; below = omega arith; least = omega arith; most = omega arith }
+placed withinLimit = record { is = refl; below = omega arith; least = omega arith; most = omega arith }
+placed newWrite = record { is = refl; below = omega arith; least = omega arith; most = omega arith }
 
 -- a place has one check
 same-rank : (c d : Check) → rank c ≡ rank d → c ≡ d
 same-rank c d e = sym (placed c .is) ∙ ap checkOf e ∙ placed d .is
 
--- no number is 0
+-- no number is below 3, so none is 0
+pub number-least : (c : Check) → 3 ≤ numberOf c
+number-least c = placed c .least
+
 pub number-positive : (c : Check) → 0 < numberOf c
-number-positive c = placed c .numbered
+number-positive c = omega (arith, number-least c)
 
 -- and none is above 10
 pub number-most : (c : Check) → numberOf c ≤ 10

@@ -1,14 +1,15 @@
 -- Judging is refused exactly on rows 1 to 14, and a refusal changes no buffer.
-use Prim.Native.Nat.{ℕ, suc}
+use Prim.Native.Nat.{ℕ, suc, _≤_}
 use mathlib.Core.Path.{_≡_, refl, ap, sym}
 use mathlib.Core.List.{List}
-use mathlib.Core.Logic.{_↔_}
+use mathlib.Core.Logic.{_↔_, inl}
 use native.Mathlib.Omega.{arith}
 use lib.ListN.{length}
 use Rattle.rules.specs.Outcome.{declines, Report, declining, Outcome, outcome, judged}
 use Rattle.rules.proofs.Outcome.{verdictNo, Came, came-no-level, came-refused, came-short, came-short-pairs, came-rejected, came-short-order, came-accepted, came, came-is}
 use Rattle.demand1.proofs.Lawful.{lawful-history}
 use Rattle.demand1.proofs.Readings.{refuses-iff, has-read, read-has}
+use Rattle.demand1.proofs.Lengths.{refused-numbers, not-15}
 use Rattle.demand2.proofs.Accepted.{accepted-iff, order-number, committed-number}
 use Rattle.demand3.proofs.Traces.{fault-iff, finding-count, pair-count, findings-bytes, pairs-bytes}
 use Rattle.demands.specs.Declined.{Declines, no-level, reading-refused, findings-short, pairs-short, order-short}
@@ -82,3 +83,17 @@ module _ (s : List ℕ) (level : ℕ) (fs ps os : List ℕ) where
       of : {o : Outcome} → Borne o → o .report .verdict ≡ declines → (o .findings ≡ fs) × (o .pairs ≡ ps) × (o .order ≡ os)
       of (refused d) e = (refl, refl, refl)
       of (given v d) e = absurd (omega (arith, d, ap verdictNo e))
+
+-- ── the numbers of the table ──
+
+-- rows 1 to 14
+pub declined-numbers : {s : List ℕ} {level f p o n at : ℕ} → Declines s level f p o n at → (1 ≤ n) × (n ≤ 14)
+declined-numbers (no-level d) = (omega arith, omega arith)
+declined-numbers (reading-refused a b r) = let m = refused-numbers r in (omega (arith, m .0), omega (arith, m .1))
+declined-numbers (findings-short a b r x c l) = (omega arith, omega arith)
+declined-numbers (pairs-short a b r x c g d l) = (omega arith, omega arith)
+declined-numbers (order-short a b r x y c l) = (omega arith, omega arith)
+
+-- "15 is no longer given"
+pub declined-never-15 : {s : List ℕ} {level f p o n at : ℕ} → Declines s level f p o n at → n ≡ 15 → ⊥
+declined-never-15 d = not-15 (omega arith) (inl (declined-numbers d))

@@ -3,7 +3,7 @@ use Prim.Native.Nat.{ℕ, _≤_}
 use mathlib.Core.Path.{_≡_, refl, ap, _∙_}
 use mathlib.Core.Bool.{Bool, true, false}
 use mathlib.Core.List.{List}
-use mathlib.Core.Logic.{⊎-elim, _↔_}
+use mathlib.Core.Logic.{_⊎_, inl, inr, ⊎-elim, _↔_}
 use native.Mathlib.Omega.{arith}
 use lib.ListN.{length}
 use Rattle.base.proofs.Tests.{clash, ifso, is-false, split}
@@ -13,6 +13,7 @@ use Rattle.rules.specs.Records.{isSecond}
 use Rattle.rules.specs.Reading.{Reading, refused, read, reading}
 use Rattle.demand1.specs.Rows.{serial, HasHistory}
 use Rattle.demand1.proofs.Readings.{refuses-iff, has-read, read-has, history-one}
+use Rattle.demand1.proofs.Lengths.{refused-numbers, not-15}
 use Rattle.writing.specs.Filling.{refusing, answering, said, fillOf}
 use Rattle.writing.specs.Forms.{wholeOf}
 use Rattle.writing.specs.declared.Filled.{Filled}
@@ -78,6 +79,18 @@ module _ (second : Bool) (s : List ℕ) (b : AllBytes s) (o : List ℕ) where
   -- any answer and content that the contract admits
   pub moves : (r : Filled) (c : List ℕ) → fillOf (said r) c ≡ movedTo second s o → Moves second s o r c
   moves = fills (MoveDeclines second s (length o)) (ComesOut second s) o (movedTo second s o) declined-is out
+
+-- ── the numbers of the table ──
+
+-- rows 2 to 11, and 16
+pub move-numbers : {second : Bool} {s : List ℕ} {o n p : ℕ} → MoveDeclines second s o n p → ((2 ≤ n) × (n ≤ 11)) ⊎ (n ≡ 16)
+move-numbers (trace-refused r) = inl (refused-numbers r)
+move-numbers (unchanged-short e r l) = inr refl
+move-numbers (moved-short d r l) = inr refl
+
+-- "15 is no longer given"
+pub move-never-15 : {second : Bool} {s : List ℕ} {o n p : ℕ} → MoveDeclines second s o n p → n ≡ 15 → ⊥
+move-never-15 d = not-15 (omega arith) (move-numbers d)
 
 -- ── one outcome ──
 

@@ -1,21 +1,24 @@
--- What writing comes to, by the definition's cases; each of the document's refusals is the definition's.
+-- What writing comes to, by the definition's cases; each of the document's refusals is the definition's. And the numbers that the two tables have.
 use Prim.Native.Nat.{ℕ, _+_, _*_, _<_, _≤_}
 use mathlib.Core.Path.{_≡_, refl, ap, _∙_}
 use mathlib.Core.List.{List, _∷_}
+use mathlib.Core.Logic.{_⊎_, inl, inr}
 use native.Mathlib.Omega.{arith}
 use lib.ListN.{length}
 use Rattle.rules.specs.Numbers.{over}
 use Rattle.rules.specs.History.{History, empty}
-use Rattle.demand1.specs.Rows.{numberOf}
+use Rattle.demand1.specs.Rows.{Check, lengthField, lengthLow, bytesThere, serialFollows, kindKnown, lengthFits, editionFirst, editionIs2, inPlace, valueLawful, withinLimit, newWrite, numberOf}
 use Rattle.demand1.proofs.Histories.{inside-current, outside-current}
-use Rattle.demand1.proofs.Refusals.{number-positive}
+use Rattle.demand1.proofs.Refusals.{number-positive, number-most}
+use Rattle.demand1.proofs.Lengths.{refused-numbers, not-15}
 use Rattle.writing.specs.Filling.{refusing, answering, content, fillOf, into}
 use Rattle.writing.specs.Steps.{stepAt, stepsFrom, stepsIn}
 use Rattle.writing.specs.Writing.{writeNo, bad, good, follow, traceOf, wrote, written}
 use Rattle.writing.proofs.Filling.{into-short, into-fits}
 use Rattle.writing.proofs.Followed.{follow-bad, follow-inside, follow-end}
 use Rattle.writing.proofs.Sizes.{trace-length}
-use Rattle.written.specs.Declined.{traceLength, WriteDeclines, bad-step, ends-inside, trace-short}
+use Rattle.written.specs.Steps.{StepFails}
+use Rattle.written.specs.Declined.{traceLength, WriteDeclines, bad-step, ends-inside, trace-short, ListDeclines, trace-refused, second-edition, steps-short}
 use Rattle.written.proofs.Checks.{step-refused}
 use Rattle.written.proofs.Comes.{steps-here, steps-over, comes-follow}
 
@@ -56,3 +59,39 @@ module _ (s : List ℕ) (n : ℕ) (o : List ℕ) where
       written-bad (comes-follow s x ∙ ap (follow h (k + 1)) (steps-over s k h l) ∙ follow-inside h (k + 1) (omega (arith, inside-current h i, i .0)))
   declined-is m p (trace-short {k} {h} x l d short) =
       written-short (comes-follow s x ∙ ap (follow h (k + 1)) (steps-over s k h l) ∙ follow-end h (k + 1) (outside-current h d)) short
+
+-- ── the numbers of the tables ──
+
+-- "01's numbers 6 (any other kind) to 10": the checks before are of no step
+step-least : (s : List ℕ) (k : ℕ) (h : History) (c : Check) → StepFails s k h c → 6 ≤ numberOf c
+step-least s k h lengthField f = absurd f
+step-least s k h lengthLow f = absurd f
+step-least s k h bytesThere f = absurd f
+step-least s k h serialFollows f = absurd f
+step-least s k h kindKnown f = omega arith
+step-least s k h lengthFits f = absurd f
+step-least s k h editionFirst f = absurd f
+step-least s k h editionIs2 f = absurd f
+step-least s k h inPlace f = omega arith
+step-least s k h valueLawful f = omega arith
+step-least s k h withinLimit f = omega arith
+step-least s k h newWrite f = omega arith
+
+-- rows 6 to 10, and 16
+pub write-numbers : {s : List ℕ} {o n p : ℕ} → WriteDeclines s o n p → ((6 ≤ n) × (n ≤ 10)) ⊎ (n ≡ 16)
+write-numbers {s} (bad-step {k} {h} {c} x l f) = inl (step-least s k h c (f .fails), number-most c)
+write-numbers (ends-inside x l i) = inl (omega arith, omega arith)
+write-numbers (trace-short x l d short) = inr refl
+
+-- "15 is no longer given"
+pub write-never-15 : {s : List ℕ} {o n p : ℕ} → WriteDeclines s o n p → n ≡ 15 → ⊥
+write-never-15 d = not-15 (omega arith) (write-numbers d)
+
+-- rows 2 to 11, and 16
+pub list-numbers : {s : List ℕ} {o n p : ℕ} → ListDeclines s o n p → ((2 ≤ n) × (n ≤ 11)) ⊎ (n ≡ 16)
+list-numbers (trace-refused r) = inl (refused-numbers r)
+list-numbers (second-edition t r) = inl (omega arith, omega arith)
+list-numbers (steps-short first r l) = inr refl
+
+pub list-never-15 : {s : List ℕ} {o n p : ℕ} → ListDeclines s o n p → n ≡ 15 → ⊥
+list-never-15 d = not-15 (omega arith) (list-numbers d)

@@ -1,10 +1,11 @@
 -- What the functions behind the two calls say of their parts.
 use Prim.Native.Nat.{ℕ}
-use mathlib.Core.Path.{_≡_}
-use mathlib.Core.Bool.{true, false}
 use mathlib.Core.List.{List}
 use lib.Dec.{ltb}
+use lib.ListN.{length}
 use Rattle.base.specs.Base.{pick}
+use Rattle.rules.specs.Reading.{Reading, refused, read, reading}
+use Rattle.rules.specs.Outcome.{findings, isAccepted}
 use Rattle.deciding.specs.Deciding.{isAcceptedAt}
 use Rattle.deciding.specs.declared.Strongest.{Strongest}
 use Rattle.deciding.specs.declared.Strongest.the-variants.{NoLevel, ReadCommitted, ReadAtomicity}
@@ -15,11 +16,14 @@ use Rattle.ferozhak.specs.declared.Seen.the-variants.{Here, NotHere, Now
 unfoldable pub levelByte : ℕ → ℕ
 levelByte n = pick (ltb n 4) n 0
 
--- what a look at a level says of the trace s: the level accepts it, or does not, or none does
-abbrev pub LookSays : List ℕ → ℕ → Seen → Type 0
-LookSays s level Here = isAcceptedAt s level ≡ true
-LookSays s level NotHere = isAcceptedAt s level ≡ false
-LookSays s level Nowhere = (x : ℕ) → isAcceptedAt s x ≡ false
+-- what a look at a level says of what was read: the level accepts it; else, where a read is unclean, none does, and else this one does not
+unfoldable pub seenRead : Reading → ℕ → Seen
+seenRead (refused n p) level = Nowhere
+seenRead (read h notes) level = pick (isAccepted h level) Here (pick (ltb 0 (length (findings h))) Nowhere NotHere)
+
+-- .. and of the trace s
+unfoldable pub seenAt : List ℕ → ℕ → Seen
+seenAt s level = seenRead (reading s) level
 
 -- what a refusal with this number shows where no room for lists was lent: 2 to 11 are the trace's own, 12 is an unclean read's, and neither hangs on the level
 unfoldable pub withoutLists : ℕ → Seen

@@ -9,7 +9,7 @@ ghost use Rattle.rules.specs.Outcome.{reported};
 ghost use Rattle.deciding.specs.Deciding.{decisionNo, decisionOf, wholeCounts, fiveBytes, countBytes, countsPut, decidedAs, decided, strongestNo, isAcceptedAt, strongest};
 ghost use Rattle.pairs.specs.Pairs.{Ready};
 ghost use Rattle.judging.specs.Judging.{ReadInto, AtLevel};
-ghost use Rattle.ferozhak.specs.Calls.{levelByte, LookSays, withoutLists, belowCausal};
+ghost use Rattle.ferozhak.specs.Calls.{levelByte, seenAt, withoutLists, belowCausal};
 use deciding::Decision;
 use deciding::Strongest;
 use rules::Answer;
@@ -192,7 +192,7 @@ fn accepts(h: &[u64], k: &[u8], level: u8) -> bool
     }
 }
 
-// Where a trace is accepted, by a look at one level: at this one; not at this one; at none.
+// Where a trace is accepted, by a look at one level: at this one; not at this one, for its pairs; at none, for an unclean read.
 enum Seen {
     Here,
     NotHere,
@@ -204,7 +204,7 @@ enum Seen {
 // 14.
 fn look(h: &[u64], k: &[u8], level: u8) -> Seen
     requires { ⌜ AtLevel (now h) (now k) level ⌝ }
-    ensures { λ r. ⌜ ((s : List ℕ) → ReadInto s (now (h .entry)) (now (k .entry)) → LookSays s level r) ⌝ }
+    ensures { λ r. ⌜ ((s : List ℕ) → ReadInto s (now (h .entry)) (now (k .entry)) → r ≡ seenAt s level) ⌝ }
 {
     let mut findings = [0u8; 0];
     let mut pairs = [0u8; 0];

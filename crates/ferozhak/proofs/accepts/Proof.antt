@@ -1,4 +1,5 @@
 use mathlib.Core.Path.{sym}
+use Rattle.ferozhak.proofs.Verdicts.{look-says}
 use borrow.Author.Needs.{needs}
 use Rattle.ferozhak.proofs.accepts.Statement.{statement}
 use Rattle.ferozhak.proofs.accepts.Tie as tie
@@ -7,6 +8,6 @@ pub accepts-spec : {M : Type 1} → statement M
 accepts-spec =
     tie.close
     (tie.spec (λ c κs. search needs) (λ c. search needs) (λ c. search needs) (λ c. search needs)
-    (λ c s x. sym (rw (c .enum-told .given .1) at (c .before .before .look .ensures s x)))
-    (λ c s x. sym (rw (c .enum-told2 .given .1) at (c .before .before .look .ensures s x)))
-    (λ c s x. sym ((rw (c .enum-told3 .given .1) at (c .before .before .look .ensures s x)) _)))
+    (λ c s x. sym (rw (c .enum-told .given .1) at (look-says s _ (c .before .before .look .ensures s x))))
+    (λ c s x. sym (rw (c .enum-told2 .given .1) at (look-says s _ (c .before .before .look .ensures s x))))
+    (λ c s x. sym ((rw (c .enum-told3 .given .1) at (look-says s _ (c .before .before .look .ensures s x))) _)))

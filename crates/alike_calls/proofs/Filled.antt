@@ -3,15 +3,15 @@ use Prim.Native.Nat.{ℕ}
 use mathlib.Core.Path.{_≡_, ap, sym, _∙_}
 use mathlib.Core.Bool.{false}
 use mathlib.Core.List.{List}
-use lib.ListN.{length, take}
-use Rattle.rules.specs.Numbers.{over}
-use Rattle.writing.specs.Filling.{Fill, fillOf, said, Gives}
+use lib.ListN.{length}
+use Rattle.writing.specs.Filling.{Fill, fillOf, said}
 use Rattle.writing.specs.Listing.{stepped}
 use Rattle.writing.specs.Rewriting.{rewrittenWhole}
 use Rattle.writing.specs.declared.Filled.{Filled}
 use Rattle.writing.proofs.Filling.{said-one}
 use Rattle.written.specs.Writes.{AllBytes}
 use Rattle.written.proofs.Lists.{lists}
+use Rattle.written.proofs.Rewrites.{rewrites, rewrites-whole}
 use Rattle.moving.specs.Moving.{movedTo}
 use Rattle.moving.specs.Tally.{talliedFill, movedToSecond}
 use Rattle.moving.proofs.Tally.{tallied-one}
@@ -52,9 +52,14 @@ module _ (s t o o' : List ℕ) {B B' : List ℕ} where
         but-for-notes = λ e n. same-fill (y ∙ ap (stepped t) (sym e) ∙ notes-stepped n o ∙ sym x);
       }
 
-  pub whole-both : (r : TwoFills) → Gives (r .one) B (rewrittenWhole s o) → Gives (r .other) B' (rewrittenWhole t o') → WholeBoth s t r o o' B B'
-  whole-both r x y =
-      record { one = x; other = y; other-texts = λ e n. same-fill (y .is ∙ ap (rewrittenWhole t) (sym e) ∙ texts-rewritten-whole n o ∙ sym (x .is)) }
+  pub whole-both : AllBytes s → AllBytes t → (r : TwoFills) → fillOf (said (r .one)) B ≡ rewrittenWhole s o → fillOf (said (r .other)) B' ≡ rewrittenWhole t o'
+      → WholeBoth s t r o o' B B'
+  whole-both a b r x y =
+      record {
+        one = rewrites-whole s a o (r .one) B x;
+        other = rewrites-whole t b o' (r .other) B' y;
+        other-texts = λ e n. same-fill (y ∙ ap (rewrittenWhole t) (sym e) ∙ texts-rewritten-whole n o ∙ sym x);
+      }
 
   pub moved-both-1 : AllBytes s → AllBytes t → (r : TwoFills) → fillOf (said (r .one)) B ≡ movedTo false s o → fillOf (said (r .other)) B' ≡ movedTo false t o'
       → MovedBoth s t r o o' B B'
@@ -77,12 +82,12 @@ module _ (s t o o' : List ℕ) {B B' : List ℕ} where
         other-texts = λ e n. tallied-one (r .other) (r .one) (y ∙ ap (movedToSecond t) (sym e) ∙ texts-moved n o ∙ sym x);
       }
 
-pub rewritten-both : (s t x o x' o' : List ℕ) {X B X' B' : List ℕ} (r : TwoFills) → Rewrote (r .one) s x X o B → Rewrote (r .other) t x' X' o' B'
-    → RewrittenBoth s t r x o x' o' X B X' B'
-rewritten-both s t x o x' o' r a b =
+pub rewritten-both : (s t x o x' o' : List ℕ) {X B X' B' : List ℕ} → AllBytes s → AllBytes t → (r : TwoFills) → Rewrote (r .one) s x X o B
+    → Rewrote (r .other) t x' X' o' B' → RewrittenBoth s t r x o x' o' X B X' B'
+rewritten-both s t x o x' o' {X} {B} {X'} {B'} c d r a b =
     record {
-      one = a;
-      other = b;
+      one = rewrites s c x o (r .one) X B (a .is) (a .steps);
+      other = rewrites t d x' o' (r .other) X' B' (b .is) (b .steps);
       other-texts =
           λ e f n.
           let z = same-fill (b .is ∙ rw (← e, ← f) (texts-rewritten n x o) ∙ sym (a .is)) in

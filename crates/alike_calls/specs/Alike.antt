@@ -9,9 +9,8 @@ use Rattle.rules.specs.declared.Answer.{Answer}
 use Rattle.demand3.specs.Rejected.{FindingCount}
 use Rattle.demands.specs.Demands.{Demands}
 use Rattle.demands.specs.Printed.{TextPut}
-use Rattle.writing.specs.Filling.{Gives}
-use Rattle.writing.specs.Rewriting.{rewrittenWhole}
 use Rattle.written.specs.Lists.{ListsSteps}
+use Rattle.written.specs.Rewrites.{RewritesTrace, RewritesWhole}
 use Rattle.renumbering.specs.Renumbering.{FindingsBecame, AnswersAlike}
 use Rattle.moving.specs.Renumbering.{newNumber}
 use Rattle.noteless.specs.Texts.{OtherTexts}
@@ -21,7 +20,6 @@ use Rattle.deciding.specs.Deciding.{decisionNo}
 use Rattle.deciding.specs.declared.Decision.the-variants.{Hold}
 use Rattle.decided.specs.Decides.{Decides}
 use Rattle.decided.specs.Strongest.{StrongestIs}
-use Rattle.rewriting.specs.Rewriting.{Rewrote}
 use Rattle.alike_calls.specs.declared.TwoAnswers.{TwoAnswers}
 use Rattle.alike_calls.specs.declared.TwoLengths.{TwoLengths}
 use Rattle.alike_calls.specs.declared.TwoNumbers.{TwoNumbers}
@@ -95,13 +93,13 @@ pub record ListedBoth (s t : List ℕ) (r : TwoFills) (o o' B B' : List ℕ) : T
 -- written again it has the trace's first serial, which another first serial than the trace's would change: so this is of other texts. X is what became of the
 -- buffer x for the steps
 pub record RewrittenBoth (s t : List ℕ) (r : TwoFills) (x o x' o' X B X' B' : List ℕ) : Type 0 where
-  pub one : Rewrote (r .one) s x X o B
-  pub other : Rewrote (r .other) t x' X' o' B'
+  pub one : RewritesTrace s x o (r .one) X B
+  pub other : RewritesTrace t x' o' (r .other) X' B'
   pub other-texts : x ≡ x' → o ≡ o' → OtherTexts s t → (r .other ≡ r .one) × (X' ≡ X) × (B' ≡ B)
 
 pub record WholeBoth (s t : List ℕ) (r : TwoFills) (o o' B B' : List ℕ) : Type 0 where
-  pub one : Gives (r .one) B (rewrittenWhole s o)
-  pub other : Gives (r .other) B' (rewrittenWhole t o')
+  pub one : RewritesWhole s o (r .one) B
+  pub other : RewritesWhole t o' (r .other) B'
   pub other-texts : o ≡ o' → OtherTexts s t → (r .other ≡ r .one) × (B' ≡ B)
 
 -- moved to edition 1 a trace of that edition keeps its texts, so the answer is the same, and not the bytes

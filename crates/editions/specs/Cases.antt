@@ -21,6 +21,10 @@ documentTable =
     ∷ all (overlapping 1 (opens 1 ∷ rOf 1 1 0 ∷ commits 1 ∷ [])) (acceptsWith (0 ∷ 1 ∷ []))
     -- P5 T1 w1=5 aborted; T2 r1=5: it aborts when the other has committed
     ∷ all (overlapping 2 (opens 1 ∷ opens 2 ∷ wOf 1 1 5 ∷ rOf 2 1 5 ∷ commits 2 ∷ closesOf 1 0 ∷ [])) (rejectsWith (read 2 2 2 1) [])
+    -- P6 T1 r1=5 w1=5
+    ∷ all (overlapping 1 (opens 1 ∷ rOf 1 1 5 ∷ wOf 1 1 5 ∷ commits 1 ∷ [])) (rejectsWith (read 1 1 3 2) [])
+    -- P7 T1 w1=5 w1=6 r1=5
+    ∷ all (overlapping 1 (opens 1 ∷ wOf 1 1 5 ∷ wOf 1 1 6 ∷ rOf 1 1 5 ∷ commits 1 ∷ [])) (rejectsWith (read 1 3 4 1) [])
     -- P8 T1 w1=5; T2 w1=6 r1=5
     ∷ all (overlapping 2 (opens 1 ∷ opens 2 ∷ wOf 2 1 6 ∷ wOf 1 1 5 ∷ rOf 2 1 5 ∷ commits 2 ∷ commits 1 ∷ [])) (rejectsWith (read 2 3 5 2) [])
     -- P9 T1 w1=5 w1=6; T2 r1=5

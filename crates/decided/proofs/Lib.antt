@@ -1,4 +1,5 @@
 pub mod Counts
+pub mod Room
 pub mod Decides
 pub mod Outright
 pub mod Strongest

@@ -1,54 +1,19 @@
 -- With buffers of 6,144, 65,536 and 128 bytes no list and no order is too long, so the decision hangs on the trace and the level alone.
-use Prim.Native.Nat.{ℕ, _*_, _≤_}
+use Prim.Native.Nat.{ℕ, _≤_}
 use mathlib.Core.List.{List}
 use mathlib.Core.Logic.{_⊎_, ⊎-elim, inl, inr}
 use native.Mathlib.Omega.{arith}
 use lib.ListN.{length}
 use Rattle.base.proofs.Tests.{split}
-use Rattle.rules.specs.History.{History}
-use Rattle.demand1.specs.Rows.{Refuses, HasHistory}
+use Rattle.demand1.specs.Rows.{Refuses}
 use Rattle.demand1.proofs.Lawful.{lawful-history}
-use Rattle.demand1.proofs.Lengths.{findings-few, pairs-few, order-few}
-use Rattle.demand2.specs.Kinds.{AllClean}
-use Rattle.demand2.specs.Axiom.{HasOrder}
-use Rattle.demand2.specs.Accepted.{CommittedCount, AcceptsTrace}
-use Rattle.demand2.proofs.Accepted.{accepted-iff, order-number, committed-number}
-use Rattle.demand3.specs.Rejected.{FindingCount, PairCount, RejectsTrace}
-use Rattle.demand3.proofs.Traces.{finding-count, pair-count, findings-counted, pairs-counted}
+use Rattle.demand3.specs.Rejected.{RejectsTrace}
+use Rattle.demand3.proofs.Traces.{finding-count, pair-count}
 use Rattle.demands.specs.Declined.{Declines, no-level, reading-refused, findings-short, pairs-short, order-short}
 use Rattle.decided.specs.Decides.{Decides, LevelRejects, DecidesOutright}
-use Rattle.decided.specs.Strongest.{LevelAccepts}
-
--- ── what a history's lists need ──
-
-module _ {s : List ℕ} {level : ℕ} {h : History} (low : 1 ≤ level) (high : level ≤ 3) (reads : HasHistory s h) where
-  findings-most : {n : ℕ} → FindingCount h n → 6 * n ≤ 6144
-  findings-most c = let ok = lawful-history reads in omega (arith, findings-few ok, findings-counted ok low high c)
-
-  pairs-most : {n : ℕ} → PairCount h level n → 4 * n ≤ 65536
-  pairs-most c = let ok = lawful-history reads in omega (arith, pairs-few ok level, pairs-counted ok low high c)
-
-  order-most : {n : ℕ} → AllClean h → HasOrder h level → CommittedCount h n → n ≤ 128
-  order-most x y c = let ok = lawful-history reads in omega (arith, order-few ok level, order-number ok low high (accepted-iff ok low high .1 (x, y)) c)
-
--- ── the decision ──
+use Rattle.decided.proofs.Room.{findings-most, pairs-most, order-most, accepts-level, accepts-room}
 
 module _ (s : List ℕ) (level : ℕ) (fs ps os : List ℕ) (f : 6144 ≤ length fs) (p : 65536 ≤ length ps) (o : 128 ≤ length os) where
-  accepts-room : (a : LevelAccepts s level) → (n : ℕ) × AcceptsTrace s level n (length os)
-  accepts-room a =
-      let ok = lawful-history (a .reads) in
-      let c = committed-number ok in (
-        _,
-        record {
-          low = a .low;
-          high = a .high;
-          history = a .history;
-          reads = a .reads;
-          accepts =
-              record { clean = a .clean; ordered = a .ordered; each = c; fits = omega (arith, order-most (a .low) (a .high) (a .reads) (a .clean) (a .ordered) c) };
-        },
-      )
-
   rejects-room : (a : LevelRejects s level) → (n : ℕ) × (m : ℕ) × RejectsTrace s level n m (length fs) (length ps)
   rejects-room a =
       let ok = lawful-history (a .reads) in
@@ -92,15 +57,8 @@ module _ (s : List ℕ) (level : ℕ) (fs ps os : List ℕ) (f : 6144 ≤ length
   outright d =
       record {
         promoted = (
-          λ e. let a = d .promoted .0 e .1 in record {
-            low = a .low;
-            high = a .high;
-            history = a .history;
-            reads = a .reads;
-            clean = a .accepts .clean;
-            ordered = a .accepts .ordered;
-          },
-          λ a. d .promoted .1 (accepts-room a),
+          λ e. accepts-level s level (d .promoted .0 e .1),
+          λ a. d .promoted .1 (accepts-room s level o a),
         );
         held = (
           λ e. let a = d .held .0 e .2 in record { low = a .low; high = a .high; history = a .history; reads = a .reads; fault = a .rejects .fault },

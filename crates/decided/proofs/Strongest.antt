@@ -1,19 +1,24 @@
 -- The second call answers the strongest level that accepts, and nothing else is that.
-use Prim.Native.Nat.{ℕ, _<_, _≤_}
-use mathlib.Core.Path.{_≡_, refl, sym, _∙_}
-use mathlib.Core.Bool.{true, false}
+use Prim.Native.Nat.{ℕ, _+_, _<_, _≤_}
+use mathlib.Core.Path.{_≡_, refl, ap, sym, _∙_}
+use mathlib.Core.Bool.{Bool, true, false}
 use mathlib.Core.List.{List}
 use mathlib.Core.Logic.{_↔_, ⊎-elim, inl}
 use native.Mathlib.Omega.{arith}
-use Rattle.base.proofs.Tests.{ifso, clash, pick-on, pick-off, split}
+use Rattle.base.specs.Base.{pick}
+use Rattle.base.proofs.Tests.{clash, pick-of, split}
 use Rattle.rules.specs.Reading.{Reading, refused, read, reading}
+use Rattle.rules.specs.Outcome.{Report, reported}
+use Rattle.rules.specs.declared.Answer.{Answer}
+use Rattle.rules.proofs.Outcome.{ReportIs, says-declined, says-rejected, says-accepted, says}
 use Rattle.demand1.specs.Rows.{Refuses}
 use Rattle.demand1.proofs.Lawful.{lawful-history}
 use Rattle.demand1.proofs.Readings.{refuses-iff, has-read, read-has}
 use Rattle.demand2.proofs.Accepted.{accepted-iff}
 use Rattle.deciding.specs.Deciding.{strongestNo, acceptedRead, isAcceptedAt, strongest}
-use Rattle.deciding.specs.declared.Strongest.{Strongest}
 use Rattle.decided.specs.Strongest.{LevelAccepts, StrongestIs}
+use Rattle.decided.specs.Answered.{AnsweredAt, isAccepting, byVerdicts}
+use Rattle.decided.proofs.Room.{accepts-level, accepts-room}
 
 module _ (s : List ℕ) where
   -- ── a level ──
@@ -38,9 +43,6 @@ module _ (s : List ℕ) where
   pub level-iff : (level : ℕ) → 1 ≤ level → level ≤ 3 → (isAcceptedAt s level ≡ true) ↔ LevelAccepts s level
   level-iff level l m = (of-accepts level l m, accepts-of)
 
-  not-at : {level x : ℕ} → isAcceptedAt s level ≡ false → x ≡ level → LevelAccepts s x → ⊥
-  not-at f e a = clash (rw e at (accepts-of a)) f
-
   -- a trace that is refused is accepted at no level
   refused-none : {n p : ℕ} → Refuses s n p → (x : ℕ) → LevelAccepts s x → ⊥
   unfolding isAcceptedAt acceptedRead
@@ -48,45 +50,28 @@ module _ (s : List ℕ) where
 
   -- ── the strongest ──
 
+  -- nothing above r accepts
+  abbrev NoneAbove : ℕ → Type 0
+  NoneAbove r = (x : ℕ) → r < x → LevelAccepts s x → ⊥
+
   -- r accepts, unless it is 0, and nothing above it does
   record Top (r : ℕ) : Type 0 where
     is : 1 ≤ r → LevelAccepts s r
-    above : (x : ℕ) → r < x → LevelAccepts s x → ⊥
+    above : NoneAbove r
 
-  top-3 : isAcceptedAt s 3 ≡ true → Top 3
-  top-3 t = record { is = λ l. of-accepts 3 l (omega arith) t; above = λ x l a. omega (arith, a .high) }
+  -- a level that accepts is the top, and one that does not leaves what is below
+  top-or : (k n : ℕ) (b : Bool) → (b ≡ true) ↔ LevelAccepts s (k + 1) → (NoneAbove k → Top n) → NoneAbove (k + 1) → Top (pick b (k + 1) n)
+  unfolding pick
+  top-or k n true i below above = record { is = λ l. i .0 refl; above = above }
+  top-or k n false i below above =
+      below (λ x l a. ⊎-elim (λ m. above x m a) (λ g. let e : x ≡ k + 1 = omega arith in clash (i .1 (rw e at a)) refl) (split (k + 1) x))
 
-  module _ (f3 : isAcceptedAt s 3 ≡ false) where
-    top-2 : isAcceptedAt s 2 ≡ true → Top 2
-    top-2 t = record { is = λ l. of-accepts 2 l (omega arith) t; above = λ x l a. not-at f3 (omega (arith, a .high)) a }
-
-    module _ (f2 : isAcceptedAt s 2 ≡ false) where
-      above-1 : (x : ℕ) → 1 < x → LevelAccepts s x → ⊥
-      above-1 x l a = ⊎-elim (λ m. not-at f2 (omega arith) a) (λ g. not-at f3 (omega (arith, a .high)) a) (split x 3)
-
-      top-1 : isAcceptedAt s 1 ≡ true → Top 1
-      top-1 t = record { is = λ l. of-accepts 1 l (omega arith) t; above = above-1 }
-
-      top-0 : isAcceptedAt s 1 ≡ false → Top 0
-      top-0 f1 =
-          record {
-            is = λ l. absurd (omega arith);
-            above = λ x l a. ⊎-elim (λ m. not-at f1 (omega arith) a) (λ g. above-1 x (omega arith) a) (split x 2);
-          }
-
-  -- the definition's answer is so
-  answered : {x : Strongest} {r : ℕ} → strongest s ≡ x → strongestNo x ≡ r → Top r → Top (strongestNo (strongest s))
-  answered e f t = rw (e, f) t
-
-  top : Top (strongestNo (strongest s))
-  unfolding strongest strongestNo
-  top =
-      ifso (isAcceptedAt s 3) (λ a. answered (pick-on _ _ _ a) refl (top-3 a))
-      (λ a.
-      ifso (isAcceptedAt s 2) (λ b. answered (pick-off _ _ _ a ∙ pick-on _ _ _ b) refl (top-2 a b))
-      (λ b.
-      ifso (isAcceptedAt s 1) (λ c. answered (pick-off _ _ _ a ∙ pick-off _ _ _ b ∙ pick-on _ _ _ c) refl (top-1 a b c))
-      (λ c. answered (pick-off _ _ _ a ∙ pick-off _ _ _ b ∙ pick-off _ _ _ c) refl (top-0 a b c))))
+  -- whatever tells of the three levels
+  top-of : (b3 b2 b1 : Bool) → (b3 ≡ true) ↔ LevelAccepts s 3 → (b2 ≡ true) ↔ LevelAccepts s 2 → (b1 ≡ true) ↔ LevelAccepts s 1
+      → Top (pick b3 3 (pick b2 2 (pick b1 1 0)))
+  top-of b3 b2 b1 i3 i2 i1 =
+      top-or 2 _ b3 i3 (top-or 1 _ b2 i2 (top-or 0 _ b1 i1 (λ above. record { is = λ l. absurd (omega arith); above = above })))
+      (λ x l a. omega (arith, a .high))
 
   -- ── the theorems ──
 
@@ -110,8 +95,36 @@ module _ (s : List ℕ) where
       zero-by : ((x : ℕ) → LevelAccepts s x → ⊥) → r ≡ 0
       zero-by d = ⊎-elim (λ m. absurd (d r (t .is (omega arith)))) (λ g. omega arith) (split 0 r)
 
+  -- by the tests of the definition
+  by-tests : strongestNo (strongest s) ≡ pick (isAcceptedAt s 3) 3 (pick (isAcceptedAt s 2) 2 (pick (isAcceptedAt s 1) 1 0))
+  unfolding strongest strongestNo
+  by-tests =
+      pick-of strongestNo (isAcceptedAt s 3) _ _
+      ∙ ap (pick (isAcceptedAt s 3) 3) (pick-of strongestNo (isAcceptedAt s 2) _ _ ∙ ap (pick (isAcceptedAt s 2) 2) (pick-of strongestNo (isAcceptedAt s 1) _ _))
+
   pub strongest-is : (r : ℕ) → r ≡ strongestNo (strongest s) → StrongestIs s r
-  strongest-is r e = of-top (rw e top)
+  strongest-is r e =
+      rw (e, by-tests)
+      (of-top (top-of _ _ _ (level-iff 3 (omega arith) (omega arith)) (level-iff 2 (omega arith) (omega arith)) (level-iff 1 (omega arith) (omega arith))))
+
+  -- by answers that meet the demands, whoever gave them: an acceptance says that the level accepts
+  verdict-iff : {level : ℕ} {r : Answer} → AnsweredAt s level r → (isAccepting (reported r .verdict) ≡ true) ↔ LevelAccepts s level
+  unfolding isAccepting
+  verdict-iff {level} {r} a = (
+    of (says r) refl,
+    λ l. let e = a .demands .second .accepted _ .1 (accepts-room s level (a .room) l .1) in rw e refl,
+  )
+    where
+      of : {R : Report} → ReportIs R → reported r ≡ R → isAccepting (R .verdict) ≡ true → LevelAccepts s level
+      of says-declined e t = absurd (clash t refl)
+      of says-rejected e t = absurd (clash t refl)
+      of (says-accepted {n}) e t = accepts-level s level (a .demands .second .accepted n .0 e)
+
+  -- "Both rely on the judge's promises alone"
+  pub strongest-by-demands : (third second first : Answer) → AnsweredAt s 3 third → AnsweredAt s 2 second → AnsweredAt s 1 first
+      → StrongestIs s (byVerdicts (reported third .verdict) (reported second .verdict) (reported first .verdict))
+  unfolding byVerdicts
+  strongest-by-demands third second first x y z = of-top (top-of _ _ _ (verdict-iff x) (verdict-iff y) (verdict-iff z))
 
   -- there is one such number
   pub strongest-one : (r q : ℕ) → StrongestIs s r → StrongestIs s q → r ≡ q

@@ -1,4 +1,4 @@
--- With buffers of 6,144, 65,536 and 128 bytes no list and no order is too long, so the decision hangs on the trace and the level alone.
+-- With buffers of 6,144, 65,024 and 128 bytes no list and no order is too long, so the decision hangs on the trace and the level alone.
 use Prim.Native.Nat.{ℕ, _≤_}
 use mathlib.Core.List.{List}
 use mathlib.Core.Logic.{_⊎_, ⊎-elim, inl, inr}
@@ -13,7 +13,7 @@ use Rattle.demands.specs.Declined.{Declines, no-level, reading-refused, finding
 use Rattle.decided.specs.Decides.{Decides, LevelRejects, DecidesOutright}
 use Rattle.decided.proofs.Room.{findings-most, pairs-most, order-most, accepts-level, accepts-room}
 
-module _ (s : List ℕ) (level : ℕ) (fs ps os : List ℕ) (f : 6144 ≤ length fs) (p : 65536 ≤ length ps) (o : 128 ≤ length os) where
+module _ (s : List ℕ) (level : ℕ) (fs ps os : List ℕ) (f : 6144 ≤ length fs) (p : 65024 ≤ length ps) (o : 128 ≤ length os) where
   rejects-room : (a : LevelRejects s level) → (n : ℕ) × (m : ℕ) × RejectsTrace s level n m (length fs) (length ps)
   rejects-room a =
       let ok = lawful-history (a .reads) in

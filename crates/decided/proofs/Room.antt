@@ -1,4 +1,4 @@
--- 6,144, 65,536 and 128 bytes are room for the findings, the pairs and the order of every trace, in the document's own terms.
+-- 6,144, 65,024 and 128 bytes are room for the findings, the pairs and the order of every trace, in the document's own terms.
 use Prim.Native.Nat.{ℕ, _*_, _≤_}
 use mathlib.Core.List.{List}
 use native.Mathlib.Omega.{arith}
@@ -20,7 +20,7 @@ module _ {s : List ℕ} {level : ℕ} {h : History} (low : 1 ≤ level) (high : 
   pub findings-most : {n : ℕ} → FindingCount h n → 6 * n ≤ 6144
   findings-most c = let ok = lawful-history reads in omega (arith, findings-few ok, findings-counted ok low high c)
 
-  pub pairs-most : {n : ℕ} → PairCount h level n → 4 * n ≤ 65536
+  pub pairs-most : {n : ℕ} → PairCount h level n → 4 * n ≤ 65024
   pairs-most c = let ok = lawful-history reads in omega (arith, pairs-few ok level, pairs-counted ok low high c)
 
   pub order-most : {n : ℕ} → AllClean h → HasOrder h level → CommittedCount h n → n ≤ 128

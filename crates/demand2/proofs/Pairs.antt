@@ -163,14 +163,10 @@ pub data Based (h : History) (a b : ℕ) : Type 0 where
   by-so : SO h a b → Based h a b
   by-read : {i : ℕ} → CleanFrom h a b i → Based h a b
 
--- it is of two different committed transactions, and in SO ∪ WR
+-- it is of committed transactions, and in SO ∪ WR
 pub based-members : {h : History} → LawfulHistory h → {a b : ℕ} → Based h a b → Member h a × Member h b
 based-members ok (by-so s) = so-members s
 based-members ok (by-read r) = (source-member ok (r .reads) (r .clean), reader-member ok (r .reads))
-
-pub based-apart : {h : History} {a b : ℕ} → Based h a b → a ≡ b → ⊥
-based-apart (by-so s) = so-apart s
-based-apart (by-read r) = r .reads .other
 
 pub based-sowr : {h : History} {a b : ℕ} → Based h a b → SoWr h a b
 based-sowr (by-so s) = inl s
@@ -266,11 +262,3 @@ module _ {h : History} (ok : LawfulHistory h) (level : ℕ) where
       let r = some-at (settles h level a b) (opCount h + 1) 1 (and-right _ _ s) in
       is-rival (member ok (and-left _ _ s)) (settles-at ok level a b (r .at) (r .from) (omega (arith, r .to)) (r .passes)))
       (or-cases _ _ e)
-
-  -- forced pairs are of two different transactions
-  forced-differ : {a b : ℕ} → ForcedBy h level a b → a ≡ b → ⊥
-  forced-differ (is-basic s) = based-apart s
-  forced-differ (is-rival m s) = s .not-source
-
-  pub forced-apart : (a b : ℕ) → forced h level a b ≡ true → a ≡ b → ⊥
-  forced-apart a b e = forced-differ (forced-at a b e)

@@ -17,8 +17,8 @@ use Rattle.rules.specs.Outcome.{Pair, pairsOf, pairs}
 use Rattle.demand1.specs.Lawful.{LawfulHistory}
 use Rattle.demand2.specs.Kinds.{AllClean}
 use Rattle.demand2.specs.Axiom.{Member, HasOrder}
-use Rattle.rules.proofs.Forced.{forces, pairs-iff}
-use Rattle.demand2.proofs.Pairs.{member, forced-apart}
+use Rattle.rules.proofs.Forced.{forced-apart, forces, pairs-iff}
+use Rattle.demand2.proofs.Pairs.{member}
 use Rattle.demand2.proofs.Accepted.{empty-pairs-iff}
 use Rattle.demand3.specs.Forced.{Way, one, more, IsForced, ListedPair}
 use Rattle.demand3.specs.Lists.{PairBefore, by-first, by-second, Pairs}
@@ -77,7 +77,7 @@ module _ {h : History} (ok : LawfulHistory h) {level : ℕ} (low : 1 ≤ level) 
 
   -- not of one and the same
   pub listed-apart : {a b : ℕ} → ListedPair h level a b → a ≡ b → ⊥
-  listed-apart {a} {b} l = forced-apart ok level a b (forced-iff ok low high a b .1 (l .forced))
+  listed-apart {a} {b} l = forced-apart h a b level (forced-iff ok low high a b .1 (l .forced))
 
   -- the test that the lists are made by
   abbrev listTest : ℕ → ℕ → Bool

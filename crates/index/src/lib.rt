@@ -15,7 +15,7 @@ pub fn promised_decision(
     order: &mut [u8],
     counts: &mut [u8],
 ) -> u32
-    ensures { λ r. ⌜ Decides (now (trace .entry)) level (now (findings .entry)) (now (pairs .entry)) (now (order .entry)) (now (counts .entry)) r (now (findings .exit)) (now (pairs .exit)) (now (order .exit)) (now (counts .exit)) × (6144 ≤ length (now (findings .entry)) → 65536 ≤ length (now (pairs .entry)) → 128 ≤ length (now (order .entry)) → DecidesOutright (now (trace .entry)) level r) ⌝ }
+    ensures { λ r. ⌜ Decides (now (trace .entry)) level (now (findings .entry)) (now (pairs .entry)) (now (order .entry)) (now (counts .entry)) r (now (findings .exit)) (now (pairs .exit)) (now (order .exit)) (now (counts .exit)) × (6144 ≤ length (now (findings .entry)) → 65024 ≤ length (now (pairs .entry)) → 128 ≤ length (now (order .entry)) → DecidesOutright (now (trace .entry)) level r) ⌝ }
 {
     ferozhak::ferozhak_decide(trace, level, findings, pairs, order, counts)
 }

@@ -1,4 +1,4 @@
--- What the judge's answer says of the history, with buffers of 6,144, 65,536 and 128 bytes: it never comes to 12, 13 or 14.
+-- What the judge's answer says of the history, with buffers of 6,144, 65,024 and 128 bytes: it never comes to 12, 13 or 14.
 use Prim.Native.Nat.{ℕ}
 use mathlib.Core.Path.{_≡_, ap}
 use mathlib.Core.Bool.{true, false}
@@ -23,7 +23,7 @@ abbrev pub newFindings : List ℕ
 newFindings = replicate 6144 0
 
 abbrev pub newPairs : List ℕ
-newPairs = replicate 65536 0
+newPairs = replicate 65024 0
 
 abbrev pub newOrder : List ℕ
 newOrder = replicate 128 0
@@ -71,7 +71,7 @@ module _ (h : History) (level : ℕ) where
       rw (
         judged-rejected level newFindings newPairs newOrder h 0 t,
         rejection-fits level newFindings newPairs newOrder h (omega (arith, new-length 6144, findings-long h, findings-few ok))
-            (omega (arith, new-length 65536, pairs-long h level, pairs-few ok level)),
+            (omega (arith, new-length 65024, pairs-long h level, pairs-few ok level)),
       )
       (comes-rejected t))
 

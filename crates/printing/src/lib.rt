@@ -53,9 +53,9 @@ fn put_block(h: &[u64], k: &[u8], level: u8, out: &mut [u8], at: usize) -> usize
     requires { ⌜ Taken (now h) (now k) × (1 ≤ level) × (level ≤ 3) × Short at (blockText (historyOf (now h)) level) ⌝ }
     ensures { λ r. ⌜ Put (now (out .entry)) at (now (out .exit)) r (blockText (historyOf (now (h .entry))) level) ⌝ }
 {
-    // Enough for 1,024 findings, for every pair of 128 transactions, and for an order of them.
+    // Enough for 1,024 findings, for every pair of two different ones of 128 transactions, and for an order of them.
     let mut findings = [0u8; 6144];
-    let mut pairs = [0u8; 65536];
+    let mut pairs = [0u8; 65024];
     let mut order = [0u8; 128];
     let answer = judging::judge_history(h, k, level, &mut findings, &mut pairs, &mut order);
     match answer {

@@ -1,15 +1,15 @@
--- Forced pairs are of transactions that count as committed; when none of them is listed.
+-- Forced pairs are of two different transactions, which count as committed; when none of them is listed.
 use Prim.Native.Nat.{ℕ, _+_}
-use mathlib.Core.Path.{_≡_, refl, ap}
-use mathlib.Core.Bool.{Bool, true, not}
+use mathlib.Core.Path.{_≡_, refl, ap, sym, _∙_}
+use mathlib.Core.Bool.{Bool, true, false, not}
 use mathlib.Core.List.{[]}
 use mathlib.Core.Logic.{⊎-elim, _↔_}
 use native.Mathlib.Omega.{arith}
 use native.Mathlib.Decide.{ℕ-discrete}
 use lib.ListN.{length}
-use borrow.Author.Tests.{eqb-true, eq-eqb, ne-eqb, lt-ltb}
+use borrow.Author.Tests.{eqb-true, eq-eqb, ne-eqb, ltb-true, lt-ltb}
 use Rattle.base.specs.Base.{count, those}
-use Rattle.base.proofs.Tests.{clash, is-true, is-false, both, and-left, and-right, or-cases, or-left}
+use Rattle.base.proofs.Tests.{clash, is-true, is-false, not-true, both, and-left, and-right, or-cases, or-left}
 use Rattle.base.proofs.Searches.{some-at}
 use Rattle.base.proofs.Rows.{fit-unfit}
 use Rattle.base.proofs.Empty.{parts-none, those-none, joined-empty}
@@ -90,6 +90,42 @@ module _ (h : History) (a b : ℕ) where
     unfolding forced
     forced-committed e = ⊎-elim basic-committed rival-committed (or-cases _ _ e)
 
+-- the two are different
+module _ (h : History) (a b : ℕ) where
+  start-apart : isStart h a b ≡ true → a ≡ b → ⊥
+  unfolding isStart
+  start-apart e d =
+      let c = and-left _ _ e in
+      let z = eqb-true a 0 (and-left _ _ c) in
+      let l = ltb-true 0 b (and-right _ _ c) in
+      omega arith
+
+  session-apart : isSession h a b ≡ true → a ≡ b → ⊥
+  unfolding isSession
+  session-apart e d = let l = ltb-true a b (and-right _ _ (and-left _ _ (and-left _ _ (and-left _ _ e)))) in omega arith
+
+  -- an external read is of another's value
+  read-apart : isRead h a b ≡ true → a ≡ b → ⊥
+  unfolding isRead readsFrom isExternal
+  read-apart e d =
+      let r = some-at (readsFrom h b a) (opCount h + 1) 1 e in
+      let s : sourceOf h (r .at) ≡ a = eqb-true _ _ (and-right _ _ (r .passes)) in
+      let t : op h (r .at) .tx ≡ b = eqb-true _ _ (and-right _ _ (and-left _ _ (r .passes))) in
+      clash (eq-eqb _ _ (s ∙ d ∙ sym t)) (not-true _ (and-right _ _ (and-left _ _ (and-left _ _ (r .passes)))))
+
+  module _ (level : ℕ) where
+    -- a rival is not the source
+    rival-apart : isRival h level a b ≡ true → a ≡ b → ⊥
+    unfolding isRival settles
+    rival-apart e d =
+        let r = some-at (settles h level a b) (opCount h + 1) 1 (and-right _ _ e) in
+        clash (eq-eqb a b d) (not-true _ (and-right _ _ (and-left _ _ (and-left _ _ (and-left _ _ (r .passes))))))
+
+    pub forced-apart : forced h level a b ≡ true → a ≡ b → ⊥
+    unfolding forced basic
+    forced-apart e =
+        ⊎-elim (λ s. ⊎-elim (λ t. ⊎-elim start-apart session-apart (or-cases _ _ t)) read-apart (or-cases _ _ s)) rival-apart (or-cases _ _ e)
+
 -- the first of what leads through basic pairs counts as well
 pub leads-committed : (h : History) (a b : ℕ) → leads h a b ≡ true → committed h a ≡ true
 unfolding leads
@@ -117,6 +153,10 @@ module _ (h : History) (level : ℕ) where
       }
 
   -- ── listed pairs ──
+
+  -- none is of one transaction with itself
+  pub never-itself : (a : ℕ) → isListed (size h) (forced h level) a a ≡ false
+  never-itself a = is-false _ (λ t. forced-apart h a a level (listed-iff forces a a .0 t .forced) refl)
 
   -- one transaction is the first of no pair
   pairsOf-iff : (a : ℕ) → (pairsOf h level a ≡ []) ↔ ((b : ℕ) → Listed (forced h level) a b → ⊥)

@@ -6,16 +6,23 @@ use mathlib.Core.List.{List, _++_}
 use native.Mathlib.Omega.{arith}
 use native.Mathlib.Nat.{suc-add, pow-suc, mul-assoc, mul-comm}
 use lib.ListN.{length, getD, drop, length-take, length-drop}
+use lib.Seq.{getD-drop}
 use lib.Dec.{ltb, eqb}
 use borrow.Author.Tests.{ltb-true, ltb-false, eqb-true, eqb-false, eq-eqb, ne-eqb, lt-ltb, le-ltb}
 use Rattle.base.specs.Base.{_and_, _or_, pick, Row, firstFit}
 use Rattle.base.proofs.Tests.{ifso, neither-left, neither-right, not-false, pick-on, pick-off}
-use Rattle.rules.specs.Numbers.{le, part}
-use Rattle.rules.specs.Records.{lenAt, kindAt, nextAt, isSecond, fieldsFrom, lows, eventOf, eventAt, breaks, isUnknown, isMisfit, isLate, isOtherEdition, frameRows}
-use Rattle.rules.specs.declared.Event.{Event}
-use Rattle.frame.specs.Framing.{kindRows, eventBy, Fit, framing}
+use Rattle.rules.specs.Numbers.{le}
+use Rattle.rules.proofs.Numbers.{le-same, le-take}
+use Rattle.rules.specs.Records.{lenAt, kindAt, nextAt, payloadAt, isSecond, fieldsFrom, sessionAt, lows, eventAt, breaks, isUnknown, isMisfit, isLate, isOtherEdition, frameRows}
+use Rattle.frame.specs.Framing.{kindRows, sessionOf, saidOf, saidAt, Fit, framing}
+use Rattle.frame.specs.declared.Said.{Said}
 use Rattle.frame.specs.declared.Framed.the-variants as F
 use Rattle.base.proofs.Rows.{fit-past, fit-here, fit-none, fit-unfit, RowsCounted, fit-behind}
+
+-- a byte is a number of one
+pub one-byte : (s : List ℕ) (at : ℕ) → getD s at 0 ≡ le 1 s at
+unfolding le
+one-byte s at = omega arith
 
 -- a number of m + n bytes is its lower m bytes and its upper n
 pub le-add : (m n : ℕ) (s : List ℕ) (at : ℕ) → le (m + n) s at ≡ le m s at + 256 ^ m * le n s (at + m)
@@ -32,11 +39,20 @@ le-add (suc m) n s at =
     ap (λ (k : ℕ). k * le n s (at + 1 + m)) (pow-suc 256 m ∙ mul-comm (256 ^ m) 256) ∙ mul-assoc 256 (256 ^ m) (le n s (at + 1 + m)) in
     rw (a, suc-add m n) (omega arith)
 
--- a part that lies within has the length that its ends say
-pub part-length : (a e : ℕ) (s : List ℕ) → e ≤ length s → length (part a e s) ≡ e - a
-part-length a e s h = length-take (e - a) (drop a s) ∙ ap (λ (n : ℕ). min (e - a) n) (length-drop a s) ∙ omega arith
+-- the length field counts the six bytes of kind and serial, and the payload
+pub payload-length : (s : List ℕ) (at : ℕ) → 6 ≤ lenAt s at → nextAt s at ≤ length s → length (payloadAt s at) + 6 ≡ lenAt s at
+payload-length s at h r =
+    let n : length (payloadAt s at) ≡ lenAt s at - 6 =
+    length-take (nextAt s at - (at + 8)) (drop (at + 8) s) ∙ ap (λ (m : ℕ). min (nextAt s at - (at + 8)) m) (length-drop (at + 8) s) ∙ omega arith in
+    omega arith
 
--- a payload is as long as its kind's reader needs: the length field counts the six bytes of kind and serial too
+-- the number that a payload of two bytes or more begins with
+pub payload-begins : (s : List ℕ) (at : ℕ) → 8 ≤ lenAt s at → le 2 (payloadAt s at) 0 ≡ le 2 s (at + 8)
+payload-begins s at l =
+    le-take 2 0 (nextAt s at - (at + 8)) (drop (at + 8) s) (omega arith)
+    ∙ le-same 2 (drop (at + 8) s) s 0 (at + 8) (λ i h. let z : 0 + i ≡ i = omega arith in rw z (getD-drop (at + 8) s i 0))
+
+-- a payload is as long as its kind's reader needs
 pub long-enough : (second : Bool) (p : List ℕ) {kind k n : ℕ} → kind ≡ k → getD (lows second) kind 0 ≤ length p + 6 → n + 6 ≡ getD (lows second) k 0 → n ≤ length p
 long-enough second p {kind} {k} e h q = let g : getD (lows second) k 0 ≤ length p + 6 = rw (← e) h in omega arith
 
@@ -53,11 +69,11 @@ leasts true = record { opens = refl; reads = refl; writes = refl; closes = refl;
 leasts false = record { opens = refl; reads = refl; writes = refl; closes = refl; ends = refl }
 
 -- what a record of the kind k says is what one of this kind does, where k is its kind
-pub of-kind : (second : Bool) (p : List ℕ) {kind k : ℕ} {r : Event} → kind ≡ k → r ≡ eventOf second k p → r ≡ eventOf second kind p
+pub of-kind : (second : Bool) (p : List ℕ) {kind k : ℕ} {r : Said} → kind ≡ k → r ≡ saidOf second k p → r ≡ saidOf second kind p
 of-kind second p e h = rw e h
 
 -- what is read in the trace's own edition is the record's event
-pub event-here : (s : List ℕ) (at : ℕ) {second : Bool} → second ≡ isSecond s → eventBy second s at ≡ eventAt s at
+pub event-here : (s : List ℕ) (at : ℕ) {second : Bool} → second ≡ isSecond s → saidAt second s at .event ≡ eventAt s at
 unfolding eventAt
 event-here s at q = rw q
 
@@ -177,7 +193,7 @@ module _ (second : Bool) (s : List ℕ) (at e : ℕ) where
   unfolding framing pick
   framing-bad q h = rw (q) (rw (lt-ltb 0 (firstFit (frameRows second s at e)) (omega arith)) refl)
 
-  pub framing-good : firstFit (frameRows second s at e) ≡ 0 → F.Good (eventBy second s at) ≡ framing second s at e
+  pub framing-good : firstFit (frameRows second s at e) ≡ 0 → F.Good (saidAt second s at) ≡ framing second s at e
   unfolding framing pick
   framing-good h = rw h
 
@@ -191,11 +207,11 @@ module _ (second : Bool) (s : List ℕ) (at e : ℕ) where
       let q : firstFit (frameRows second s at e) ≡ n = cc in
       (q, rw (← q) (ltb-true _ _ t)))
       (λ t.
-      let g : F.Good (eventBy second s at) ≡ F.Bad n = sym (pick-off _ _ _ t) ∙ h in
+      let g : F.Good (saidAt second s at) ≡ F.Bad n = sym (pick-off _ _ _ t) ∙ h in
       let z : _≡_ {A = ℕ} 0 1 = cc in
       absurd (omega arith))
 
-  pub is-good : {x : Event} → framing second s at e ≡ F.Good x → (firstFit (frameRows second s at e) ≡ 0) × (eventBy second s at ≡ x)
+  pub is-good : {x : Said} → framing second s at e ≡ F.Good x → (firstFit (frameRows second s at e) ≡ 0) × (saidAt second s at ≡ x)
   unfolding framing
   is-good {x} h =
       ifso (ltb 0 (firstFit (frameRows second s at e)))
@@ -204,16 +220,19 @@ module _ (second : Bool) (s : List ℕ) (at e : ℕ) where
       let z : _≡_ {A = ℕ} 0 1 = cc in
       absurd (omega arith))
       (λ t.
-      let g : F.Good (eventBy second s at) ≡ F.Good x = sym (pick-off _ _ _ t) ∙ h in
+      let g : F.Good (saidAt second s at) ≡ F.Good x = sym (pick-off _ _ _ t) ∙ h in
       let z : firstFit (frameRows second s at e) ≤ 0 = ltb-false _ _ t in
       (omega arith, cc))
 
-  pub good-fit : {x : Event} → framing second s at e ≡ F.Good x → Fit second s at
+  pub good-fit : {x : Said} → framing second s at e ≡ F.Good x → Fit second s at
   good-fit h = fit (is-good h .0)
 
-  -- in edition 2 there is a session to read
-  pub good-session : {x : Event} → framing second s at e ≡ F.Good x → second ≡ true → at + 10 ≤ length s
-  good-session h q = let f = good-fit h in omega (arith, f .session q, f .room)
+  -- its session is the one that its kind's reader finds in the payload, which in edition 2 begins with the session
+  pub good-session : {x : Said} → framing second s at e ≡ F.Good x → x .session ≡ sessionOf second (payloadAt s at) (x .event)
+  good-session h = rw (← is-good h .1)
+
+  pub good-begins : {x : Said} → framing second s at e ≡ F.Good x → second ≡ true → le 2 (payloadAt s at) 0 ≡ sessionAt s at
+  good-begins h q = payload-begins s at (good-fit h .session q)
 
   -- rows behind those of the framing: where it passed they decide, where not they do not matter
   counted : RowsCounted (frameRows second s at e)

@@ -6,8 +6,8 @@ ghost use lib.ListN.{length, getD};
 ghost use lib.Dec.{ltb};
 ghost use Rattle.base.specs.Base.{_or_, firstFit};
 ghost use Rattle.rules.specs.Numbers.{le};
-ghost use Rattle.rules.specs.Records.{nextAt, isSecond, fieldsFrom, lows, eventOf, breaks, isUnknown, isMisfit, isLate, isOtherEdition, frameRows};
-ghost use Rattle.frame.specs.Framing.{kindRows, eventBy, Fit, framing};
+ghost use Rattle.rules.specs.Records.{lenAt, nextAt, payloadAt, isSecond, fieldsFrom, lows, breaks, isUnknown, isMisfit, isLate, isOtherEdition, frameRows};
+ghost use Rattle.frame.specs.Framing.{kindRows, said, sessionIn, saidOf, saidAt, Fit, framing};
 use rules::Event;
 
 // "all little-endian": the numbers that 2, 4 and 8 bytes spell.
@@ -42,50 +42,26 @@ pub fn is_second(s: &[u8]) -> bool
     u16_at(s, 2) == 16
 }
 
-// Each kind's own reader gets the payload, the part of the trace past the record's eight-byte header. In edition 2 "read and write
-// .. and close .. have the session before their other fields": `from` is where these begin.
-
-// Kind 1, open: session, 2 bytes.
-fn read_open(p: &[u8]) -> Event
-    requires { ⌜ 2 ≤ length (now p) ⌝ }
-    ensures { λ r. ⌜ r ≡ Event.Open (le 2 (now (p .entry)) 0) ⌝ }
+// The payload of the record at `at`: the part of the trace past the record's eight-byte header.
+fn payload_at(s: &[u8], at: usize) -> &[u8]
+    requires { ⌜ (6 ≤ lenAt (now s) at) × (nextAt (now s) at ≤ length (now s)) ⌝ }
+    ensures { λ r. ⌜ now r ≡ payloadAt (now (s .entry)) at ⌝ }
 {
-    Event::Open(u16_at(p, 0))
+    let a = at + 8;
+    let e = at + 2 + u16_at(s, at) as usize;
+    &s[a..e]
 }
 
-// Kind 2, read: key, 4; value, 8.
-fn read_read(p: &[u8], from: usize) -> Event
-    requires { ⌜ from + 12 ≤ length (now p) ⌝ }
-    ensures { λ r. ⌜ r ≡ Event.Read (le 4 (now (p .entry)) from) (le 8 (now (p .entry)) (from + 4)) ⌝ }
-{
-    Event::Read(u32_at(p, from), u64_at(p, from + 4))
+// What a record says: the session that it names, 0 where it names none, and its event.
+pub struct Said {
+    pub session: u16,
+    pub event: Event,
 }
 
-// Kind 3, write: key, 4; value, 8.
-fn read_write(p: &[u8], from: usize) -> Event
-    requires { ⌜ from + 12 ≤ length (now p) ⌝ }
-    ensures { λ r. ⌜ r ≡ Event.Write (le 4 (now (p .entry)) from) (le 8 (now (p .entry)) (from + 4)) ⌝ }
-{
-    Event::Write(u32_at(p, from), u64_at(p, from + 4))
-}
+// Each kind's own reader gets the payload, and nothing else of the trace. In edition 2 "read and write .. and close .. have the session before
+// their other fields".
 
-// Kind 4, close: status, 1 byte.
-fn read_close(p: &[u8], from: usize) -> Event
-    requires { ⌜ from + 1 ≤ length (now p) ⌝ }
-    ensures { λ r. ⌜ r ≡ Event.Close (le 1 (now (p .entry)) from) ⌝ }
-{
-    Event::Close(p[from] as u16)
-}
-
-// Kind 5, end: number of transactions opened, 2 bytes.
-fn read_end(p: &[u8]) -> Event
-    requires { ⌜ 2 ≤ length (now p) ⌝ }
-    ensures { λ r. ⌜ r ≡ Event.End (le 2 (now (p .entry)) 0) ⌝ }
-{
-    Event::End(u16_at(p, 0))
-}
-
-// Where those fields begin: behind the session's two bytes, or with the payload.
+// Where those other fields begin: behind the session's two bytes, or with the payload.
 fn fields_from(second: bool) -> usize
     ensures { λ r. ⌜ r ≡ fieldsFrom second ⌝ }
 {
@@ -95,31 +71,112 @@ fn fields_from(second: bool) -> usize
     0
 }
 
-// What the payload p of a record of this kind says. A note's text has no part in judging; kind 16 says the edition.
-fn event_of(second: bool, kind: u16, p: &[u8]) -> Event
-    requires { ⌜ getD (lows second) kind 0 ≤ length (now p) + 6 ⌝ }
-    ensures { λ r. ⌜ r ≡ eventOf second kind (now (p .entry)) ⌝ }
+// The session before them, 0 in edition 1, which has none there.
+fn session_in(p: &[u8], second: bool) -> u16
+    requires { ⌜ fieldsFrom second ≤ length (now p) ⌝ }
+    ensures { λ r. ⌜ r ≡ sessionIn second (now (p .entry)) ⌝ }
 {
-    let from = fields_from(second);
-    match kind {
-        1 => read_open(p),
-        2 => read_read(p, from),
-        3 => read_write(p, from),
-        4 => read_close(p, from),
-        5 => read_end(p),
-        6 => Event::Note,
-        _ => Event::Other,
+    if second {
+        return u16_at(p, 0);
+    }
+    0
+}
+
+// Kind 1, open: session, 2 bytes.
+fn read_open(p: &[u8]) -> Said
+    requires { ⌜ 2 ≤ length (now p) ⌝ }
+    ensures { λ r. ⌜ r ≡ said (le 2 (now (p .entry)) 0) (Event.Open (le 2 (now (p .entry)) 0)) ⌝ }
+{
+    let session = u16_at(p, 0);
+    Said {
+        session: session,
+        event: Event::Open(session),
     }
 }
 
-// The event of the record at `at`, whose framing passed.
-fn event_at(s: &[u8], at: usize, second: bool) -> Event
-    requires { ⌜ Fit second (now s) at ⌝ }
-    ensures { λ r. ⌜ r ≡ eventBy second (now (s .entry)) at ⌝ }
+// Kind 2, read: key, 4; value, 8.
+fn read_read(p: &[u8], second: bool) -> Said
+    requires { ⌜ fieldsFrom second + 12 ≤ length (now p) ⌝ }
+    ensures { λ r. ⌜ r ≡ said (sessionIn second (now (p .entry))) (Event.Read (le 4 (now (p .entry)) (fieldsFrom second)) (le 8 (now (p .entry)) (fieldsFrom second + 4))) ⌝ }
 {
-    let a = at + 8;
-    let e = at + 2 + u16_at(s, at) as usize;
-    event_of(second, u16_at(s, at + 2), &s[a..e])
+    let from = fields_from(second);
+    Said {
+        session: session_in(p, second),
+        event: Event::Read(u32_at(p, from), u64_at(p, from + 4)),
+    }
+}
+
+// Kind 3, write: key, 4; value, 8.
+fn read_write(p: &[u8], second: bool) -> Said
+    requires { ⌜ fieldsFrom second + 12 ≤ length (now p) ⌝ }
+    ensures { λ r. ⌜ r ≡ said (sessionIn second (now (p .entry))) (Event.Write (le 4 (now (p .entry)) (fieldsFrom second)) (le 8 (now (p .entry)) (fieldsFrom second + 4))) ⌝ }
+{
+    let from = fields_from(second);
+    Said {
+        session: session_in(p, second),
+        event: Event::Write(u32_at(p, from), u64_at(p, from + 4)),
+    }
+}
+
+// Kind 4, close: status, 1 byte.
+fn read_close(p: &[u8], second: bool) -> Said
+    requires { ⌜ fieldsFrom second + 1 ≤ length (now p) ⌝ }
+    ensures { λ r. ⌜ r ≡ said (sessionIn second (now (p .entry))) (Event.Close (le 1 (now (p .entry)) (fieldsFrom second))) ⌝ }
+{
+    let from = fields_from(second);
+    Said {
+        session: session_in(p, second),
+        event: Event::Close(p[from] as u16),
+    }
+}
+
+// Kind 5, end: number of transactions opened, 2 bytes.
+fn read_end(p: &[u8]) -> Said
+    requires { ⌜ 2 ≤ length (now p) ⌝ }
+    ensures { λ r. ⌜ r ≡ said 0 (Event.End (le 2 (now (p .entry)) 0)) ⌝ }
+{
+    Said {
+        session: 0,
+        event: Event::End(u16_at(p, 0)),
+    }
+}
+
+// Kind 16: the number of the edition, 2 bytes.
+fn read_edition(p: &[u8]) -> u16
+    requires { ⌜ 2 ≤ length (now p) ⌝ }
+    ensures { λ r. ⌜ r ≡ le 2 (now (p .entry)) 0 ⌝ }
+{
+    u16_at(p, 0)
+}
+
+// What the payload p of a record of this kind says. A note's text has no part in judging; kind 16's number is checked by row 8, and is no event.
+fn said_of(second: bool, kind: u16, p: &[u8]) -> Said
+    requires { ⌜ getD (lows second) kind 0 ≤ length (now p) + 6 ⌝ }
+    ensures { λ r. ⌜ r ≡ saidOf second kind (now (p .entry)) ⌝ }
+{
+    match kind {
+        1 => read_open(p),
+        2 => read_read(p, second),
+        3 => read_write(p, second),
+        4 => read_close(p, second),
+        5 => read_end(p),
+        6 => Said {
+            session: 0,
+            event: Event::Note,
+        },
+        _ => Said {
+            session: 0,
+            event: Event::Other,
+        },
+    }
+}
+
+// What the record at `at` says, whose framing passed.
+fn said_at(s: &[u8], at: usize, second: bool) -> Said
+    requires { ⌜ Fit second (now s) at ⌝ }
+    ensures { λ r. ⌜ r ≡ saidAt second (now (s .entry)) at ⌝ }
+{
+    said_of(second, u16_at(s, at + 2), payload_at(s, at))
 }
 
 // Row 5, "serial doesn't follow"; "The first serial is free".
@@ -193,13 +250,13 @@ fn is_late(kind: u16, at: usize) -> bool
 
 // Row 8, "for another payload" than 2.
 fn is_other_edition(s: &[u8], at: usize, kind: u16) -> bool
-    requires { ⌜ ((kind ≡ 16) → at + 10 ≤ length (now s)) ⌝ }
+    requires { ⌜ ((kind ≡ 16) → lenAt (now s) at ≡ 8) × (nextAt (now s) at ≤ length (now s)) ⌝ }
     ensures { λ r. ⌜ r ≡ isOtherEdition kind (le 2 (now (s .entry)) (at + 8)) ⌝ }
 {
     if kind != 16 {
         return false;
     }
-    u16_at(s, at + 8) != 2
+    read_edition(payload_at(s, at)) != 2
 }
 
 // The number of the first row that refuses the record at `at` for its kind, 0 where none does: "6, length for its kind (4)", then those of kind 16.
@@ -247,9 +304,9 @@ fn frame_no(s: &[u8], at: usize, expected: u32, second: bool) -> u8
     kind_no(s, at, second)
 }
 
-// What comes of framing a record: its event, or the number of the row that refuses it.
+// What comes of framing a record: what it says, or the number of the row that refuses it.
 pub enum Framed {
-    Good(Event),
+    Good(Said),
     Bad(u8),
 }
 
@@ -262,5 +319,5 @@ pub fn frame_at(s: &[u8], at: usize, expected: u32, second: bool) -> Framed
     if 0 < no {
         return Framed::Bad(no);
     }
-    Framed::Good(event_at(s, at, second))
+    Framed::Good(said_at(s, at, second))
 }

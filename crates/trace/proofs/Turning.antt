@@ -1,6 +1,6 @@
 -- One record: from the framing and the step to the turn, and what a turn says.
 use Prim.Native.Nat.{ℕ, _+_, _≤_, _<_}
-use mathlib.Core.Path.{_≡_, refl, sym, _∙_, subst}
+use mathlib.Core.Path.{_≡_, refl, ap, sym, _∙_, subst}
 use mathlib.Core.Bool.{Bool, true, false}
 use mathlib.Core.Logic.{_⊎_, inl, inr}
 use mathlib.Core.List.{List}
@@ -10,24 +10,26 @@ use borrow.Author.Tests.{ltb-true, ltb-false, lt-ltb}
 use Rattle.base.specs.Base.{pick}
 use Rattle.base.proofs.Tests.{ifso, pick-on, pick-off}
 use Rattle.rules.specs.History.{History}
-use Rattle.rules.specs.Records.{nextAt, nextSerial, isSecond, sessionAt, eventAt}
-use Rattle.rules.specs.Reading.{isEnd, notesBehind, stepRows, metIn, met, refusalNo}
+use Rattle.rules.specs.Records.{nextAt, nextSerial, payloadAt, isSecond, sessionAt, eventAt}
+use Rattle.rules.specs.Numbers.{le}
+use Rattle.rules.specs.Reading.{isEnd, notesBehind, misplaced, stepRows, entered, metBy, metIn, met, refusalNo}
 use Rattle.rules.specs.declared.Event.{Event}
 use Rattle.rules.specs.declared.Event.the-variants as E
-use Rattle.frame.specs.Framing.{Fit, framing}
+use Rattle.frame.specs.Framing.{sessionOf, Fit, framing}
+use Rattle.frame.specs.declared.Said.{Said}
 use Rattle.frame.specs.declared.Framed.{Framed}
 use Rattle.frame.specs.declared.Framed.the-variants as F
 use Rattle.base.proofs.Rows.{fit-append}
-use Rattle.frame.proofs.Frames.{event-here, is-bad, is-good, good-fit, behind}
+use Rattle.frame.proofs.Frames.{event-here, is-bad, is-good, good-fit, good-session, good-begins, behind}
 use Rattle.table.specs.Table.{historyOf, Held}
-use Rattle.steps.specs.Steps.{goes, stepNo, Took}
+use Rattle.steps.specs.Steps.{put, goes, stepNo, Took}
 use Rattle.steps.specs.declared.Next.{Next}
 use Rattle.steps.specs.declared.Next.the-variants as N
 use Rattle.trace.specs.declared.Out.{Out}
 use Rattle.trace.specs.declared.Out.the-variants.{Bad}
 use Rattle.trace.specs.declared.Turn.{Turn}
 use Rattle.trace.specs.declared.Turn.the-variants.{More, Stop}
-use Rattle.trace.specs.Turns.{noAt, metAt, finish, turn, putAt, enteredAt, sessionIn, Turned}
+use Rattle.trace.specs.Turns.{noAt, metAt, finish, turn, putAt, enteredAt, Turned}
 
 -- ── what a step's answer says of its event e, where m is the number of the row that refuses it ──
 
@@ -54,11 +56,30 @@ says m e r q =
     (ifso (ltb 0 m) (λ t. subst (Says m e) (sym (pick-on _ _ _ t)) (refl, ltb-true _ _ t))
     (λ t. let z : m ≤ 0 = ltb-false _ _ t in subst (Says m e) (sym (pick-off _ _ _ t)) (passes m e (omega arith))))
 
--- the session that is handed on is the record's, wherever the edition asks for it
-pub meets-own : (second : Bool) (s : List ℕ) (at : ℕ) (h : History) (e : Event) → metIn second h (sessionIn second s at) e ≡ metIn second h (sessionAt s at) e
-unfolding metIn sessionIn pick
-meets-own true s at h e = refl
-meets-own false s at h e = refl
+-- ── the session that a record's reader answers is the record's, wherever its step asks for it ──
+
+module _ {r : Next} {g2 g : List ℕ} where
+  -- a note and a record of kind 16 do the same whatever they meet
+  any-note : (t u : ℕ) → Took r g2 g t E.Note → Took r g2 g u E.Note
+  unfolding stepNo stepRows misplaced put entered
+  any-note t u x = record { is = x .is; words = x .words; history = x .history; held = x .held }
+
+  any-other : (t u : ℕ) → Took r g2 g t E.Other → Took r g2 g u E.Other
+  unfolding stepNo stepRows misplaced put entered
+  any-other t u x = record { is = x .is; words = x .words; history = x .history; held = x .held }
+
+  -- p is the payload, and n the session that it begins with in edition 2
+  took-own : (second : Bool) (p : List ℕ) (n : ℕ) (h : History) (e : Event) → (second ≡ true → le 2 p 0 ≡ n)
+      → Took r g2 g (metIn second h (sessionOf second p e) e) e → Took r g2 g (metIn second h n e) e
+  unfolding metIn metBy isEnd sessionOf pick
+  took-own false p n h e q x = x
+  took-own true p n h (E.Open m) q x = rw (← q refl) x
+  took-own true p n h (E.Read k v) q x = rw (← q refl) x
+  took-own true p n h (E.Write k v) q x = rw (← q refl) x
+  took-own true p n h (E.Close c) q x = rw (← q refl) x
+  took-own true p n h (E.End m) q x = x
+  took-own true p n h E.Note q x = any-note _ _ x
+  took-own true p n h E.Other q x = any-other _ _ x
 
 -- ── from the framing and the step to the turn ──
 
@@ -69,17 +90,17 @@ module _ (s : List ℕ) (at serial : ℕ) (h : History) {second : Bool} (own : s
       let b = is-bad second s at serial q in
       (rw (← own) (fit-append _ _ (rw (b .0) (b .1)) ∙ b .0), b .1)
 
-  module _ {e : Event} (q : framing second s at serial ≡ F.Good e) where
-    same : eventAt s at ≡ e
-    same = sym (event-here s at own) ∙ is-good second s at serial q .1
+  module _ {w : Said} (q : framing second s at serial ≡ F.Good w) where
+    same : eventAt s at ≡ w .event
+    same = sym (event-here s at own) ∙ ap (λ (x : Said). x .event) (is-good second s at serial q .1)
 
-    meets : metAt s at h ≡ metIn second h (sessionAt s at) e
+    meets : metAt s at h ≡ metIn second h (sessionAt s at) (w .event)
     meets = rw (← own, same)
 
-    number : noAt s at serial h ≡ stepNo h (metIn second h (sessionAt s at) e) e
+    number : noAt s at serial h ≡ stepNo h (metIn second h (sessionAt s at) (w .event)) (w .event)
     unfolding noAt refusalNo stepNo met metIn
     number =
-        let b = behind second s at serial (stepRows h (metIn second h (sessionAt s at) e) e) (is-good second s at serial q .0) in
+        let b = behind second s at serial (stepRows h (metIn second h (sessionAt s at) (w .event)) (w .event)) (is-good second s at serial q .0) in
         rw (same, ← own) b
 
 -- the framing refuses
@@ -92,8 +113,13 @@ turned-bad s g at serial notes own q h =
     record { is = rw (b .0, t); words = rw (b .0, t); history = rw (b .0, t); held = h }
 
 -- the framing passes, and the step answers
-module _ (s g g2 : List ℕ) (at serial notes : ℕ) (e : Event) (next : Next) {second : Bool} (own : second ≡ isSecond s)
-    (fr : framing second s at serial ≡ F.Good e) (took : Took next g2 g (metIn second (historyOf g) (sessionAt s at) e) e) where
+module _ (s g g2 : List ℕ) (at serial notes : ℕ) (w : Said) (next : Next) {second : Bool} (own : second ≡ isSecond s)
+    (fr : framing second s at serial ≡ F.Good w) (x : Took next g2 g (metIn second (historyOf g) (w .session) (w .event)) (w .event)) where
+  took : Took next g2 g (metIn second (historyOf g) (sessionAt s at) (w .event)) (w .event)
+  took =
+      took-own second (payloadAt s at) (sessionAt s at) (historyOf g) (w .event) (good-begins second s at serial fr)
+      (rw (← good-session second s at serial fr) x)
+
   turned : {r : Turn} → r ≡ turn s at serial notes (historyOf g) → Turned r g2 g s at serial notes
   unfolding putAt enteredAt
   turned q =
@@ -102,8 +128,10 @@ module _ (s g g2 : List ℕ) (at serial notes : ℕ) (e : Event) (next : Next) {
       let e = same s at serial (historyOf g) own fr in
       record { is = q; words = rw (n, m, e) (took .words); history = rw (n, m, e) (took .history); held = took .held }
 
-  told : (r : Next) → next ≡ r → Says (noAt s at serial (historyOf g)) e r
-  told r q = rw (number s at serial (historyOf g) own fr) (says (stepNo (historyOf g) (metIn second (historyOf g) (sessionAt s at) e) e) e r (sym q ∙ took .is))
+  told : (r : Next) → next ≡ r → Says (noAt s at serial (historyOf g)) (w .event) r
+  told r q =
+      rw (number s at serial (historyOf g) own fr)
+      (says (stepNo (historyOf g) (metIn second (historyOf g) (sessionAt s at) (w .event)) (w .event)) (w .event) r (sym q ∙ took .is))
 
   pub turned-refuse : {n : ℕ} → next ≡ N.Refuse n → Turned (Stop (Bad n at)) g2 g s at serial notes
   unfolding turn pick Says
@@ -138,7 +166,7 @@ fit-at s at serial h t = go (framing (isSecond s) s at serial) refl
   where
     go : (f : Framed) → framing (isSecond s) s at serial ≡ f → Fit (isSecond s) s at
     go (F.Bad n) q = let b = no-bad s at serial h refl q in let z : noAt s at serial h ≤ 0 = ltb-false _ _ t in absurd (omega (arith, b .0, b .1))
-    go (F.Good e) q = good-fit (isSecond s) s at serial q
+    go (F.Good w) q = good-fit (isSecond s) s at serial q
 
 pub record Onward (s : List ℕ) (at serial notes : ℕ) (h : History) (after follow count : ℕ) : Type 0 where
   pub passes : ltb 0 (noAt s at serial h) ≡ false

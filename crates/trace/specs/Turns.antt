@@ -1,7 +1,6 @@
 -- One record: what the loop keeps, and how it goes on.
 use Prim.Native.Nat.{ℕ}
 use mathlib.Core.Path.{_≡_}
-use mathlib.Core.Bool.{Bool}
 use mathlib.Core.List.{List}
 use lib.ListN.{length}
 use lib.Dec.{ltb}
@@ -45,10 +44,6 @@ putAt s at serial g = pick (ltb 0 (noAt s at serial (historyOf g))) g (put g (me
 
 unfoldable pub enteredAt : List ℕ → ℕ → ℕ → History → History
 enteredAt s at serial h = pick (ltb 0 (noAt s at serial h)) h (entered h (metAt s at h) (eventAt s at))
-
--- the session of the record at `at`, where its edition has one
-unfoldable pub sessionIn : Bool → List ℕ → ℕ → ℕ
-sessionIn second s at = pick second (sessionAt s at) 0
 
 -- the answer r to the record at `at`, which made g2 of the table g
 pub record Turned (r : Turn) (g2 g s : List ℕ) (at serial notes : ℕ) : Type 0 where

@@ -1,15 +1,13 @@
 // The whole reading of a trace: its history goes into the table h, and its notes are counted.
 ghost use Prim.Native.Nat.{_+_, _≤_, _<_};
 ghost use mathlib.Core.Path.{_≡_};
-ghost use mathlib.Core.Bool.{true};
 ghost use lib.ListN.{length};
-ghost use Rattle.rules.specs.Records.{isSecond, sessionAt};
+ghost use Rattle.rules.specs.Records.{isSecond};
 ghost use Rattle.table.specs.Table.{tableWords, historyOf, Held};
-ghost use Rattle.sessions.specs.Open.{Beside, TookOf};
-ghost use Rattle.trace.specs.Turns.{finish as finishing, sessionIn, Turned};
+ghost use Rattle.sessions.specs.Open.{Beside};
+ghost use Rattle.trace.specs.Turns.{finish as finishing, Turned};
 ghost use Rattle.trace.specs.Trace.{TraceRead};
 use frame::Framed;
-use rules::Event;
 use steps::Next;
 
 // The trace was read, with its number of notes; or it was refused, with the number of the row and the place.
@@ -34,26 +32,6 @@ fn finish(s: &[u8], at: usize, notes: usize) -> Out
     Out::Good(notes)
 }
 
-// The session of the record at `at`, where its edition has one.
-fn session_at(s: &[u8], at: usize, second: bool) -> u16
-    requires { ⌜ (second ≡ true → at + 10 ≤ length (now s)) ⌝ }
-    ensures { λ r. ⌜ r ≡ sessionIn second (now (s .entry)) at ⌝ }
-{
-    if second {
-        return frame::u16_at(s, at + 8);
-    }
-    0
-}
-
-// The step of the record at `at`, whose event this is.
-fn take(event: Event, s: &[u8], at: usize, second: bool, h: &mut [u64], o: &mut [u8]) -> Next
-    requires { ⌜ Held (now h) × Beside second (now o) (historyOf (now h)) × (second ≡ true → at + 10 ≤ length (now s)) ⌝ }
-    ensures { λ r. ⌜ TookOf r (now (h .exit)) (now (o .exit)) (now (h .entry)) (now (o .entry)) second (sessionAt (now (s .entry)) at) event ⌝ }
-{
-    let session = session_at(s, at, second);
-    sessions::take(event, session, second, h, o)
-}
-
 // One record, at `at`, where `serial` has to come.
 fn turn_at(
     s: &[u8],
@@ -70,8 +48,9 @@ fn turn_at(
     let framed = frame::frame_at(s, at, serial, second);
     match framed {
         Framed::Bad(no) => Turn::Stop(Out::Bad(no, at)),
-        Framed::Good(event) => {
-            let next = take(event, s, at, second, h, o);
+        Framed::Good(said) => {
+            let event = said.event;
+            let next = sessions::take(event, said.session, second, h, o);
             let len = frame::u16_at(s, at) as usize;
             let after = at + 2 + len;
             // "after 4,294,967,295 comes 0"

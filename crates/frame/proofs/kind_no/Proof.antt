@@ -29,10 +29,11 @@ returns-3 c =
     (sym (m .before .is-misfit .ensures) ∙ m .if2 .left) (sym (c .before .is-late .ensures) ∙ c .if3 .taken)
 
 is-other-edition-requires : tie.Need-is-other-edition-requires
-is-other-edition-requires c κs e =
+is-other-edition-requires c κs =
     let m = c .before .before in
-    let u = m .before .before in
-    omega (arith, edition-fits _ _ _ (sym (m .before .is-misfit .ensures) ∙ m .if2 .left) e)
+    let k = m .before .before .before .before in
+    let l = k .before in
+    (λ e. sym (l .u16-at .ensures) ∙ edition-fits _ _ _ (sym (m .before .is-misfit .ensures) ∙ m .if2 .left) e, l .before .before .pre .1)
 
 returns-4 : tie.Need-returns-4
 returns-4 c =

@@ -1,7 +1,7 @@
 use Prim.Native.Nat.{_%_, _+_, _^_, ℕ}
 use mathlib.Core.Path.{_∙_, refl, ap, sym}
 use native.Mathlib.Omega.{arith}
-use Rattle.frame.proofs.Frames.{good-fit, good-session}
+use Rattle.frame.proofs.Frames.{good-fit}
 use Rattle.trace.proofs.Turning.{turned-bad, turned-count, turned-done, turned-go, turned-refuse}
 use Rattle.trace.specs.Turns.{finish}
 use borrow.Author.Needs.{needs}
@@ -10,9 +10,8 @@ use Rattle.trace.proofs.turn_at.Tie as tie
 
 take-requires : tie.Need-take-requires
 take-requires c κs =
-    let m = c .before .before .before in
-    let p = m .before .before .before .before .before .before .pre in
-    (p .0, p .4, good-session _ _ _ _ (sym (m .before .before .frame-at .ensures) ∙ m .framed2 .given .1))
+    let p = c .before .before .before .before .before .before .before .before .before .pre in
+    (p .0, p .4)
 
 u16-at-requires : tie.Need-u16-at-requires
 u16-at-requires c κs =

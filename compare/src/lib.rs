@@ -24,17 +24,23 @@
 //!   [`sequences`] and [`sequence_cases`] sequences of steps;
 //! * [`process`], [`workers`], [`scribes`], [`moves`], [`calls`] and [`daemon`]
 //!   compare.
+//!
+//! [`believe`], with [`declarations`] and [`mentions`], judges nothing: it prints
+//! what a reader of the proved side has to believe, and sees that it is closed.
 
+pub mod believe;
 pub mod brute;
 pub mod bucket_cases;
 pub mod calls;
 pub mod cases;
 pub mod daemon;
 pub mod deciding;
+pub mod declarations;
 pub mod encode;
 pub mod generate;
 pub mod graph;
 pub mod hash;
+pub mod mentions;
 pub mod moves;
 pub mod moving;
 pub mod note_cases;

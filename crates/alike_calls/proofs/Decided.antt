@@ -46,7 +46,7 @@ module _ (level : ℕ) (fs ps os cs : List ℕ) where
     by-judge =
         let g = asDefined s level fs ps os in
         decides-one s level fs ps os cs r (numberBy (g .answer)) F P O C (g .findings) (g .pairs) (g .order) (countsBy cs (g .answer)) d
-        (decides-by-demands s level fs ps os (as-defined s level fs ps os) cs)
+        (decides-by-demands s level fs ps os (g .answer) (as-defined s level fs ps os) cs)
 
   module _ {s t : List ℕ} {r q : ℕ} {F P O C F' P' O' C' : List ℕ} (a : Decides s level fs ps os cs r F P O C) (b : Decides t level fs ps os cs q F' P' O' C') where
     -- one was moved to the other

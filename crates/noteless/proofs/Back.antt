@@ -1,6 +1,6 @@
--- An edition 1 trace, moved to edition 2 and back, or written again, is the trace without its notes, its first serial kept.
+-- An edition 1 trace, moved to edition 2 and back, is the trace without its notes, its first serial kept.
 use Prim.Native.Nat.{ℕ, _+_, _%_, _^_, _<_, _≤_}
-use mathlib.Core.Path.{_≡_, sym, _∙_}
+use mathlib.Core.Path.{_≡_}
 use mathlib.Core.Bool.{false}
 use mathlib.Core.List.{List, [], _∷_, _++_, append-assoc, append-nil}
 use native.Mathlib.Omega.{arith}
@@ -22,13 +22,11 @@ use Rattle.writing.proofs.Lengths.{records-more}
 use Rattle.writing.proofs.Listed.{Stepped, by-step, by-note, stepped}
 use Rattle.moving.specs.Moving.{movedTrace}
 use Rattle.written.specs.Writes.{AllBytes}
-use Rattle.written.specs.Rewrites.{WrittenAgain}
 use Rattle.written.proofs.Slim.{le-below}
 use Rattle.written.proofs.Whole.{first-whole}
 use Rattle.written.proofs.Spelt.{note-spelt, step-spelt}
 use Rattle.written.proofs.Readback.{not-end}
 use Rattle.written.proofs.Retold.{behind-it, steps-more, last-bytes}
-use Rattle.written.proofs.Rewrites.{again-is}
 use Rattle.noteless.specs.Without.{ClosedUp, none, left-out, kept, WithoutNotes}
 
 -- ── one record more ──
@@ -92,10 +90,3 @@ module _ {s : List ℕ} (b : AllBytes s) (first : isSecond s ≡ false) where
           let end = End (txCount (st .history)) in
           let u = event-behind (serial s 0) (first-low s b) (historySteps (st .history)) (told-without rs) (serial s (st .at)) end (omega arith) in
           record { low = first-low s b; next = _; records = rw (last-bytes b first st p k e, ← first-whole (serial s 0) (st .history)) at u }
-
--- so it is written again
-pub again-without : {s x : List ℕ} → AllBytes s → WrittenAgain s x → WithoutNotes (serial s 0) s x
-unfolding movedTrace
-again-without {s} {x} b a =
-    let e : x ≡ _ = again-is a b ∙ sym (first-whole (serial s 0) (a .history)) in
-    rw e (back-without b (a .its-steps .first-edition) (a .reads))

@@ -1,16 +1,12 @@
--- What a host has of two calls, and of a trace that is written again.
-use Prim.Native.Nat.{ℕ, _≤_}
+-- What a host has of two calls, and of the notes of a trace that is written again.
+use Prim.Native.Nat.{ℕ}
 use mathlib.Core.Path.{_≡_}
-use mathlib.Core.Bool.{true, false}
 use mathlib.Core.List.{List}
-use lib.ListN.{length}
-use Rattle.rules.specs.Numbers.{over}
-use Rattle.rules.specs.History.{History}
-use Rattle.rules.specs.Records.{isSecond}
-use Rattle.demand1.specs.Rows.{ReadInto, HasHistory}
-use Rattle.writing.specs.Filling.{refusing, answering, said}
+use Rattle.writing.specs.Filling.{answering, said}
 use Rattle.writing.specs.declared.Filled.{Filled}
-use Rattle.written.specs.Declined.{stepsLength}
+use Rattle.written.specs.Fills.{FilledWith}
+use Rattle.written.specs.Writes.{WritesTrace}
+use Rattle.noteless.specs.Without.{WithoutNotes}
 use Rattle.hosts.specs.declared.Answers.{Answers}
 
 -- the answers of both calls, and what the two buffers then hold
@@ -18,8 +14,12 @@ pub record SameAnswers (r : Answers) (B B' : List ℕ) : Type 0 where
   pub answer : r .first ≡ r .second
   pub buffer : B ≡ B'
 
--- "a trace without notes, read and written again, gives its own bytes": of the trace s, buffers that held x and o, the answer r and what o then became (B),
--- where both have room. "request One's writer and its promises stay with that edition", the first: one of edition 2 is refused, and no byte changes
-pub record OwnBytes (s x o : List ℕ) (r : Filled) (B : List ℕ) : Type 0 where
-  pub own : (h : History) → isSecond s ≡ false → ReadInto s h 0 → stepsLength h ≤ length x → length s ≤ length o → (said r ≡ answering (length s)) × (B ≡ over s o)
-  pub second : (h : History) → isSecond s ≡ true → HasHistory s h → (said r ≡ refusing 6 0) × (B ≡ o)
+-- the steps s, written twice with serials from n on into buffers that held o and o': each as promised, and, where these held the same, alike
+pub record WrittenTwice (s : List ℕ) (n : ℕ) (o o' : List ℕ) (r : Answers) (B B' : List ℕ) : Type 0 where
+  pub first : WritesTrace s n o (r .first) B
+  pub second : WritesTrace s n o' (r .second) B'
+  pub same : o ≡ o' → SameAnswers r B B'
+
+-- what is answered with a length, of the trace s and a buffer that held o, is s without its notes
+abbrev pub NotesLeftOut : List ℕ → List ℕ → Filled → List ℕ → Type 0
+NotesLeftOut s o r B = (m : ℕ) → said r ≡ answering m → FilledWith (WithoutNotes s) o B m

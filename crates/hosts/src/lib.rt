@@ -1,9 +1,10 @@
-// Whoever calls the writer has what document 02 promises. These functions know nothing of `maker::write_trace`, `lister::list_steps` and
-// `rewriting::rewrite_trace` but their contracts: were one of those weaker, they would not be proved.
-ghost use mathlib.Core.Path.{_≡_};
+// Whoever calls the writer has what document 02 promises. These functions know nothing of `maker::write_trace`, `lister::list_steps` and the calls of
+// `rewriting` but their contracts: were one of those weaker, they would not be proved.
 ghost use Rattle.written.specs.Writes.{WritesTrace};
 ghost use Rattle.written.specs.Lists.{ListsSteps};
-ghost use Rattle.hosts.specs.Hosts.{SameAnswers, OwnBytes};
+ghost use Rattle.written.specs.Rewrites.{RewritesTrace, RewritesWhole};
+ghost use Rattle.written.specs.Given.{WritesGiven};
+ghost use Rattle.hosts.specs.Hosts.{WrittenTwice, NotesLeftOut};
 use writing::Filled;
 
 // What is written reads back as the steps say; a refusal is given only on its row.
@@ -13,15 +14,22 @@ pub fn promised_trace(steps: &[u8], serial: u32, out: &mut [u8]) -> Filled
     maker::write_trace(steps, serial, out)
 }
 
+// .. where the serial and the steps are given in one.
+pub fn promised_given(given: &[u8], out: &mut [u8]) -> Filled
+    ensures { λ r. ⌜ WritesGiven (now (given .entry)) (now (out .entry)) r (now (out .exit)) ⌝ }
+{
+    rewriting::write_given(given, out)
+}
+
 // The answers of two calls.
 pub struct Answers {
     pub first: Filled,
     pub second: Filled,
 }
 
-// Two calls on the same steps, with one starting serial and buffers of the same content, coincide.
+// Two calls on the same steps, with one starting serial: each as promised, and, with buffers of the same content, alike.
 pub fn written_twice(steps: &[u8], serial: u32, out: &mut [u8], out2: &mut [u8]) -> Answers
-    ensures { λ r. ⌜ ((now (out .entry) ≡ now (out2 .entry)) → SameAnswers r (now (out .exit)) (now (out2 .exit))) ⌝ }
+    ensures { λ r. ⌜ WrittenTwice (now (steps .entry)) serial (now (out .entry)) (now (out2 .entry)) r (now (out .exit)) (now (out2 .exit)) ⌝ }
 {
     let first = maker::write_trace(steps, serial, out);
     let second = maker::write_trace(steps, serial, out2);
@@ -38,9 +46,16 @@ pub fn promised_steps(trace: &[u8], out: &mut [u8]) -> Filled
     lister::list_steps(trace, out)
 }
 
-// A trace without notes comes out with its own bytes; one of edition 2 is refused.
-pub fn own_bytes(trace: &[u8], steps: &mut [u8], out: &mut [u8]) -> Filled
-    ensures { λ r. ⌜ OwnBytes (now (trace .entry)) (now (steps .entry)) (now (out .entry)) r (now (out .exit)) ⌝ }
+// A trace without notes comes out with its own bytes, one with notes without them; the two buffers' refusals are told apart, and so is what each then holds.
+pub fn promised_again(trace: &[u8], steps: &mut [u8], out: &mut [u8]) -> Filled
+    ensures { λ r. ⌜ RewritesTrace (now (trace .entry)) (now (steps .entry)) (now (out .entry)) r (now (steps .exit)) (now (out .exit)) × NotesLeftOut (now (trace .entry)) (now (out .entry)) r (now (out .exit)) ⌝ }
 {
     rewriting::rewrite_trace(trace, steps, out)
+}
+
+// .. where no buffer is lent for the steps.
+pub fn promised_whole(trace: &[u8], out: &mut [u8]) -> Filled
+    ensures { λ r. ⌜ RewritesWhole (now (trace .entry)) (now (out .entry)) r (now (out .exit)) × NotesLeftOut (now (trace .entry)) (now (out .entry)) r (now (out .exit)) ⌝ }
+{
+    rewriting::rewrite_whole(trace, out)
 }

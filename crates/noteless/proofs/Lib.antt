@@ -5,3 +5,4 @@ pub mod Copied
 pub mod Without
 pub mod ButFor
 pub mod Back
+pub mod Again

@@ -1,6 +1,6 @@
 -- Two calls that keep their promise coincide.
 use Prim.Native.Nat.{ℕ}
-use mathlib.Core.Path.{_≡_, ap, sym}
+use mathlib.Core.Path.{_≡_, ap}
 use mathlib.Core.Bool.{true≢false, false≢true}
 use mathlib.Core.List.{List}
 use Rattle.writing.specs.Filling.{Said, said}

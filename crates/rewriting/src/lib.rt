@@ -19,7 +19,7 @@ fn write_front(trace: &[u8], steps: &[u8], n: usize, out: &mut [u8]) -> Filled
 }
 
 // Fills `out` with the trace that the steps of this one make, by way of a lent buffer for these. A refusal of the trace, or of the buffer for the steps,
-// is handed on, with nothing written to `out`.
+// is handed on, with nothing written to `out`; one of `out` leaves the steps in theirs.
 pub fn rewrite_trace(trace: &[u8], steps: &mut [u8], out: &mut [u8]) -> Filled
     ensures { λ r. ⌜ Rewrote r (now (trace .entry)) (now (steps .entry)) (now (steps .exit)) (now (out .entry)) (now (out .exit)) ⌝ }
 {

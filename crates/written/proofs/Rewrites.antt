@@ -12,6 +12,7 @@ use Rattle.rules.specs.History.{History}
 use Rattle.rules.specs.Records.{isSecond}
 use Rattle.rules.specs.Reading.{Reading, refused, read, reading}
 use Rattle.demand1.specs.Rows.{serial, ReadInto, HasHistory}
+use Rattle.demand1.proofs.Lawful.{lawful-history}
 use Rattle.demand1.proofs.Readings.{refuses-iff, has-history, has-read, read-has, history-one}
 use Rattle.writing.specs.Filling.{refusing, answering, said, content, Fill, fillOf, into}
 use Rattle.writing.specs.Steps.{stepsIn}
@@ -196,6 +197,27 @@ module _ (s : List ℕ) (b : AllBytes s) (o : List ℕ) where
 
 pub whole-one : {s o : List ℕ} {r q : Filled} {B C : List ℕ} → RewritesWhole s o r B → RewritesWhole s o q C → (said r ≡ said q) × (B ≡ C)
 whole-one u v = fills-one again-one u v
+
+-- 16 bytes a step, of at most 2 * 127 + 1,024
+steps-few : {s : List ℕ} {h : History} → HasHistory s h → stepsLength h ≤ 20448
+steps-few r =
+    let few = lawful-history r in
+    omega (arith, few .few-txs, few .few-ops)
+
+-- so where that many are lent for the steps, refusals are those of the call without such a buffer, and 16 is for the trace
+pub roomy-iff : {s : List ℕ} {x o : ℕ} → 20448 ≤ x → (m p : ℕ) → RewriteDeclines s x o m p ↔ WholeDeclines s o m p
+roomy-iff {s} {x} {o} l m p = (to, from)
+  where
+    to : {n q : ℕ} → RewriteDeclines s x o n q → WholeDeclines s o n q
+    to (steps-declined (trace-refused d)) = not-read d
+    to (steps-declined (second-edition t r)) = is-second t r
+    to (steps-declined (steps-short first r k)) = absurd (omega (arith, steps-few r))
+    to (output-short first r k short) = too-short first r short
+
+    from : {n q : ℕ} → WholeDeclines s o n q → RewriteDeclines s x o n q
+    from (not-read d) = steps-declined (trace-refused d)
+    from (is-second t r) = steps-declined (second-edition t r)
+    from (too-short first r short) = output-short first r (omega (arith, steps-few r)) short
 
 -- ── "a trace without notes, read and written again, gives its own bytes" ──
 

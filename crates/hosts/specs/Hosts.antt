@@ -2,6 +2,7 @@
 use Prim.Native.Nat.{ℕ}
 use mathlib.Core.Path.{_≡_}
 use mathlib.Core.List.{List}
+use Rattle.demand1.specs.Rows.{serial}
 use Rattle.writing.specs.Filling.{answering, said}
 use Rattle.writing.specs.declared.Filled.{Filled}
 use Rattle.written.specs.Fills.{FilledWith}
@@ -20,6 +21,6 @@ pub record WrittenTwice (s : List ℕ) (n : ℕ) (o o' : List ℕ) (r : Answers)
   pub second : WritesTrace s n o' (r .second) B'
   pub same : o ≡ o' → SameAnswers r B B'
 
--- what is answered with a length, of the trace s and a buffer that held o, is s without its notes
+-- what is answered with a length, of the trace s and a buffer that held o, is s without its notes, its first serial kept
 abbrev pub NotesLeftOut : List ℕ → List ℕ → Filled → List ℕ → Type 0
-NotesLeftOut s o r B = (m : ℕ) → said r ≡ answering m → FilledWith (WithoutNotes s) o B m
+NotesLeftOut s o r B = (m : ℕ) → said r ≡ answering m → FilledWith (WithoutNotes (serial s 0) s) o B m

@@ -12,7 +12,7 @@ use Rattle.written.proofs.Rewrites.{again-is}
 use Rattle.noteless.specs.Without.{WithoutNotes}
 use Rattle.noteless.proofs.Back.{back-without}
 
-pub again-without : {s b : List ℕ} → AllBytes s → WrittenAgain s b → WithoutNotes s b
+pub again-without : {s b : List ℕ} → AllBytes s → WrittenAgain s b → WithoutNotes (serial s 0) s b
 unfolding movedTrace
 again-without {s} {b} x a =
     let e : b ≡ movedTrace false (serial s 0) (a .history) = again-is a x ∙ sym (first-whole (serial s 0) (a .history)) in

@@ -3,10 +3,10 @@
 
        calls [STACK] < items > answers
 
-   Each item is done in a thread of its own whose stack has STACK bytes (65,536 if it is not given); that thread does nothing
-   but the call. Reading and writing are the main thread's, and all buffers are static, so what runs out of stack is the
-   call. Then the processor stops the program, as it does with any thread that leaves its stack. Numbers are 4 bytes,
-   little-endian.
+   Each item is done in a thread of its own whose stack has STACK bytes (FEROZHAK_STACK if it is not given); that thread
+   does nothing but the call. Reading and writing are the main thread's, and all buffers are static, so what runs out of
+   stack is the call. Then the processor stops the program, as it does with any thread that leaves its stack. Numbers are 4
+   bytes, little-endian.
 
    d LEVEL FINDINGS PAIRS ORDER COUNTS LENGTH TRACE
        ferozhak_decide, with buffers of just so many bytes, all of them 0xA5. Answers what the call answers, then the four
@@ -140,7 +140,7 @@ int main(int argc, char **argv)
 {
     pthread_attr_t attributes;
     char *end = "";
-    unsigned long stack = argc > 1 ? strtoul(argv[1], &end, 10) : 65536;
+    unsigned long stack = argc > 1 ? strtoul(argv[1], &end, 10) : FEROZHAK_STACK;
     int kind;
 
     if (argc > 2 || *end || stack == 0 || stack > 1 << 30)

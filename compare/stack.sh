@@ -19,7 +19,7 @@ def counted(name):
     trace = open(name, 'rb').read()
     return number(len(trace)) + trace
 work, traces = sys.argv[1], [counted(name) for name in sys.argv[2:]]
-rooms = b''.join(number(n) for n in (6144, 65536, 128, 20))
+rooms = b''.join(number(n) for n in (6144, 65024, 128, 20))
 def write(name, items): open(f'{work}/{name}', 'wb').write(b''.join(items))
 write('ferozhak_decide', (b'd' + number(level) + rooms + trace for trace in traces for level in (1, 2, 3)))
 write('ferozhak_strongest', (b's' + trace for trace in traces))

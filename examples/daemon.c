@@ -2,14 +2,18 @@
 
        daemon LEVEL DIRECTORY [WORKERS]
 
-   LEVEL is 1 read committed, 2 read atomicity, 3 transactional causal consistency; any other number is the library's to
-   refuse. WORKERS is 1 to 64. Files whose names begin with a dot are left out. What was decided is written to standard
-   output in the order of names, whichever worker judged what:
+   LEVEL is 1 read committed, 2 read atomicity, 3 transactional causal consistency. WORKERS is 1 to 64. Files whose names
+   begin with a dot are left out. What was decided is written to standard output in the order of names, whichever worker
+   judged what:
 
        NAME: DECISION, findings F, pairs P, order N, refusal NO, place PLACE, strongest L
 
-   then, on promote, the order; on hold, each finding and each pair. A file that cannot be read, a folder too, is held back:
-   it is named on standard error and the exit status is 1. Bad arguments: 2. */
+   then, on promote, the order; on hold, each finding and each pair. A control byte or a backslash in a name is printed as
+   \x and two digits.
+
+   A file that cannot be read, a folder too, is held back: it is named on standard error, and the exit status is 1. Where
+   there is no file, or the output cannot be written, the daemon says so and ends at once, with 1. Bad arguments: 2. */
+#define _POSIX_C_SOURCE 200809L /* C99 alone has neither folders nor threads */
 #include <dirent.h>
 #include <errno.h>
 #include <fcntl.h>
@@ -22,14 +26,18 @@
 
 #include "ferozhak.h"
 
-enum { STACK = 64 * 1024, WORKERS = 4, WORKERS_MAX = 64 };
+enum { WORKERS = 4, WORKERS_MAX = 64 };
+
+struct file {
+    char *path;
+    char *name; /* as it is printed */
+};
 
 /* The files, for all workers. Whoever looks at next, turn or failed holds the lock; the rest stays as it is. */
 struct queue {
     uint32_t level;
-    char **paths; /* sorted by name */
+    struct file *files; /* sorted by name */
     size_t count;
-    size_t prefix; /* so much of a path stands before the name */
     pthread_mutex_t lock;
     pthread_cond_t turned;
     size_t next; /* the file that the next worker takes */
@@ -52,11 +60,12 @@ struct worker {
     uint32_t strongest;
 };
 
-/* Gives up: without memory, threads, a list of the files or an output there is no going on, and nothing more is promoted. */
-static void fail(const char *what, int error)
+/* Gives up: without memory, threads, files or an output there is no going on, and nothing more is promoted. So it is not
+   exit, which would first try again to write what could not be written, while other workers run on. */
+static void fail(const char *what, const char *why)
 {
-    fprintf(stderr, "daemon: %s: %s\n", what, strerror(error));
-    exit(1);
+    fprintf(stderr, "daemon: %s: %s\n", what, why);
+    _exit(1);
 }
 
 /* Reads a number from least to most. A digit has to come first: strtoul would take a sign, and turn -1 into a large number. */
@@ -73,40 +82,73 @@ static int parse(const char *text, unsigned long least, unsigned long most, unsi
 /* Paths of one folder sort as their names do. */
 static int by_name(const void *one, const void *other)
 {
-    return strcmp(*(char *const *)one, *(char *const *)other);
+    return strcmp(((const struct file *)one)->path, ((const struct file *)other)->path);
+}
+
+/* A name as it is printed. Anybody may name a file: with a line break in it a name would print a line of its own. */
+static char *printable(const char *name)
+{
+    char *shown = malloc(4 * strlen(name) + 1), *end = shown;
+
+    if (!shown)
+        fail("list of files", strerror(ENOMEM));
+    for (; *name; name++) {
+        unsigned char byte = (unsigned char)*name;
+
+        if (byte < 32 || byte == 127 || byte == '\\')
+            end += snprintf(end, 5, "\\x%02x", byte);
+        else
+            *end++ = *name;
+    }
+    *end = '\0';
+    return shown;
 }
 
 /* Puts a file on the list. Its path is made here, so that no worker needs memory for it. */
 static void add(struct queue *queue, const char *directory, const char *name)
 {
-    size_t size = queue->prefix + strlen(name) + 1;
-    char **paths = realloc(queue->paths, (queue->count + 1) * sizeof *paths);
+    size_t size = strlen(directory) + strlen(name) + 2;
+    struct file *files = realloc(queue->files, (queue->count + 1) * sizeof *files);
     char *path = malloc(size);
 
-    if (!paths || !path)
-        fail("list of files", ENOMEM);
+    if (!files || !path)
+        fail("list of files", strerror(ENOMEM));
     snprintf(path, size, "%s/%s", directory, name);
-    paths[queue->count++] = path;
-    queue->paths = paths;
+    files[queue->count].path = path;
+    files[queue->count++].name = printable(name);
+    queue->files = files;
 }
 
-/* Lists a folder. readdir tells its end from an error only by errno, and half a list must not pass for a whole one. */
+/* Lists a folder. readdir tells its end from an error only by errno, and half a list must not pass for a whole one; nor
+   must a folder without files, a wrong one perhaps, pass for one that was judged. */
 static void list(struct queue *queue, const char *directory)
 {
+    const char *shown = printable(directory);
     DIR *folder = opendir(directory);
     struct dirent *entry;
 
     if (!folder)
-        fail(directory, errno);
-    queue->prefix = strlen(directory) + 1;
+        fail(shown, strerror(errno));
     for (errno = 0; (entry = readdir(folder)) != NULL; errno = 0)
         if (entry->d_name[0] != '.')
             add(queue, directory, entry->d_name);
     if (errno)
-        fail(directory, errno);
+        fail(shown, strerror(errno));
     closedir(folder);
-    if (queue->count)
-        qsort(queue->paths, queue->count, sizeof *queue->paths, by_name);
+    if (!queue->count)
+        fail(shown, "there is no file to judge");
+    qsort(queue->files, queue->count, sizeof *queue->files, by_name);
+}
+
+/* Reads a part of a file, again where a signal came in between. */
+static ssize_t read_part(int file, uint8_t *bytes, size_t room)
+{
+    ssize_t got;
+
+    do
+        got = read(file, bytes, room);
+    while (got < 0 && errno == EINTR);
+    return got;
 }
 
 /* Reads as much of a file as matters, and answers whether that went well. A pipe that nobody writes must not stop a worker. */
@@ -117,7 +159,7 @@ static int read_trace(struct worker *worker, const char *path)
 
     worker->length = 0;
     if (file >= 0)
-        while ((got = read(file, worker->trace + worker->length, sizeof worker->trace - worker->length)) > 0)
+        while ((got = read_part(file, worker->trace + worker->length, sizeof worker->trace - worker->length)) > 0)
             worker->length += (size_t)got;
     worker->error = errno;
     if (file >= 0)
@@ -150,26 +192,40 @@ static const char *decision(uint32_t answer)
     return answer == FEROZHAK_PROMOTE ? "promote" : answer == FEROZHAK_HOLD ? "hold" : "no trace";
 }
 
-/* Promoting and holding stand here: a real daemon would swap its index where the answer is FEROZHAK_PROMOTE, and only there. */
+/* Takes what a print or a flush answered, right behind it: errno is that of the write only then. */
+static void printed(int result)
+{
+    if (result < 0)
+        fail("standard output", strerror(errno));
+}
+
+/* Promoting and holding stand here: a real daemon would swap its index where the answer is FEROZHAK_PROMOTE, and only there.
+   What is reported is written before the next file is reported. */
 static void report(const struct worker *worker, const char *name)
 {
     const uint8_t *counts = worker->counts, *finding = worker->findings, *pair = worker->pairs;
-    uint32_t findings = number(counts, 4), pairs = number(counts + 4, 4), order = number(counts + 8, 4), i;
+    uint32_t findings = number(counts + FEROZHAK_COUNT_FINDINGS, 4), pairs = number(counts + FEROZHAK_COUNT_PAIRS, 4);
+    uint32_t order = number(counts + FEROZHAK_COUNT_ORDER, 4), i;
 
-    printf("%s: %s, findings %u, pairs %u, order %u, refusal %u, place %u, strongest %u\n", name, decision(worker->answer),
-           findings, pairs, order, number(counts + 12, 4), number(counts + 16, 4), worker->strongest);
+    printed(printf("%s: %s, findings %u, pairs %u, order %u, refusal %u, place %u, strongest %u\n", name,
+                   decision(worker->answer), findings, pairs, order, number(counts + FEROZHAK_COUNT_REFUSAL, 4),
+                   number(counts + FEROZHAK_COUNT_PLACE, 4), worker->strongest));
     if (worker->answer == FEROZHAK_PROMOTE) {
-        printf("order");
+        printed(printf("order"));
         for (i = 0; i < order; i++)
-            printf(" %u", worker->order[i]);
-        printf("\n");
+            printed(printf(" %u", worker->order[i]));
+        printed(printf("\n"));
     }
     if (worker->answer == FEROZHAK_HOLD) {
-        for (i = 0; i < findings; i++, finding += 6)
-            printf("read %u %u %u %u\n", finding[0], number(finding + 2, 2), finding[1], number(finding + 4, 2));
-        for (i = 0; i < pairs; i++, pair += 4)
-            printf("pair %u %u %u\n", pair[0], pair[1], pair[2]);
+        for (i = 0; i < findings; i++, finding += FEROZHAK_FINDING_SIZE)
+            printed(printf("read %u %u %u %u\n", finding[FEROZHAK_FINDING_TRANSACTION],
+                           number(finding + FEROZHAK_FINDING_OPERATION, 2), finding[FEROZHAK_FINDING_KIND],
+                           number(finding + FEROZHAK_FINDING_WRITE, 2)));
+        for (i = 0; i < pairs; i++, pair += FEROZHAK_PAIR_SIZE)
+            printed(printf("pair %u %u %u\n", pair[FEROZHAK_PAIR_FIRST], pair[FEROZHAK_PAIR_SECOND],
+                           pair[FEROZHAK_PAIR_REASONS]));
     }
+    printed(fflush(stdout));
 }
 
 /* Takes the next file, and answers its number; the number of all files where none is left. */
@@ -213,22 +269,31 @@ static void *work(void *argument)
     size_t taken;
 
     while ((taken = take(queue)) < queue->count) {
-        const char *path = queue->paths[taken], *name = path + queue->prefix;
-        int got = read_trace(worker, path);
+        const struct file *file = &queue->files[taken];
+        int got = read_trace(worker, file->path);
 
         if (got)
             judge(worker);
         await_turn(queue, taken);
         if (got)
-            report(worker, name);
+            report(worker, file->name);
         else
-            fprintf(stderr, "daemon: %s: %s: held back\n", name, strerror(worker->error));
+            fprintf(stderr, "daemon: %s: %s: held back\n", file->name, strerror(worker->error));
         pass_turn(queue, !got);
     }
     return NULL;
 }
 
-/* Starts the workers and waits for them. A stack of 48 KiB is enough for either call; with 64 KiB a worker can print, too. */
+/* The stack of a worker: the header's number, or the C library's least, PTHREAD_STACK_MIN, where that is more. */
+static size_t stack_size(void)
+{
+    long least = sysconf(_SC_THREAD_STACK_MIN);
+
+    return least > FEROZHAK_STACK ? (size_t)least : FEROZHAK_STACK;
+}
+
+/* Starts the workers and waits for them. They find the lock taken until all of them are started: where one cannot be,
+   nothing has been promoted yet. */
 static void run(struct queue *queue, size_t count)
 {
     struct worker *workers = malloc(count * sizeof *workers);
@@ -237,14 +302,16 @@ static void run(struct queue *queue, size_t count)
     int error;
 
     if (!workers)
-        fail("workers", ENOMEM);
-    if ((error = pthread_attr_init(&small)) || (error = pthread_attr_setstacksize(&small, STACK)))
-        fail("workers", error);
+        fail("workers", strerror(ENOMEM));
+    if ((error = pthread_attr_init(&small)) || (error = pthread_attr_setstacksize(&small, stack_size())))
+        fail("workers", strerror(error));
+    pthread_mutex_lock(&queue->lock);
     for (i = 0; i < count; i++) {
         workers[i].queue = queue;
         if ((error = pthread_create(&workers[i].thread, &small, work, &workers[i])))
-            fail("workers", error);
+            fail("workers", strerror(error));
     }
+    pthread_mutex_unlock(&queue->lock);
     for (i = 0; i < count; i++)
         pthread_join(workers[i].thread, NULL);
     pthread_attr_destroy(&small);
@@ -256,15 +323,13 @@ int main(int argc, char **argv)
     static struct queue queue = { .lock = PTHREAD_MUTEX_INITIALIZER, .turned = PTHREAD_COND_INITIALIZER };
     unsigned long level, workers = WORKERS;
 
-    if (argc < 3 || argc > 4 || !parse(argv[1], 0, UINT32_MAX, &level)
+    if (argc < 3 || argc > 4 || !parse(argv[1], FEROZHAK_RC, FEROZHAK_TCC, &level)
         || (argc == 4 && !parse(argv[3], 1, WORKERS_MAX, &workers))) {
-        fprintf(stderr, "usage: daemon LEVEL DIRECTORY [WORKERS]\n");
+        fprintf(stderr, "usage: daemon LEVEL DIRECTORY [WORKERS], with a level from 1 to 3 and 1 to 64 workers\n");
         return 2;
     }
     queue.level = (uint32_t)level;
     list(&queue, argv[2]);
     run(&queue, workers);
-    if (fflush(stdout) || ferror(stdout))
-        fail("standard output", EIO);
     return queue.failed;
 }

@@ -16,14 +16,15 @@ use std::io::{self, Write};
 use std::path::{Path, PathBuf};
 use std::{env, fs};
 
-/// The levels at which the daemon is asked: the three, and a number that is none.
-pub const LEVELS: [u32; 4] = [1, 2, 3, 4];
 /// How many traces go through one run of the program `stream`.
 const TOGETHER: usize = 500;
 
 /// Names of files beside those that are numbered. By their bytes, without signs,
-/// they sort as they stand here: before the numbers or behind them all.
-const OTHER_NAMES: [&str; 9] = [
+/// they sort as they stand here: before the numbers or behind them all. Those that
+/// have control bytes or a backslash are not printed as they are.
+const OTHER_NAMES: [&str; 12] = [
+    "\n00000: promote, findings 0",
+    "\u{1f}\r",
     "!",
     "# hold, findings 1",
     "-1.trace",
@@ -32,6 +33,7 @@ const OTHER_NAMES: [&str; 9] = [
     "_",
     "a b.trace",
     "b.trace",
+    "b\\x0a\u{7f}",
     "é.trace",
 ];
 /// A file that is left out for its name.
@@ -40,9 +42,19 @@ const HIDDEN_NAME: &str = ".00000.trace";
 const LONG_NAME: &str = "long.trace";
 const LONG: usize = 100_000;
 
+/// A name as the daemon prints it: control bytes and backslashes are escaped, so
+/// that no name makes a line of its own.
+pub fn printable(name: &[u8]) -> Vec<u8> {
+    let shown = |&byte: &u8| match byte {
+        0..=31 | 127 | b'\\' => format!("\\x{byte:02x}").into_bytes(),
+        _ => vec![byte],
+    };
+    name.iter().flat_map(shown).collect()
+}
+
 /// What the daemon prints of a file, from behind its name on.
-pub fn print(level: u32, answer: &Answer) -> String {
-    let outcome = Outcome::of(answer, level, &Rooms::AMPLE);
+pub fn print(level: Level, answer: &Answer) -> String {
+    let outcome = Outcome::of(answer, level.number(), &Rooms::AMPLE);
     let Counts {
         findings,
         pairs,
@@ -68,10 +80,10 @@ pub fn print(level: u32, answer: &Answer) -> String {
 }
 
 /// What the daemon prints of a directory.
-pub fn print_directory(level: u32, directory: &Path, mut output: impl Write) -> io::Result<()> {
+pub fn print_directory(level: Level, directory: &Path, mut output: impl Write) -> io::Result<()> {
     for name in visible_names(directory)? {
         let trace = read_bounded(fs::File::open(directory.join(&name))?)?;
-        output.write_all(name.as_encoded_bytes())?;
+        output.write_all(&printable(name.as_encoded_bytes()))?;
         output.write_all(print(level, &judge_all(&trace)).as_bytes())?;
     }
     output.flush()
@@ -180,7 +192,7 @@ pub fn compare(programs: &Programs, extent: &Extent) -> (String, Option<Box<Diff
     let mut decisions = Decisions::default();
     let checked = check(programs, &files, &mut decisions);
     let mut lines = vec![format!(
-        "{} files of seed {}, decided by '{}' at 4 levels and in Rust, judged by '{}'",
+        "{} files of seed {}, decided by '{}' at each level and in Rust, judged by '{}'",
         files.len(),
         extent.seed,
         programs.daemon,
@@ -323,7 +335,7 @@ fn check(
         run_differs(files, vec![], [said, asked])
     })?;
     let mut printed = Vec::new();
-    for level in LEVELS {
+    for level in Level::ALL {
         let command = &programs.daemon;
         printed.push(check_decided(command, level, &directory, files, decisions)?);
     }
@@ -343,13 +355,14 @@ fn check(
 /// is what has to be printed.
 fn check_decided(
     command: &str,
-    level: u32,
+    level: Level,
     directory: &Directory,
     files: &[File],
     decisions: &mut Decisions,
 ) -> Result<Vec<String>, Box<Difference>> {
-    let number = level.to_string();
-    let arguments = [OsStr::new(&number), directory.0.as_os_str()];
+    let number = level.number();
+    let at_level = number.to_string();
+    let arguments = [OsStr::new(&at_level), directory.0.as_os_str()];
     let text = match process::run_with(command, &arguments) {
         Ok(output) => String::from_utf8_lossy(&output).into_owned(),
         Err(message) => format!("did not run: {message}\n"),
@@ -357,20 +370,22 @@ fn check_decided(
     let mut theirs = by_file(&text).into_iter();
     let mut printed = Vec::new();
     for file in files {
-        let ours = file.name.clone() + &print(level, &file.answer);
+        let shown = printable(file.name.as_bytes());
+        let name = String::from_utf8(shown).expect("names are text");
+        let ours = name.clone() + &print(level, &file.answer);
         let said = theirs.next().unwrap_or("nothing more\n".into());
         if said != ours {
             let answers = [("the daemon", said), ("the Rust side", ours)];
-            return Err(file.differs(&format!("at level {level}"), answers));
+            return Err(file.differs(&format!("at level {number}"), answers));
         }
-        decisions.count(level, &Outcome::of(&file.answer, level, &Rooms::AMPLE));
-        printed.push(said[file.name.len()..].into());
+        decisions.count(number, &Outcome::of(&file.answer, number, &Rooms::AMPLE));
+        printed.push(said[name.len()..].into());
     }
     match (theirs.next(), files.last()) {
         (Some(more), Some(last)) => {
             let nothing = "nothing more\n".into();
             let answers = [("the daemon", more), ("the Rust side", nothing)];
-            Err(last.differs(&format!("at level {level}, and behind it"), answers))
+            Err(last.differs(&format!("at level {number}, and behind it"), answers))
         }
         _ => Ok(printed),
     }

@@ -88,7 +88,8 @@ impl Rooms {
     /// Room for every answer.
     pub const AMPLE: Rooms = Rooms {
         findings: FINDING_SIZE * MAX_OPERATIONS,
-        pairs: PAIR_SIZE * MOST_COUNTED * MOST_COUNTED,
+        // No pair is of one transaction with itself.
+        pairs: PAIR_SIZE * MOST_COUNTED * (MOST_COUNTED - 1),
         order: MOST_COUNTED,
         counts: Counts::SIZE,
     };

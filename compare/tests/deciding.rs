@@ -61,7 +61,7 @@ fn promotes(notation: &str, level: u32, order: &[u8]) {
     let length = order.len() as u8;
     let expected = Buffers {
         findings: filled(&[], 6_144),
-        pairs: filled(&[], 65_536),
+        pairs: filled(&[], 65_024),
         order: filled(order, 128),
         counts: counts([0, 0, length, 0, 0]),
     };
@@ -74,7 +74,7 @@ fn holds(notation: &str, level: u32, findings: &[[u8; 6]], pairs: &[[u8; 4]]) {
     let (found, listed) = (findings.len() as u8, pairs.len() as u8);
     let expected = Buffers {
         findings: filled(findings.as_flattened(), 6_144),
-        pairs: filled(pairs.as_flattened(), 65_536),
+        pairs: filled(pairs.as_flattened(), 65_024),
         order: filled(&[], 128),
         counts: counts([found, listed, 0, 0, 0]),
     };
@@ -100,10 +100,63 @@ fn decisions_have_the_numbers_of_the_interface() {
     assert_eq!(Decision::ALL, [Promote, Hold, NoTrace]);
 }
 
+/// The numbers that the header for C gives to names with this prefix.
+fn named<const N: usize>(prefix: &str, names: [&str; N]) -> [usize; N] {
+    let header = include_str!("../../include/ferozhak.h");
+    names.map(|name| {
+        let given = format!("    FEROZHAK_{prefix}{name} = ");
+        let number = header.lines().find_map(|line| line.strip_prefix(&given));
+        let number = number.and_then(|line| line.split([',', ' ']).next()?.parse().ok());
+        number.expect(name)
+    })
+}
+
+#[test]
+fn the_header_has_the_numbers_of_the_documents() {
+    assert_eq!(named("", ["PROMOTE", "HOLD", "NO_TRACE"]), [1, 2, 3]);
+    assert_eq!(named("", ["RC", "RA", "TCC"]), [1, 2, 3]);
+    let rooms = ["FINDINGS_MAX", "PAIRS_MAX", "ORDER_MAX", "COUNTS"];
+    assert_eq!(named("", rooms), Rooms::AMPLE.each());
+    assert_eq!(named("", ["TRACE_MAX"]), [MAX_BYTES]);
+    let counts = ["FINDINGS", "PAIRS", "ORDER", "REFUSAL", "PLACE"];
+    assert_eq!(named("COUNT_", counts), [0, 4, 8, 12, 16]);
+    let finding = ["SIZE", "TRANSACTION", "KIND", "OPERATION", "WRITE"];
+    assert_eq!(named("FINDING_", finding), [6, 0, 1, 2, 4]);
+    let pair = ["SIZE", "FIRST", "SECOND", "REASONS"];
+    assert_eq!(named("PAIR_", pair), [4, 0, 1, 2]);
+    let kinds = [
+        "THIN_AIR",
+        "ABORTED",
+        "FUTURE",
+        "NOT_MY_LAST",
+        "NOT_MY_OWN",
+        "INTERMEDIATE",
+    ];
+    assert_eq!(named("KIND_", kinds), [1, 2, 3, 4, 5, 6]);
+    let reasons = ["START", "SESSION", "READ", "RIVAL"];
+    assert_eq!(named("REASON_", reasons), [1, 2, 4, 8]);
+    let of_the_call = ["LEVEL", "FINDINGS", "PAIRS", "ORDER"];
+    assert_eq!(named("REFUSED_", of_the_call), [1, 12, 13, 14]);
+    let of_the_trace = [
+        "LONG",
+        "CUT",
+        "LENGTH",
+        "SERIAL",
+        "KIND",
+        "MISPLACED",
+        "VALUE",
+        "EXCESS",
+        "REPEATED",
+        "BEHIND_END",
+    ];
+    let numbers = [2, 3, 4, 5, 6, 7, 8, 9, 10, 11];
+    assert_eq!(named("REFUSED_", of_the_trace), numbers);
+}
+
 #[test]
 fn ample_rooms_are_those_of_the_limits() {
-    // 1,024 findings; pairs of 128 transactions with each other; 128 in the order.
-    assert_eq!(Rooms::AMPLE.each(), [6_144, 65_536, 128, 20]);
+    // 1,024 findings; a pair for each of 128 transactions and each other one; 128 in the order.
+    assert_eq!(Rooms::AMPLE.each(), [6_144, 65_024, 128, 20]);
 }
 
 #[test]
@@ -208,7 +261,7 @@ fn findings_need_six_bytes_each() {
     let two = encode("T1 r1=5 r1=6");
     for level in 1..=3 {
         refuses(&encode(P3), level, &rooms(5, 0, 0), 12, 6);
-        refuses(&encode(P3), level, &rooms(0, 65_536, 128), 12, 6);
+        refuses(&encode(P3), level, &rooms(0, 65_024, 128), 12, 6);
         refuses(&two, level, &rooms(11, 0, 0), 12, 12);
         refuses(&two, level, &rooms(8, 0, 0), 12, 12);
         let (decision, buffers) = decided(&two, level, &rooms(12, 0, 0));
@@ -254,7 +307,7 @@ fn an_order_needs_a_byte_a_committed_transaction() {
         refuses(
             &trace,
             1,
-            &rooms(6_144, 65_536, needed - 1),
+            &rooms(6_144, 65_024, needed - 1),
             14,
             needed as u32,
         );
@@ -376,30 +429,39 @@ fn the_buffers_hold_what_is_printed() {
 fn what_a_daemon_prints() {
     let print = |notation, level| daemon::print(level, &judge_all(&encode(notation)));
     assert_eq!(
-        print(CASE_16, 1),
+        print(CASE_16, Level::ReadCommitted),
         ": promote, findings 0, pairs 0, order 4, refusal 0, place 0, strongest 1\n\
          order 0 2 1 3\n"
     );
     assert_eq!(
-        print(FINDING_AND_PAIRS, 2),
+        print(FINDING_AND_PAIRS, Level::ReadAtomicity),
         ": hold, findings 1, pairs 2, order 0, refusal 0, place 0, strongest 0\n\
          read 1 3 1 0\npair 1 2 4\npair 2 1 4\n"
     );
     assert_eq!(
-        print(P12, 4),
-        ": no trace, findings 0, pairs 0, order 0, refusal 1, place 0, strongest 2\n"
-    );
-    assert_eq!(
-        daemon::print(3, &judge_all(&encode("T1 w1=5")[..39])),
+        daemon::print(Level::Causal, &judge_all(&encode("T1 w1=5")[..39])),
         ": no trace, findings 0, pairs 0, order 0, refusal 3, place 39, strongest 0\n"
     );
+}
+
+#[test]
+fn a_name_is_printed_in_one_line() {
+    for (name, shown) in [
+        ("a b.trace", "a b.trace"),
+        ("é: promote", "é: promote"),
+        ("a\npromote", r"a\x0apromote"),
+        ("\0\x1f \x7f", r"\x00\x1f \x7f"),
+        (r"\x0a", r"\x5cx0a"),
+    ] {
+        assert_eq!(daemon::printable(name.as_bytes()), shown.as_bytes());
+    }
 }
 
 #[test]
 fn what_a_daemon_prints_is_what_judge_prints() {
     for case in cases::all() {
         let answer = judge_all(&case.bytes);
-        let printed = daemon::LEVELS.map(|level| daemon::print(level, &answer));
+        let printed = Level::ALL.map(|level| daemon::print(level, &answer));
         let printed = printed.each_ref().map(String::as_str);
         let expected = format!("{}strongest {}\n", case.output, strongest(&case.bytes));
         let rebuilt = daemon::as_judged(&printed);
@@ -410,9 +472,9 @@ fn what_a_daemon_prints_is_what_judge_prints() {
     let other = one.replace("strongest 3", "strongest 2");
     let cut = one.replace("order 1", "order 2");
     let none = one.replace("order 0\n", "");
-    assert!(daemon::as_judged(&[one; 4]).is_some());
+    assert!(daemon::as_judged(&[one; 3]).is_some());
     for changed in [&other, &cut, &none, ""] {
-        assert_eq!(daemon::as_judged(&[one, one, changed, one]), None);
+        assert_eq!(daemon::as_judged(&[one, changed, one]), None);
     }
 }
 

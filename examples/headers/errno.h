@@ -3,6 +3,6 @@
 #define ERRNO_H
 int *__errno_location(void);
 #define errno (*__errno_location())
-#define EIO 5
+#define EINTR 4
 #define ENOMEM 12
 #endif

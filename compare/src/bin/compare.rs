@@ -38,8 +38,8 @@ const USAGE: &str = "Usage:
   compare --calls COMMAND [options]    compares a program that makes the calls of the upper library with the decisions
                                        of the Rust judge, with all that the buffers hold: many items a run
   compare --daemon COMMAND --stream COMMAND [options]
-                                       compares what the program `daemon` prints of a directory of traces, at levels
-                                       1 to 4, with the decisions of the Rust judge and with what the program `stream`
+                                       compares what the program `daemon` prints of a directory of traces, at each
+                                       level, with the decisions of the Rust judge and with what the program `stream`
                                        says of each trace: a run a level
 A COMMAND is a program and its arguments, parted by spaces.
 Half of the random traces are of edition 2, with transactions that overlap.

@@ -7,6 +7,7 @@
 //! library, and with `--daemon` it decides about the files of a directory as the
 //! program `daemon`.
 
+use ferozhak_compare::report::Level;
 use ferozhak_compare::{calls, daemon};
 use std::io::{self, BufReader, BufWriter, Read, Write};
 use std::path::Path;
@@ -67,7 +68,8 @@ fn stream() -> io::Result<()> {
 }
 
 fn decide(level: &str, directory: &Path) -> io::Result<()> {
-    let level = level.parse().map_err(io::Error::other)?;
+    let number = level.parse().map_err(io::Error::other)?;
+    let level = Level::of_number(number).ok_or(io::Error::other("no such level"))?;
     let output = BufWriter::new(io::stdout().lock());
     daemon::print_directory(level, directory, output)
 }

@@ -62,7 +62,8 @@ pub record LevelRejects (s : List ℕ) (level : ℕ) : Type 0 where
   pub reads : HasHistory s history
   pub fault : Fault history level
 
--- 6,144, 65,024 and 128 bytes are enough for every trace, no pair being of one transaction with itself: what is answered then hangs on the trace and the level alone
+-- 6,144, 65,024 and 128 bytes are enough for every trace, no pair being of one transaction with itself: what is answered then hangs on the trace and the
+-- level alone
 pub record DecidesOutright (s : List ℕ) (level r : ℕ) : Type 0 where
   pub promoted : (r ≡ decisionNo Promote) ↔ LevelAccepts s level
   pub held : (r ≡ decisionNo Hold) ↔ LevelRejects s level

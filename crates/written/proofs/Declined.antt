@@ -2,7 +2,7 @@
 use Prim.Native.Nat.{ℕ, _+_, _*_, _<_, _≤_}
 use mathlib.Core.Path.{_≡_, refl, ap, _∙_}
 use mathlib.Core.List.{List, _∷_}
-use mathlib.Core.Logic.{_⊎_, inl, inr}
+use mathlib.Core.Logic.{_⊎_, inl, inr, ⊎-elim}
 use native.Mathlib.Omega.{arith}
 use lib.ListN.{length}
 use Rattle.rules.specs.Numbers.{over}
@@ -19,6 +19,8 @@ use Rattle.writing.proofs.Followed.{follow-bad, follow-inside, follow-end}
 use Rattle.writing.proofs.Sizes.{trace-length}
 use Rattle.written.specs.Steps.{StepFails}
 use Rattle.written.specs.Declined.{traceLength, WriteDeclines, bad-step, ends-inside, trace-short, ListDeclines, trace-refused, second-edition, steps-short}
+use Rattle.written.specs.Rewrites.{RewriteDeclines, steps-declined, output-short, WholeDeclines, not-read, is-second, too-short}
+use Rattle.written.specs.Given.{GivenDeclines, no-serial, steps-bad}
 use Rattle.written.proofs.Checks.{step-refused}
 use Rattle.written.proofs.Comes.{steps-here, steps-over, comes-follow}
 
@@ -95,3 +97,26 @@ list-numbers (steps-short first r l) = inr refl
 
 pub list-never-15 : {s : List ℕ} {o n p : ℕ} → ListDeclines s o n p → n ≡ 15 → ⊥
 list-never-15 d = not-15 (omega arith) (list-numbers d)
+
+pub again-numbers : {s : List ℕ} {x o n p : ℕ} → RewriteDeclines s x o n p → ((2 ≤ n) × (n ≤ 11)) ⊎ (n ≡ 16)
+again-numbers (steps-declined d) = list-numbers d
+again-numbers (output-short first r l short) = inr refl
+
+pub again-never-15 : {s : List ℕ} {x o n p : ℕ} → RewriteDeclines s x o n p → n ≡ 15 → ⊥
+again-never-15 d = not-15 (omega arith) (again-numbers d)
+
+pub whole-numbers : {s : List ℕ} {o n p : ℕ} → WholeDeclines s o n p → ((2 ≤ n) × (n ≤ 11)) ⊎ (n ≡ 16)
+whole-numbers (not-read r) = inl (refused-numbers r)
+whole-numbers (is-second t r) = inl (omega arith, omega arith)
+whole-numbers (too-short first r l) = inr refl
+
+pub whole-never-15 : {s : List ℕ} {o n p : ℕ} → WholeDeclines s o n p → n ≡ 15 → ⊥
+whole-never-15 d = not-15 (omega arith) (whole-numbers d)
+
+-- row 3, rows 6 to 10, and 16
+pub given-numbers : {g : List ℕ} {o n p : ℕ} → GivenDeclines g o n p → ((3 ≤ n) × (n ≤ 10)) ⊎ (n ≡ 16)
+given-numbers (no-serial l) = inl (omega arith, omega arith)
+given-numbers (steps-bad l d) = ⊎-elim (λ m. inl (omega (arith, m .0), m .1)) (λ e. inr e) (write-numbers d)
+
+pub given-never-15 : {g : List ℕ} {o n p : ℕ} → GivenDeclines g o n p → n ≡ 15 → ⊥
+given-never-15 d = not-15 (omega arith) (given-numbers d)

@@ -146,8 +146,8 @@ fn move_to(second: bool, trace: &[u8], out: &mut [u8]) -> Tallied
     }
 }
 
-// A move to edition 1 does not answer the notes.
-fn filled(answer: Tallied) -> Filled
+// The answer without the notes: a move to edition 1 does not answer them.
+pub fn filled(answer: Tallied) -> Filled
     ensures { λ r. ⌜ r ≡ filledOf answer ⌝ }
 {
     match answer {

@@ -49,3 +49,8 @@ module _ (s o : List ℕ) (r : Tallied) (b : List ℕ) where
   -- the other move leaves the notes away
   pub gives-filled : (n : ℕ) (second : Bool) {q : Filled} → talliedFill r b ≡ withNotes (movedTo second s o) n → q ≡ filledOf r → Gives q b (movedTo second s o)
   gives-filled n second {q} e i = gives-moved second s o q b (ap (λ (x : Filled). fillOf (said x) b) i ∙ filled-is r b _ n e)
+
+  -- a move to edition 2, where its notes are left away
+  pub gives-second : {q : Filled} → GivesTallied r b (movedToSecond s o) → q ≡ filledOf r → Gives q b (movedTo true s o)
+  unfolding movedToSecond
+  gives-second x i = gives-filled (notesOf (reading s)) true (x .is) i

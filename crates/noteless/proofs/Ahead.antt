@@ -1,5 +1,5 @@
 -- What is still to be read of a trace that is read, from a state on.
-use Prim.Native.Nat.{ℕ, _≤_}
+use Prim.Native.Nat.{ℕ}
 use mathlib.Core.Path.{_≡_}
 use mathlib.Core.List.{List}
 use native.Mathlib.Omega.{arith}
@@ -29,10 +29,6 @@ from-start {s} (on {st} r p x) a = from-start r (one-more p (next-not-end x) (rw
 -- all of a trace that is read is ahead
 pub all-ahead : {s : List ℕ} {h : History} {n : ℕ} → ReadInto s h n → Ahead s begin h n
 all-ahead (to-the-end l r p k e) = from-start r (at-end p k e)
-
--- .. and it is not too long
-pub read-short : {s : List ℕ} {h : History} {n : ℕ} → ReadInto s h n → length s ≤ 32768
-read-short (to-the-end l r p k e) = l
 
 -- a note is not the end
 pub past-note : {s : List ℕ} {st : State} {h : History} {n : ℕ} → kind s (st .at) ≡ 6 → Ahead s st h n → Ahead s (after s st) h n

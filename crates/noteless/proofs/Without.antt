@@ -14,10 +14,11 @@ use Rattle.rules.specs.Traces.{Item, note, recordOf}
 use Rattle.rules.proofs.Traces.{record-length}
 use Rattle.demand1.specs.Rows.{len, kind, serial, behind, lengthField, editionFirst, Passes, Reaches, start, on, ReadInto, to-the-end, HasHistory}
 use Rattle.demand1.proofs.Steps.{next-after}
+use Rattle.demand1.proofs.Readings.{read-short}
 use Rattle.written.proofs.Records.{record-len, record-kind, record-serial, record-payload, record-within, first-record}
 use Rattle.noteless.specs.Without.{ClosedUp, none, left-out, kept, WithoutNotes}
 use Rattle.noteless.proofs.Copied.{Copied, cameTo, copied-passes, copied-after}
-use Rattle.noteless.proofs.Ahead.{Ahead, at-end, one-more, next-passes, past-note, note-after, all-ahead, read-short}
+use Rattle.noteless.proofs.Ahead.{Ahead, at-end, one-more, next-passes, past-note, note-after, all-ahead}
 
 -- a trace without its notes is not longer
 shorter : {m n : ℕ} {s b : List ℕ} → ClosedUp m s b n → length b ≤ length s

@@ -4,7 +4,8 @@
 ghost use Prim.Native.Nat.{_≤_};
 ghost use lib.ListN.{length};
 ghost use Rattle.writing.specs.Filling.{said};
-use telling::Head;
+ghost use Rattle.moving.specs.Tally.{filledOf};
+use moving::Tallied;
 use writing::Filled;
 
 fn main() {
@@ -49,23 +50,23 @@ fn answer(asked: u8, given: &[u8], out: &mut [u8]) -> bool {
     match asked {
         b's' => {
             let filled = rewriting::write_given(given, out);
-            telling::print_answer(Head::Length, filled, out)
+            print_answer(filled, out)
         }
         b'l' => {
             let filled = list_given(given, out);
-            telling::print_answer(Head::Length, filled, out)
+            print_answer(filled, out)
         }
         b'r' => {
             let filled = rewriting::rewrite_whole(given, out);
-            telling::print_answer(Head::Length, filled, out)
+            print_answer(filled, out)
         }
         b'1' => {
             let filled = mover::to_edition_1(given, out);
-            telling::print_answer(Head::Length, filled, out)
+            print_answer(filled, out)
         }
         b'2' => {
             let tallied = mover::to_edition_2(given, out);
-            telling::print_tallied(Head::Length, tallied, out)
+            print_tallied(tallied, out)
         }
         _ => false,
     }
@@ -76,4 +77,46 @@ fn list_given(trace: &[u8], out: &mut [u8]) -> Filled
     ensures { λ r. ⌜ said r .length ≤ length (now (out .exit)) ⌝ }
 {
     lister::list_steps(trace, out)
+}
+
+// ── what is printed ──
+
+// What was put into the buffer, or the line of a refusal. False where standard output takes no more.
+fn print_answer(answer: Filled, out: &[u8]) -> bool
+    requires { ⌜ said answer .length ≤ length (now out) ⌝ }
+{
+    match answer {
+        Filled::Refused(no, place) => print_refusal(no, place),
+        Filled::Length(n) => print_front(out, n),
+    }
+}
+
+// .. and the number of notes, 0 with a refusal.
+fn print_tallied(answer: Tallied, out: &[u8]) -> bool
+    requires { ⌜ said (filledOf answer) .length ≤ length (now out) ⌝ }
+{
+    match answer {
+        Tallied::Refused(no, place) => print_refusal(no, place) && print_number(0),
+        Tallied::Length(n, notes) => print_front(out, n) && print_number(notes),
+    }
+}
+
+// `refused NO PLACE`: two numbers of at most 20 digits. It has a buffer of its own: the one that was lent may have room for less.
+fn print_refusal(no: u8, place: usize) -> bool {
+    let mut line = [0u8; 64];
+    let end = show::put_refused(&mut line, 0, no as usize, place);
+    print_front(&line, end)
+}
+
+// The first n bytes, behind their number.
+fn print_front(bytes: &[u8], n: usize) -> bool
+    requires { ⌜ n ≤ length (now bytes) ⌝ }
+{
+    print_number(n) && io::write_all(1, &bytes[..n])
+}
+
+// 2 bytes little-endian.
+fn print_number(n: usize) -> bool {
+    let bytes = [(n % 256) as u8, (n / 256 % 256) as u8];
+    io::write_all(1, &bytes)
 }

@@ -1,90 +1,97 @@
-// What the programs share that write traces: how they tell an answer. No contract can say what is written to a file descriptor.
+// The texts that the programs print which write traces. Each function takes a whole input and hands back, as the front of a lent buffer, just the bytes that are
+// to be printed: a program writes these, and nothing else. Of the bytes behind them nothing can be said, since a buffer whose part is handed back has no
+// exit; no program looks at them.
+ghost use mathlib.Core.Bool.{true, false};
+ghost use mathlib.Core.Path.{_≡_};
 ghost use Prim.Native.Nat.{_≤_};
 ghost use lib.ListN.{length};
 ghost use Rattle.writing.specs.Filling.{said};
-ghost use Rattle.moving.specs.Tally.{filledOf};
-use moving::Tallied;
+ghost use Rattle.telling.specs.Telling.{givenText, rewrittenText, movedText, notesText};
+ghost use Rattle.telling.specs.Parts.{filledText, outText, Fronts};
+use trace::Out;
 use writing::Filled;
 
-// The bytes of the longest trace that steps make: 127 opens and closes, 19 for both, 1,024 operations, 20 each, and the end, 10.
-pub const LONGEST: usize = 22903;
+// A trace has no more bytes, so whatever comes out has room, and 16 is never given.
+pub const ROOM: usize = 32768;
 
-// What stands before an answer: nothing, or its length, 2 bytes little-endian.
-pub enum Head {
-    None,
-    Length,
+// `refused NO PLACE` and `notes N` are no longer: numbers have at most 20 digits.
+pub const LINE: usize = 64;
+
+// ── standard output ──
+
+// The trace that a starting serial and steps make.
+pub fn given_text<'a>(given: &[u8], out: &'a mut [u8; ROOM]) -> &'a [u8]
+    ensures { λ r. ⌜ (now r ≡ givenText (now (given .entry))) × (r .ptr ≡ out .entry .ptr) ⌝ }
+{
+    let answer = rewriting::write_given(given, out);
+    text_of(answer, out)
 }
 
-// Prints what was put into the buffer, or the line of a refusal. False where standard output takes no more.
-pub fn print_answer(head: Head, answer: Filled, out: &[u8]) -> bool
+// A trace, turned into steps and written again.
+pub fn rewritten_text<'a>(trace: &[u8], out: &'a mut [u8; ROOM]) -> &'a [u8]
+    ensures { λ r. ⌜ (now r ≡ rewrittenText (now (trace .entry))) × (r .ptr ≡ out .entry .ptr) ⌝ }
+{
+    let answer = rewriting::rewrite_whole(trace, out);
+    text_of(answer, out)
+}
+
+// A trace, moved to edition 1; to edition 2.
+pub fn edition_1_text<'a>(trace: &[u8], out: &'a mut [u8; ROOM]) -> &'a [u8]
+    ensures { λ r. ⌜ (now r ≡ movedText false (now (trace .entry))) × (r .ptr ≡ out .entry .ptr) ⌝ }
+{
+    let answer = mover::to_edition_1(trace, out);
+    text_of(answer, out)
+}
+
+pub fn edition_2_text<'a>(trace: &[u8], out: &'a mut [u8; ROOM]) -> &'a [u8]
+    ensures { λ r. ⌜ (now r ≡ movedText true (now (trace .entry))) × (r .ptr ≡ out .entry .ptr) ⌝ }
+{
+    let answer = mover::filled(mover::to_edition_2(trace, out));
+    text_of(answer, out)
+}
+
+// What was put into the buffer, or the line of a refusal in its place.
+fn text_of<'a>(answer: Filled, out: &'a mut [u8; ROOM]) -> &'a [u8]
     requires { ⌜ said answer .length ≤ length (now out) ⌝ }
+    ensures { λ r. ⌜ (now r ≡ filledText answer (now (out .entry))) × (r .ptr ≡ out .entry .ptr) ⌝ }
+{
+    let end = put_text(answer, out);
+    let filled: &'a [u8; ROOM] = out;
+    let bytes: &'a [u8] = filled;
+    &bytes[..end]
+}
+
+fn put_text(answer: Filled, out: &mut [u8]) -> usize
+    requires { ⌜ (said answer .length ≤ length (now out)) × (64 ≤ length (now out)) ⌝ }
+    ensures { λ r. ⌜ Fronts (filledText answer (now (out .entry))) (now (out .entry)) (now (out .exit)) r ⌝ }
 {
     match answer {
-        Filled::Refused(no, place) => print_refusal(head, no, place),
-        Filled::Length(n) => print_front(head, out, n),
+        Filled::Refused(no, place) => show::put_refused(out, 0, no as usize, place),
+        Filled::Length(n) => n,
     }
 }
 
-// .. and tells how many notes the trace had: of one answer as a line on standard error, of one among many in 2 bytes little-endian behind it, 0 with a refusal.
-pub fn print_tallied(head: Head, answer: Tallied, out: &[u8]) -> bool
-    requires { ⌜ said (filledOf answer) .length ≤ length (now out) ⌝ }
+// ── standard error ──
+
+// How many notes a trace has. It is read once more for that: a call hands back a part of one buffer, and those of the move and of this line are two.
+pub fn notes_text<'a>(trace: &[u8], line: &'a mut [u8; LINE]) -> &'a [u8]
+    ensures { λ r. ⌜ (now r ≡ notesText (now (trace .entry))) × (r .ptr ≡ line .entry .ptr) ⌝ }
 {
-    match answer {
-        Tallied::Refused(no, place) => print_refusal(head, no, place) && tell_none(head),
-        Tallied::Length(n, notes) => print_front(head, out, n) && tell_notes(head, notes),
-    }
+    // The words of a history's table.
+    let mut h = [0u64; 2306];
+    let read = trace::read_trace(trace, &mut h);
+    let end = put_notes(read, line);
+    let filled: &'a [u8; LINE] = line;
+    let bytes: &'a [u8] = filled;
+    &bytes[..end]
 }
 
-fn tell_notes(head: Head, notes: usize) -> bool {
-    match head {
-        Head::None => print_notes(notes),
-        Head::Length => print_number(notes),
-    }
-}
-
-fn tell_none(head: Head) -> bool {
-    match head {
-        Head::None => true,
-        Head::Length => print_number(0),
-    }
-}
-
-// `notes N`: a number of at most 20 digits.
-fn print_notes(notes: usize) -> bool {
-    let mut told = [0u8; 64];
-    let end = show::put_notes(&mut told, 0, notes);
-    write_front(2, &told, end)
-}
-
-// `refused NO PLACE`: two numbers of at most 20 digits.
-fn print_refusal(head: Head, no: u8, place: usize) -> bool {
-    let mut line = [0u8; 64];
-    let end = show::put_refused(&mut line, 0, no as usize, place);
-    print_front(head, &line, end)
-}
-
-// The first n bytes.
-fn print_front(head: Head, bytes: &[u8], n: usize) -> bool
-    requires { ⌜ n ≤ length (now bytes) ⌝ }
+fn put_notes(read: Out, line: &mut [u8]) -> usize
+    requires { ⌜ 64 ≤ length (now line) ⌝ }
+    ensures { λ r. ⌜ Fronts (outText read) (now (line .entry)) (now (line .exit)) r ⌝ }
 {
-    print_head(head, n) && write_front(1, bytes, n)
-}
-
-fn write_front(to: i32, bytes: &[u8], n: usize) -> bool
-    requires { ⌜ n ≤ length (now bytes) ⌝ }
-{
-    io::write_all(to, &bytes[..n])
-}
-
-fn print_head(head: Head, n: usize) -> bool {
-    match head {
-        Head::None => true,
-        Head::Length => print_number(n),
+    match read {
+        Out::Bad(_, _) => 0,
+        Out::Good(notes) => show::put_notes(line, 0, notes),
     }
-}
-
-// 2 bytes little-endian.
-fn print_number(n: usize) -> bool {
-    let bytes = [(n % 256) as u8, (n / 256 % 256) as u8];
-    io::write_all(1, &bytes)
 }

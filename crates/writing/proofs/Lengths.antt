@@ -1,6 +1,6 @@
 -- Records one behind the other, with the serials that come.
 use Prim.Native.Nat.{ℕ, _+_, _%_, _^_}
-use mathlib.Core.Path.{_≡_, refl, ap, _∙_}
+use mathlib.Core.Path.{_≡_, refl, ap, sym, _∙_}
 use mathlib.Core.List.{List, [], _∷_, _++_, map}
 use lib.ListN.{length, length-append, length-map}
 use Rattle.rules.specs.Traces.{Item, recordOf, trace}
@@ -33,6 +33,15 @@ module _ {A : Type 0} (f : A → Item) (n : ℕ) (xs : List A) where
   pub items-length : (x : A) → length (trace n (map f (xs ++ (x ∷ [])))) ≡ length (trace n (map f xs)) + (8 + length (f x .payload))
   items-length x =
       ap length (items-more x) ∙ length-append (trace n (map f xs)) (recordOf (serialFrom n (length xs)) (f x)) ∙ rw (record-length (serialFrom n (length xs)) (f x))
+
+-- they are as long with other serials
+pub any-serial : (n m : ℕ) (is : List Item) → length (trace n is) ≡ length (trace m is)
+unfolding trace
+any-serial n m [] = refl
+any-serial n m (i ∷ is) =
+    length-append (recordOf n i) (trace ((n + 1) % 2 ^ 32) is)
+    ∙ rw (record-length n i, any-serial ((n + 1) % 2 ^ 32) ((m + 1) % 2 ^ 32) is, ← record-length m i)
+    (sym (length-append (recordOf m i) (trace ((m + 1) % 2 ^ 32) is)))
 
 -- ── of a sequence of steps ──
 

@@ -15,11 +15,11 @@ use Rattle.rules.specs.Reading.{entered}
 use Rattle.rules.specs.declared.Event.{Event}
 use Rattle.rules.proofs.Numbers.{le-take}
 use Rattle.writing.specs.Steps.{stepOf, stepAt, stepCount, stepsFrom, stepsIn}
-use Rattle.writing.specs.Writing.{writeNo, Followed, bad, good, follow, written}
+use Rattle.writing.specs.Filling.{Work, into}
+use Rattle.writing.specs.Writing.{writeNo, Followed, bad, good, follow, wrote, written}
 use Rattle.writing.proofs.Rows.{taken}
 use Rattle.writing.proofs.Grown.{Grown, grown-none, grown-step, counts}
 use Rattle.writing.proofs.Followed.{follow-bad, follow-on, followed}
-use Rattle.written.proofs.Declined.{written-bad}
 
 -- at most 127 opens, as many closes and 1,024 operations are taken
 pub few-steps : {es : List Event} {h : History} → Grown es h → length es ≤ 1278
@@ -64,14 +64,20 @@ module _ (s : List ℕ) (n : ℕ) (long : 16 * n ≤ length s) where
   front-count = singles-length (λ i. stepAt front (16 * i)) 0 (stepCount front) ∙ omega (arith, front-length)
 
   -- what stands behind them is not looked at
-  pub enough : 1279 ≤ n → (serial : ℕ) (o : List ℕ) → written s serial o ≡ written front serial o
-  enough l serial o = by (follow empty 1 (stepsIn front)) refl
+  pub enough-made : 1279 ≤ n → (serial : ℕ) → wrote serial (stepsIn s) (follow empty 1 (stepsIn s)) ≡ wrote serial (stepsIn front) (follow empty 1 (stepsIn front))
+  unfolding wrote
+  enough-made l serial = ap (wrote serial (stepsIn s)) same ∙ by (follow empty 1 (stepsIn front)) refl
     where
       same : follow empty 1 (stepsIn s) ≡ follow empty 1 (stepsIn front)
       same =
           ap (follow empty 1) steps-kept
           ∙ refused-early empty 1 (stepsIn front) (listed n (stepCount s) (λ i. stepAt s (16 * i) ∷ [])) grown-none (omega (arith, front-count))
 
-      by : (f : Followed) → follow empty 1 (stepsIn front) ≡ f → written s serial o ≡ written front serial o
-      by (bad m p) e = written-bad s serial o (same ∙ e) ∙ sym (written-bad front serial o e)
+      by : (f : Followed) → follow empty 1 (stepsIn front) ≡ f → wrote serial (stepsIn s) f ≡ wrote serial (stepsIn front) f
+      by (bad m p) e = refl
       by (good g) e = absurd (omega (arith, few-steps (followed empty 1 (stepsIn front) grown-none e .0), front-count))
+
+  -- .. whatever the buffer
+  pub enough : 1279 ≤ n → (serial : ℕ) (o : List ℕ) → written s serial o ≡ written front serial o
+  unfolding written
+  enough l serial o = ap (λ (w : Work). into w o) (enough-made l serial)

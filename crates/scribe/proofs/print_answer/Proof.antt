@@ -1,7 +1,7 @@
 use borrow.Author.Needs.{needs}
 use Rattle.writing.specs.Filling.{said}
-use Rattle.telling.proofs.print_answer.Statement.{statement}
-use Rattle.telling.proofs.print_answer.Tie as tie
+use Rattle.scribe.proofs.print_answer.Statement.{statement}
+use Rattle.scribe.proofs.print_answer.Tie as tie
 
 print-front-requires : tie.Need-print-front-requires
 unfolding said

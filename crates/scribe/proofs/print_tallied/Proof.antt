@@ -1,8 +1,8 @@
 use borrow.Author.Needs.{needs}
 use Rattle.writing.specs.Filling.{said}
 use Rattle.moving.specs.Tally.{filledOf}
-use Rattle.telling.proofs.print_tallied.Statement.{statement}
-use Rattle.telling.proofs.print_tallied.Tie as tie
+use Rattle.scribe.proofs.print_tallied.Statement.{statement}
+use Rattle.scribe.proofs.print_tallied.Tie as tie
 
 print-front-requires : tie.Need-print-front-requires
 unfolding said filledOf

@@ -1,8 +1,8 @@
 use native.Mathlib.Omega.{arith}
 use borrow.Author.Needs.{needs}
 use Rattle.text.proofs.Lines.{refused-length}
-use Rattle.telling.proofs.print_refusal.Statement.{statement}
-use Rattle.telling.proofs.print_refusal.Tie as tie
+use Rattle.scribe.proofs.print_refusal.Statement.{statement}
+use Rattle.scribe.proofs.print_refusal.Tie as tie
 
 put-refused-requires : tie.Need-put-refused-requires
 put-refused-requires c κs =

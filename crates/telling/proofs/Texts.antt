@@ -1,0 +1,129 @@
+-- The text of an answer is what the definition says, whatever the buffer held: what is made has room in 32,768 bytes, so 16 is never given.
+use Prim.Native.Nat.{ℕ, _≤_}
+use mathlib.Core.Path.{_≡_, refl, ap, _∙_}
+use mathlib.Core.Bool.{Bool, true, false, true≢false, false≢true}
+use mathlib.Core.List.{List, map}
+use native.Mathlib.Omega.{arith}
+use lib.Dec.{ltb}
+use lib.ListN.{length, take, drop}
+use Rattle.base.specs.Base.{pick, joined}
+use Rattle.base.proofs.Tests.{ifso, pick-both}
+use Rattle.rules.specs.Numbers.{le}
+use Rattle.rules.proofs.Numbers.{over-front}
+use Rattle.rules.specs.History.{History, empty}
+use Rattle.rules.specs.Records.{serialAt, isSecond}
+use Rattle.rules.specs.Reading.{Reading, refused, read, reading}
+use Rattle.demand1.proofs.Readings.{read-short, reads-iff}
+use Rattle.demand1.proofs.Lengths.{lawful-reading}
+use Rattle.text.specs.Lines.{refusedLine}
+use Rattle.trace.specs.declared.Out.{Out}
+use Rattle.trace.specs.Trace.{answered}
+use Rattle.writing.specs.declared.Filled.{Filled}
+use Rattle.writing.specs.declared.Filled.the-variants.{Refused, Length}
+use Rattle.writing.specs.Filling.{refusing, said, Work, refusal, content, Fill, fillOf, Gives, into}
+use Rattle.writing.specs.Steps.{stepBytes, stepsIn}
+use Rattle.writing.specs.Writing.{Followed, bad, good, follow, wrote, written, writtenGiven}
+use Rattle.writing.specs.Listing.{historySteps}
+use Rattle.writing.specs.Rewriting.{rewrittenRead, rewrittenWhole}
+use Rattle.writing.specs.Forms.{itemIn, wholeOf}
+use Rattle.writing.proofs.Filling.{into-fits}
+use Rattle.writing.proofs.Grown.{grown-none, counts}
+use Rattle.writing.proofs.Followed.{followed}
+use Rattle.writing.proofs.Lengths.{any-serial}
+use Rattle.writing.proofs.Sizes.{wholeSize, whole-length, trace-length}
+use Rattle.moving.specs.Moving.{isSame, movedTrace, movedRead, movedTo}
+use Rattle.moving.proofs.Grown.{blocks-grown, blocks-over}
+use Rattle.telling.specs.Telling.{workText, madeText, givenText, againText, rewrittenText, movedText, talliedText, notesText}
+use Rattle.telling.specs.Parts.{filledText, outText}
+
+-- ── work that has room ──
+
+abbrev Fits : Work → Type 0
+Fits (refusal n p) = Unit {0}
+Fits (content l) = length l ≤ 32768
+
+-- what steps make
+made-fits : (n : ℕ) (s : List ℕ) → Fits (wrote n (stepsIn s) (follow empty 1 (stepsIn s)))
+unfolding wrote
+made-fits n s = by (follow empty 1 (stepsIn s)) refl
+  where
+    by : (f : Followed) → follow empty 1 (stepsIn s) ≡ f → Fits (wrote n (stepsIn s) f)
+    by (bad m p) e = tt
+    by (good g) e =
+        let few = counts (followed empty 1 (stepsIn s) grown-none e .0) in
+        omega (arith, trace-length n (stepsIn s) 1 g e, few .few-txs, few .few-ops)
+
+-- a trace that was moved
+size-most : (second : Bool) (t n : ℕ) → t ≤ 127 → n ≤ 1024 → wholeSize second t n ≤ 32768
+size-most false t n a b = omega arith
+size-most true t n a b = omega arith
+
+other-fits : (second : Bool) (n : ℕ) (s : List ℕ) {h : History} {notes : ℕ} → reading s ≡ read h notes → length (movedTrace second n h) ≤ 32768
+unfolding movedTrace
+other-fits second n s {h} e =
+    let w = lawful-reading s e in
+    let few = counts (blocks-grown w) in
+    rw (any-serial n 0 (map (itemIn second) (wholeOf second h)), whole-length second 0 (omega arith) h (blocks-grown w) (blocks-over w))
+    (size-most second _ _ (few .few-txs) (few .few-ops))
+
+moved-fits : (second : Bool) (s : List ℕ) → Fits (movedRead second s (reading s))
+unfolding movedRead
+moved-fits second s = by (reading s) refl
+  where
+    by : (r : Reading) → reading s ≡ r → Fits (movedRead second s r)
+    by (refused n p) e = tt
+    by (read h notes) e =
+        pick-both (λ (l : List ℕ). length l ≤ 32768) (isSame (isSecond s) second) (read-short (reads-iff s h notes .0 e)) (other-fits second (serialAt s 0) s e)
+
+-- ── an answer's text ──
+
+-- of the answer r, which made b of the buffer o
+filled-text : (r : Filled) (b o : List ℕ) → 32768 ≤ length o → (w : Work) → Fits w → fillOf (said r) b ≡ into w o → filledText r b ≡ workText w
+unfolding filledText workText said into
+filled-text (Refused m q) b o room (refusal n p) f e = rw (ap (λ (x : Fill). x .answer .no) e, ap (λ (x : Fill). x .answer .place) e)
+filled-text (Length m) b o room (refusal n p) f e = absurd (false≢true (ap (λ (x : Fill). x .answer .isRefused) e))
+filled-text (Refused m q) b o room (content l) f e =
+    absurd (true≢false (ap (λ (x : Fill). x .answer .isRefused) (e ∙ into-fits l o (omega (arith, f)))))
+filled-text (Length m) b o room (content l) f e =
+    ap (λ (x : Fill). take (x .answer .length) (x .buffer)) (e ∙ into-fits l o (omega (arith, f))) ∙ over-front l o
+
+module _ (r : Filled) (b o : List ℕ) (room : 32768 ≤ length o) where
+  -- a refusal that comes before
+  refused-told : (n p : ℕ) → fillOf (said r) b ≡ fillOf (refusing n p) o → filledText r b ≡ refusedLine n p
+  unfolding workText into
+  refused-told n p e = filled-text r b o room (refusal n p) tt e
+
+  made-told : (s : List ℕ) (n : ℕ) → fillOf (said r) b ≡ written s n o → filledText r b ≡ madeText s n
+  unfolding written madeText
+  made-told s n e = filled-text r b o room (wrote n (stepsIn s) (follow empty 1 (stepsIn s))) (made-fits n s) e
+
+  pub given-told : (g : List ℕ) → Gives r b (writtenGiven g o) → filledText r b ≡ givenText g
+  unfolding writtenGiven givenText pick
+  given-told g x =
+      ifso (ltb (length g) 4) (λ (t : ltb (length g) 4 ≡ true). rw t (refused-told 3 0 (rw t at (x .is))))
+      (λ (f : ltb (length g) 4 ≡ false). rw f (made-told (drop 4 g) (le 4 g 0) (rw f at (x .is))))
+
+  again-told : (s : List ℕ) (q : Reading) → fillOf (said r) b ≡ rewrittenRead s q o → filledText r b ≡ againText s q
+  unfolding rewrittenRead againText pick
+  again-told s (refused n p) e = refused-told n p e
+  again-told s (read h notes) e =
+      ifso (isSecond s) (λ (t : isSecond s ≡ true). rw t (refused-told 6 0 (rw t at e)))
+      (λ (f : isSecond s ≡ false). rw f (made-told (joined stepBytes (historySteps h)) (serialAt s 0) (rw f at e)))
+
+  pub rewritten-told : (s : List ℕ) → Gives r b (rewrittenWhole s o) → filledText r b ≡ rewrittenText s
+  unfolding rewrittenWhole rewrittenText
+  rewritten-told s x = again-told s (reading s) (x .is)
+
+  pub moved-told : (second : Bool) (s : List ℕ) → Gives r b (movedTo second s o) → filledText r b ≡ movedText second s
+  unfolding movedTo movedText
+  moved-told second s x = filled-text r b o room (movedRead second s (reading s)) (moved-fits second s) (x .is)
+
+-- ── the notes ──
+
+pub notes-told : {r : Out} (s : List ℕ) → r ≡ answered (reading s) → outText r ≡ notesText s
+unfolding answered outText notesText talliedText
+notes-told s e = ap outText e ∙ of (reading s)
+  where
+    of : (q : Reading) → outText (answered q) ≡ talliedText q
+    of (refused n p) = refl
+    of (read h notes) = refl

@@ -6,7 +6,6 @@ use native.Mathlib.Omega.{arith}
 use lib.ListN.{length, take, drop}
 use lib.Seq.{take-all, take-at}
 use Rattle.rules.specs.Numbers.{over}
-use Rattle.rules.specs.Reading.{Reading}
 use Rattle.demand1.proofs.Readings.{kept-same}
 use Rattle.text.specs.Answer.{readingText, answerText}
 use Rattle.printing.specs.Printing.{Written}

@@ -1,5 +1,6 @@
-// The texts that the programs print which write traces. Each function takes a whole input and hands back, as the front of a lent buffer, just the bytes that are
-// to be printed: a program writes these, and nothing else. Of the bytes behind them nothing can be said, since a buffer whose part is handed back has no
+// What the programs print that write traces. Each function takes a whole input and hands back, as the front of a lent buffer, just the bytes that are to be
+// printed: a program writes these, and nothing else. What they are is said in specs/, without a buffer; that stands here, since no crate below knows both the
+// lines (`text`) and the calls that write and move traces. Of the bytes behind the text nothing can be said, since a buffer whose part is handed back has no
 // exit; no program looks at them.
 ghost use mathlib.Core.Bool.{true, false};
 ghost use mathlib.Core.Path.{_≡_};
@@ -11,10 +12,10 @@ ghost use Rattle.telling.specs.Parts.{filledText, outText, Fronts};
 use trace::Out;
 use writing::Filled;
 
-// A trace has no more bytes, so whatever comes out has room, and 16 is never given.
+// A trace has no more bytes, so whatever comes out has room, a refusal's line too, and 16 is never given.
 pub const ROOM: usize = 32768;
 
-// `refused NO PLACE` and `notes N` are no longer: numbers have at most 20 digits.
+// Room for `notes N`: a number has at most 20 digits.
 pub const LINE: usize = 64;
 
 // ── standard output ──
@@ -73,7 +74,8 @@ fn put_text(answer: Filled, out: &mut [u8]) -> usize
 
 // ── standard error ──
 
-// How many notes a trace has. It is read once more for that: a call hands back a part of one buffer, and those of the move and of this line are two.
+// How many notes a trace has; nothing of one that is refused. It is read once more for that: a call hands back a part of one buffer, and the moved trace
+// and this line stand in two.
 pub fn notes_text<'a>(trace: &[u8], line: &'a mut [u8; LINE]) -> &'a [u8]
     ensures { λ r. ⌜ (now r ≡ notesText (now (trace .entry))) × (r .ptr ≡ line .entry .ptr) ⌝ }
 {

@@ -1,9 +1,10 @@
 -- By the contracts alone: a trace that is moved, and judged before and after.
 use Prim.Native.Nat.{ℕ}
-use mathlib.Core.Path.{_≡_, sym, _∙_}
+use mathlib.Core.Path.{_≡_, ap, _∙_}
 use mathlib.Core.Bool.{Bool}
 use mathlib.Core.List.{List}
 use lib.ListN.{take}
+use Rattle.rules.specs.Numbers.{over}
 use Rattle.rules.specs.Outcome.{outcome, reported, judged}
 use Rattle.rules.specs.History.{History}
 use Rattle.rules.specs.Records.{isSecond}
@@ -13,7 +14,7 @@ use Rattle.demand1.proofs.Readings.{history-one}
 use Rattle.demands.specs.Demands.{Demands}
 use Rattle.demands.proofs.Meets.{meets}
 use Rattle.demands.proofs.One.{demands-one}
-use Rattle.writing.specs.Filling.{answering, said, fillOf}
+use Rattle.writing.specs.Filling.{Said, answering, said, fillOf}
 use Rattle.written.specs.Writes.{AllBytes}
 use Rattle.renumbering.specs.Renumbering.{AnswersAlike}
 use Rattle.moving.specs.Moving.{movedTo}
@@ -41,21 +42,24 @@ module _ (second : Bool) (s : List ℕ) (b : AllBytes s) (o : List ℕ) (level :
   came : (n : ℕ) → said (r .moved) ≡ answering n → ComesOut second s (take (said (r .moved) .length) B)
   came n e =
       let w = moves second s b o (r .moved) B m .filled n e in
-      let u : take (said (r .moved) .length) B ≡ w .content = rw (e, w .long, w .is) (over-front (w .content) o) in
+      let c = w .content in
+      let u : take (said (r .moved) .length) B ≡ c =
+      ap (λ (x : Said). take (x .length) B) e ∙ ap (take n) (w .is) ∙ ap (λ (k : ℕ). take k (over c o)) (w .long) ∙ over-front c o in
       rw u (w .good)
 
-  module _ {c : List ℕ} (d : Demands c level fs ps os (r .after) F' P' O') where
-    alike : ComesOut second s c → (h : History) → HasHistory s h → (isSecond s ≡ second → ⊥) → AnswersAlike (newNumber h) (r .before) (r .after) F P O F' P' O'
-    alike (unchanged e _) h t other = absurd (other e)
-    alike (was-moved _ k) h t other =
-        let q : k .history ≡ h = history-one (k .reads) t in
-        let z : AnswersAlike (newNumber (k .history)) (r .before) (r .after) F P O F' P' O' =
-        moved-alike k level fs ps os (r .before) (r .after) F P O F' P' O' before d in
-        rw q at z
+  alike : {c : List ℕ} → ComesOut second s c → Demands c level fs ps os (r .after) F' P' O' → (h : History) → HasHistory s h → (isSecond s ≡ second → ⊥)
+      → AnswersAlike (newNumber h) (r .before) (r .after) F P O F' P' O'
+  alike (unchanged e _) d h t other = absurd (other e)
+  alike (was-moved _ k) d h t other =
+      let q : k .history ≡ h = history-one (k .reads) t in
+      let z : AnswersAlike (newNumber (k .history)) (r .before) (r .after) F P O F' P' O' =
+      moved-alike k level fs ps os (r .before) (r .after) F P O F' P' O' before d in
+      rw q at z
 
-    same : ComesOut second s c → isSecond s ≡ second → (r .after ≡ r .before) × (F' ≡ F) × (P' ≡ P) × (O' ≡ O)
-    same (unchanged _ _) e = demands-one s level fs ps os (r .after) (r .before) F' P' O' F P O d before
-    same (was-moved other _) e = absurd (other e)
+  same : {c : List ℕ} → ComesOut second s c → Demands c level fs ps os (r .after) F' P' O' → isSecond s ≡ second
+      → (r .after ≡ r .before) × (F' ≡ F) × (P' ≡ P) × (O' ≡ O)
+  same (unchanged _ _) d e = demands-one s level fs ps os (r .after) (r .before) F' P' O' F P O d before
+  same (was-moved other _) d e = absurd (other e)
 
   pub moved-and-judged : MovedAndJudged second s o level r B fs ps os fs' ps' os' F P O F' P' O'
   moved-and-judged =
@@ -63,6 +67,6 @@ module _ (second : Bool) (s : List ℕ) (b : AllBytes s) (o : List ℕ) (level :
         moves = moves second s b o (r .moved) B m;
         judged-before = before;
         judged-after = after;
-        alike = λ e f g n i h t other. alike (after-same e f g) (came n i) h t other;
-        unchanged = λ e f g n i s. same (after-same e f g) (came n i) s;
+        alike = λ e f g n i h t other. alike (came n i) (after-same e f g) h t other;
+        unchanged = λ e f g n i q. same (came n i) (after-same e f g) q;
       }

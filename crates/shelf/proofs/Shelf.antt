@@ -101,7 +101,7 @@ module _ (s : List ℕ) (b : AllBytes s) (x o y : List ℕ) (q : Tallied) (e : t
         record {
           not-out = λ m i c. absurd (apart (sym (was-put ∙ declined-is true s b x m i c)) refl refl);
           out =
-              λ {a} c l.
+              λ {b = a} c l.
               let i = comes-is true s b c x l in
               let u : take n y ≡ a = front-is i in
               (ap (λ (g : Fill). g .buffer) (was-put ∙ i), moves false a (out-bytes b c) o r B (rw u at d));

@@ -7,7 +7,6 @@ ghost use lib.ListN.{length, take};
 ghost use Rattle.rules.specs.Outcome.{reported, outcome, judged};
 ghost use Rattle.writing.specs.Filling.{said, Gives};
 ghost use Rattle.moving.specs.Moving.{movedTo};
-ghost use Rattle.moving.specs.Tally.{filledOf};
 ghost use Rattle.moved.specs.Moved.{Moves, MovesToSecond};
 ghost use Rattle.shelf.specs.Shelf.{CameBack, MovedAndJudged};
 use moving::Tallied;
@@ -88,18 +87,9 @@ fn move_to(second: bool, trace: &[u8], out: &mut [u8]) -> Filled
 {
     if second {
         let tallied = mover::to_edition_2(trace, out);
-        return filled_of(tallied);
+        return mover::filled(tallied);
     }
     mover::to_edition_1(trace, out)
-}
-
-fn filled_of(tallied: Tallied) -> Filled
-    ensures { λ r. ⌜ r ≡ filledOf tallied ⌝ }
-{
-    match tallied {
-        Tallied::Refused(no, place) => Filled::Refused(no, place),
-        Tallied::Length(n, _) => Filled::Length(n),
-    }
 }
 
 // The length that was answered, 0 with a refusal.

@@ -14,8 +14,8 @@ use Rattle.base.proofs.Tests.{ifso, neither-left, neither-right, not-false, pic
 use Rattle.rules.specs.Numbers.{le}
 use Rattle.rules.proofs.Numbers.{le-same, le-take}
 use Rattle.rules.specs.Records.{lenAt, kindAt, nextAt, payloadAt, isSecond, fieldsFrom, sessionAt, lows, eventAt, breaks, isUnknown, isMisfit, isLate, isOtherEdition, frameRows}
-use Rattle.frame.specs.Framing.{kindRows, sessionOf, saidOf, saidAt, Fit, framing}
-use Rattle.frame.specs.declared.Said.{Said}
+use Rattle.frame.specs.Framing.{kindRows, sessionOf, statedOf, statedAt, Fit, framing}
+use Rattle.frame.specs.declared.Stated.{Stated}
 use Rattle.frame.specs.declared.Framed.the-variants as F
 use Rattle.base.proofs.Rows.{fit-past, fit-here, fit-none, fit-unfit, RowsCounted, fit-behind}
 
@@ -69,11 +69,11 @@ leasts true = record { opens = refl; reads = refl; writes = refl; closes = refl;
 leasts false = record { opens = refl; reads = refl; writes = refl; closes = refl; ends = refl }
 
 -- what a record of the kind k says is what one of this kind does, where k is its kind
-pub of-kind : (second : Bool) (p : List ℕ) {kind k : ℕ} {r : Said} → kind ≡ k → r ≡ saidOf second k p → r ≡ saidOf second kind p
+pub of-kind : (second : Bool) (p : List ℕ) {kind k : ℕ} {r : Stated} → kind ≡ k → r ≡ statedOf second k p → r ≡ statedOf second kind p
 of-kind second p e h = rw e h
 
 -- what is read in the trace's own edition is the record's event
-pub event-here : (s : List ℕ) (at : ℕ) {second : Bool} → second ≡ isSecond s → saidAt second s at .event ≡ eventAt s at
+pub event-here : (s : List ℕ) (at : ℕ) {second : Bool} → second ≡ isSecond s → statedAt second s at .event ≡ eventAt s at
 unfolding eventAt
 event-here s at q = rw q
 
@@ -193,7 +193,7 @@ module _ (second : Bool) (s : List ℕ) (at e : ℕ) where
   unfolding framing pick
   framing-bad q h = rw (q) (rw (lt-ltb 0 (firstFit (frameRows second s at e)) (omega arith)) refl)
 
-  pub framing-good : firstFit (frameRows second s at e) ≡ 0 → F.Good (saidAt second s at) ≡ framing second s at e
+  pub framing-good : firstFit (frameRows second s at e) ≡ 0 → F.Good (statedAt second s at) ≡ framing second s at e
   unfolding framing pick
   framing-good h = rw h
 
@@ -207,11 +207,11 @@ module _ (second : Bool) (s : List ℕ) (at e : ℕ) where
       let q : firstFit (frameRows second s at e) ≡ n = cc in
       (q, rw (← q) (ltb-true _ _ t)))
       (λ t.
-      let g : F.Good (saidAt second s at) ≡ F.Bad n = sym (pick-off _ _ _ t) ∙ h in
+      let g : F.Good (statedAt second s at) ≡ F.Bad n = sym (pick-off _ _ _ t) ∙ h in
       let z : _≡_ {A = ℕ} 0 1 = cc in
       absurd (omega arith))
 
-  pub is-good : {x : Said} → framing second s at e ≡ F.Good x → (firstFit (frameRows second s at e) ≡ 0) × (saidAt second s at ≡ x)
+  pub is-good : {x : Stated} → framing second s at e ≡ F.Good x → (firstFit (frameRows second s at e) ≡ 0) × (statedAt second s at ≡ x)
   unfolding framing
   is-good {x} h =
       ifso (ltb 0 (firstFit (frameRows second s at e)))
@@ -220,18 +220,18 @@ module _ (second : Bool) (s : List ℕ) (at e : ℕ) where
       let z : _≡_ {A = ℕ} 0 1 = cc in
       absurd (omega arith))
       (λ t.
-      let g : F.Good (saidAt second s at) ≡ F.Good x = sym (pick-off _ _ _ t) ∙ h in
+      let g : F.Good (statedAt second s at) ≡ F.Good x = sym (pick-off _ _ _ t) ∙ h in
       let z : firstFit (frameRows second s at e) ≤ 0 = ltb-false _ _ t in
       (omega arith, cc))
 
-  pub good-fit : {x : Said} → framing second s at e ≡ F.Good x → Fit second s at
+  pub good-fit : {x : Stated} → framing second s at e ≡ F.Good x → Fit second s at
   good-fit h = fit (is-good h .0)
 
   -- its session is the one that its kind's reader finds in the payload, which in edition 2 begins with the session
-  pub good-session : {x : Said} → framing second s at e ≡ F.Good x → x .session ≡ sessionOf second (payloadAt s at) (x .event)
+  pub good-session : {x : Stated} → framing second s at e ≡ F.Good x → x .session ≡ sessionOf second (payloadAt s at) (x .event)
   good-session h = rw (← is-good h .1)
 
-  pub good-begins : {x : Said} → framing second s at e ≡ F.Good x → second ≡ true → le 2 (payloadAt s at) 0 ≡ sessionAt s at
+  pub good-begins : {x : Stated} → framing second s at e ≡ F.Good x → second ≡ true → le 2 (payloadAt s at) 0 ≡ sessionAt s at
   good-begins h q = payload-begins s at (good-fit h .session q)
 
   -- rows behind those of the framing: where it passed they decide, where not they do not matter

@@ -10,7 +10,7 @@ use Rattle.rules.specs.Numbers.{le}
 use Rattle.rules.specs.Records.{lenAt, kindAt, nextAt, payloadAt, fieldsFrom, lows, eventOf, isUnknown, isMisfit, isLate, isOtherEdition, frameRows}
 use Rattle.rules.specs.declared.Event.{Event}
 use Rattle.rules.specs.declared.Event.the-variants.{Open, Read, Write, Close, End, Note, Other}
-use Rattle.frame.specs.declared.Said.{Said}
+use Rattle.frame.specs.declared.Stated.{Stated}
 use Rattle.frame.specs.declared.Framed.{Framed}
 use Rattle.frame.specs.declared.Framed.the-variants.{Good, Bad}
 
@@ -39,21 +39,21 @@ sessionOf second p Note = 0
 sessionOf second p Other = 0
 
 -- what a record says: a session and an event
-abbrev pub said : ℕ → Event → Said
-said n e = record { session = n; event = e }
+abbrev pub stated : ℕ → Event → Stated
+stated n e = record { session = n; event = e }
 
 -- .. one of this kind with the payload p
-abbrev pub saidOf : Bool → ℕ → List ℕ → Said
-saidOf second kind p = said (sessionOf second p (eventOf second kind p)) (eventOf second kind p)
+abbrev pub statedOf : Bool → ℕ → List ℕ → Stated
+statedOf second kind p = stated (sessionOf second p (eventOf second kind p)) (eventOf second kind p)
 
 -- .. the one at `at`
-abbrev pub saidAt : Bool → List ℕ → ℕ → Said
-saidAt second s at = saidOf second (kindAt s at) (payloadAt s at)
+abbrev pub statedAt : Bool → List ℕ → ℕ → Stated
+statedAt second s at = statedOf second (kindAt s at) (payloadAt s at)
 
 -- the first of the framing's rows that refuses the record at `at`, or else what it says; e is the serial that has to come
 unfoldable pub framing : Bool → List ℕ → ℕ → ℕ → Framed
 framing second s at e =
-    pick (ltb 0 (firstFit (frameRows second s at e))) (Bad (firstFit (frameRows second s at e))) (Good (saidAt second s at))
+    pick (ltb 0 (firstFit (frameRows second s at e))) (Bad (firstFit (frameRows second s at e))) (Good (statedAt second s at))
 
 -- the record at `at` lies within the trace, its payload is as long as its kind needs, and in edition 2 as long as a session
 pub record Fit (second : Bool) (s : List ℕ) (at : ℕ) : Type 0 where

@@ -7,7 +7,7 @@ ghost use lib.Dec.{ltb};
 ghost use Rattle.base.specs.Base.{_or_, firstFit};
 ghost use Rattle.rules.specs.Numbers.{le};
 ghost use Rattle.rules.specs.Records.{lenAt, nextAt, payloadAt, isSecond, fieldsFrom, lows, breaks, isUnknown, isMisfit, isLate, isOtherEdition, frameRows};
-ghost use Rattle.frame.specs.Framing.{kindRows, said, sessionIn, saidOf, saidAt, Fit, framing};
+ghost use Rattle.frame.specs.Framing.{kindRows, stated, sessionIn, statedOf, statedAt, Fit, framing};
 use rules::Event;
 
 // "all little-endian": the numbers that 2, 4 and 8 bytes spell.
@@ -53,7 +53,7 @@ fn payload_at(s: &[u8], at: usize) -> &[u8]
 }
 
 // What a record says: the session that it names, 0 where it names none, and its event.
-pub struct Said {
+pub struct Stated {
     pub session: u16,
     pub event: Event,
 }
@@ -83,59 +83,59 @@ fn session_in(p: &[u8], second: bool) -> u16
 }
 
 // Kind 1, open: session, 2 bytes.
-fn read_open(p: &[u8]) -> Said
+fn read_open(p: &[u8]) -> Stated
     requires { ⌜ 2 ≤ length (now p) ⌝ }
-    ensures { λ r. ⌜ r ≡ said (le 2 (now (p .entry)) 0) (Event.Open (le 2 (now (p .entry)) 0)) ⌝ }
+    ensures { λ r. ⌜ r ≡ stated (le 2 (now (p .entry)) 0) (Event.Open (le 2 (now (p .entry)) 0)) ⌝ }
 {
     let session = u16_at(p, 0);
-    Said {
+    Stated {
         session: session,
         event: Event::Open(session),
     }
 }
 
 // Kind 2, read: key, 4; value, 8.
-fn read_read(p: &[u8], second: bool) -> Said
+fn read_read(p: &[u8], second: bool) -> Stated
     requires { ⌜ fieldsFrom second + 12 ≤ length (now p) ⌝ }
-    ensures { λ r. ⌜ r ≡ said (sessionIn second (now (p .entry))) (Event.Read (le 4 (now (p .entry)) (fieldsFrom second)) (le 8 (now (p .entry)) (fieldsFrom second + 4))) ⌝ }
+    ensures { λ r. ⌜ r ≡ stated (sessionIn second (now (p .entry))) (Event.Read (le 4 (now (p .entry)) (fieldsFrom second)) (le 8 (now (p .entry)) (fieldsFrom second + 4))) ⌝ }
 {
     let from = fields_from(second);
-    Said {
+    Stated {
         session: session_in(p, second),
         event: Event::Read(u32_at(p, from), u64_at(p, from + 4)),
     }
 }
 
 // Kind 3, write: key, 4; value, 8.
-fn read_write(p: &[u8], second: bool) -> Said
+fn read_write(p: &[u8], second: bool) -> Stated
     requires { ⌜ fieldsFrom second + 12 ≤ length (now p) ⌝ }
-    ensures { λ r. ⌜ r ≡ said (sessionIn second (now (p .entry))) (Event.Write (le 4 (now (p .entry)) (fieldsFrom second)) (le 8 (now (p .entry)) (fieldsFrom second + 4))) ⌝ }
+    ensures { λ r. ⌜ r ≡ stated (sessionIn second (now (p .entry))) (Event.Write (le 4 (now (p .entry)) (fieldsFrom second)) (le 8 (now (p .entry)) (fieldsFrom second + 4))) ⌝ }
 {
     let from = fields_from(second);
-    Said {
+    Stated {
         session: session_in(p, second),
         event: Event::Write(u32_at(p, from), u64_at(p, from + 4)),
     }
 }
 
 // Kind 4, close: status, 1 byte.
-fn read_close(p: &[u8], second: bool) -> Said
+fn read_close(p: &[u8], second: bool) -> Stated
     requires { ⌜ fieldsFrom second + 1 ≤ length (now p) ⌝ }
-    ensures { λ r. ⌜ r ≡ said (sessionIn second (now (p .entry))) (Event.Close (le 1 (now (p .entry)) (fieldsFrom second))) ⌝ }
+    ensures { λ r. ⌜ r ≡ stated (sessionIn second (now (p .entry))) (Event.Close (le 1 (now (p .entry)) (fieldsFrom second))) ⌝ }
 {
     let from = fields_from(second);
-    Said {
+    Stated {
         session: session_in(p, second),
         event: Event::Close(p[from] as u16),
     }
 }
 
 // Kind 5, end: number of transactions opened, 2 bytes.
-fn read_end(p: &[u8]) -> Said
+fn read_end(p: &[u8]) -> Stated
     requires { ⌜ 2 ≤ length (now p) ⌝ }
-    ensures { λ r. ⌜ r ≡ said 0 (Event.End (le 2 (now (p .entry)) 0)) ⌝ }
+    ensures { λ r. ⌜ r ≡ stated 0 (Event.End (le 2 (now (p .entry)) 0)) ⌝ }
 {
-    Said {
+    Stated {
         session: 0,
         event: Event::End(u16_at(p, 0)),
     }
@@ -150,9 +150,9 @@ fn read_edition(p: &[u8]) -> u16
 }
 
 // What the payload p of a record of this kind says. A note's text has no part in judging; kind 16's number is checked by row 8, and is no event.
-fn said_of(second: bool, kind: u16, p: &[u8]) -> Said
+fn stated_of(second: bool, kind: u16, p: &[u8]) -> Stated
     requires { ⌜ getD (lows second) kind 0 ≤ length (now p) + 6 ⌝ }
-    ensures { λ r. ⌜ r ≡ saidOf second kind (now (p .entry)) ⌝ }
+    ensures { λ r. ⌜ r ≡ statedOf second kind (now (p .entry)) ⌝ }
 {
     match kind {
         1 => read_open(p),
@@ -160,11 +160,11 @@ fn said_of(second: bool, kind: u16, p: &[u8]) -> Said
         3 => read_write(p, second),
         4 => read_close(p, second),
         5 => read_end(p),
-        6 => Said {
+        6 => Stated {
             session: 0,
             event: Event::Note,
         },
-        _ => Said {
+        _ => Stated {
             session: 0,
             event: Event::Other,
         },
@@ -172,11 +172,11 @@ fn said_of(second: bool, kind: u16, p: &[u8]) -> Said
 }
 
 // What the record at `at` says, whose framing passed.
-fn said_at(s: &[u8], at: usize, second: bool) -> Said
+fn stated_at(s: &[u8], at: usize, second: bool) -> Stated
     requires { ⌜ Fit second (now s) at ⌝ }
-    ensures { λ r. ⌜ r ≡ saidAt second (now (s .entry)) at ⌝ }
+    ensures { λ r. ⌜ r ≡ statedAt second (now (s .entry)) at ⌝ }
 {
-    said_of(second, u16_at(s, at + 2), payload_at(s, at))
+    stated_of(second, u16_at(s, at + 2), payload_at(s, at))
 }
 
 // Row 5, "serial doesn't follow"; "The first serial is free".
@@ -306,7 +306,7 @@ fn frame_no(s: &[u8], at: usize, expected: u32, second: bool) -> u8
 
 // What comes of framing a record: what it says, or the number of the row that refuses it.
 pub enum Framed {
-    Good(Said),
+    Good(Stated),
     Bad(u8),
 }
 
@@ -319,5 +319,5 @@ pub fn frame_at(s: &[u8], at: usize, expected: u32, second: bool) -> Framed
     if 0 < no {
         return Framed::Bad(no);
     }
-    Framed::Good(said_at(s, at, second))
+    Framed::Good(stated_at(s, at, second))
 }

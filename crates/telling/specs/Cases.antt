@@ -19,8 +19,8 @@ pub record GivenText : Type 0 where
 abbrev gives : List ℕ → List ℕ → GivenText
 gives g t = record { bytes = g; text = t }
 
-abbrev pub givenTable : List GivenText
-givenTable =
+abbrev pub handedTable : List GivenText
+handedTable =
     -- no serial
     gives (0 ∷ 0 ∷ 0 ∷ []) (text "refused 3 0\n")
     -- no steps; an open of session 7 and its close; the open alone; one byte
@@ -39,9 +39,9 @@ givenTable =
 abbrev pub givenNow : GivenText → GivenText
 givenNow c = gives (c .bytes) (givenText (c .bytes))
 
-unfoldable pub as-given : map givenNow givenTable ≡ givenTable
+unfoldable pub as-handed : map givenNow handedTable ≡ handedTable
 unfolding as-printed as-moved workText madeText givenText againText rewrittenText movedText talliedText notesText notesLine
-as-given = refl
+as-handed = refl
 
 -- ── a trace ──
 
@@ -78,5 +78,5 @@ abbrev pub textsNow : TraceTexts → TraceTexts
 textsNow c = texts (c .bytes) (rewrittenText (c .bytes)) (movedText false (c .bytes)) (movedText true (c .bytes)) (notesText (c .bytes))
 
 pub as-told : map textsNow traceTable ≡ traceTable
-unfolding as-given
+unfolding as-handed
 as-told = refl

@@ -16,7 +16,7 @@ use Rattle.rules.specs.Reading.{isEnd, notesBehind, misplaced, stepRows, entere
 use Rattle.rules.specs.declared.Event.{Event}
 use Rattle.rules.specs.declared.Event.the-variants as E
 use Rattle.frame.specs.Framing.{sessionOf, Fit, framing}
-use Rattle.frame.specs.declared.Said.{Said}
+use Rattle.frame.specs.declared.Stated.{Stated}
 use Rattle.frame.specs.declared.Framed.{Framed}
 use Rattle.frame.specs.declared.Framed.the-variants as F
 use Rattle.base.proofs.Rows.{fit-append}
@@ -90,9 +90,9 @@ module _ (s : List ℕ) (at serial : ℕ) (h : History) {second : Bool} (own : s
       let b = is-bad second s at serial q in
       (rw (← own) (fit-append _ _ (rw (b .0) (b .1)) ∙ b .0), b .1)
 
-  module _ {w : Said} (q : framing second s at serial ≡ F.Good w) where
+  module _ {w : Stated} (q : framing second s at serial ≡ F.Good w) where
     same : eventAt s at ≡ w .event
-    same = sym (event-here s at own) ∙ ap (λ (x : Said). x .event) (is-good second s at serial q .1)
+    same = sym (event-here s at own) ∙ ap (λ (x : Stated). x .event) (is-good second s at serial q .1)
 
     meets : metAt s at h ≡ metIn second h (sessionAt s at) (w .event)
     meets = rw (← own, same)
@@ -113,7 +113,7 @@ turned-bad s g at serial notes own q h =
     record { is = rw (b .0, t); words = rw (b .0, t); history = rw (b .0, t); held = h }
 
 -- the framing passes, and the step answers
-module _ (s g g2 : List ℕ) (at serial notes : ℕ) (w : Said) (next : Next) {second : Bool} (own : second ≡ isSecond s)
+module _ (s g g2 : List ℕ) (at serial notes : ℕ) (w : Stated) (next : Next) {second : Bool} (own : second ≡ isSecond s)
     (fr : framing second s at serial ≡ F.Good w) (x : Took next g2 g (metIn second (historyOf g) (w .session) (w .event)) (w .event)) where
   took : Took next g2 g (metIn second (historyOf g) (sessionAt s at) (w .event)) (w .event)
   took =

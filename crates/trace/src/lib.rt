@@ -48,9 +48,9 @@ fn turn_at(
     let framed = frame::frame_at(s, at, serial, second);
     match framed {
         Framed::Bad(no) => Turn::Stop(Out::Bad(no, at)),
-        Framed::Good(said) => {
-            let event = said.event;
-            let next = sessions::take(event, said.session, second, h, o);
+        Framed::Good(stated) => {
+            let event = stated.event;
+            let next = sessions::take(event, stated.session, second, h, o);
             let len = frame::u16_at(s, at) as usize;
             let after = at + 2 + len;
             // "after 4,294,967,295 comes 0"

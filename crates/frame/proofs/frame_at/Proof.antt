@@ -9,13 +9,13 @@ returns : tie.Need-returns
 returns c =
     framing-bad _ _ _ _ (c .before .frame-no .ensures) (c .if1 .taken)
 
-said-at-requires : tie.Need-said-at-requires
-said-at-requires c κs =
+stated-at-requires : tie.Need-stated-at-requires
+stated-at-requires c κs =
     fit _ _ _ (c .before .before .before .args .expected) (sym (c .before .frame-no .ensures) ∙ omega arith)
 
 returns-2 : tie.Need-returns-2
 returns-2 c =
-    rw (c .said-at .ensures) (framing-good _ _ _ (c .before .before .before .before .args .expected) (sym (c .before .before .frame-no .ensures) ∙ omega arith))
+    rw (c .stated-at .ensures) (framing-good _ _ _ (c .before .before .before .before .args .expected) (sym (c .before .before .frame-no .ensures) ∙ omega arith))
 
 pub frame-at-spec : {M : Type 1} → statement M
-frame-at-spec = tie.close (tie.spec (λ c κs. search needs) returns said-at-requires returns-2)
+frame-at-spec = tie.close (tie.spec (λ c κs. search needs) returns stated-at-requires returns-2)

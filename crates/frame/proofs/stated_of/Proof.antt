@@ -5,8 +5,8 @@ use Rattle.rules.specs.declared.Event.the-variants.{Other}
 use Rattle.frame.specs.Framing.{sessionOf}
 use Rattle.frame.proofs.Frames.{long-enough, leasts, of-kind}
 use borrow.Author.Tests.{ne-eqb}
-use Rattle.frame.proofs.said_of.Statement.{statement}
-use Rattle.frame.proofs.said_of.Tie as tie
+use Rattle.frame.proofs.stated_of.Statement.{statement}
+use Rattle.frame.proofs.stated_of.Tie as tie
 
 other : tie.Need-returns-7
 unfolding eventOf pick sessionOf
@@ -18,9 +18,9 @@ other c =
     rw e
 
 -- each kind's reader gets a payload that is long enough for it, and what it answers is what a record of that kind says
-pub said-of-spec : {M : Type 1} → statement M
+pub stated-of-spec : {M : Type 1} → statement M
 unfolding eventOf pick sessionOf
-said-of-spec =
+stated-of-spec =
     tie.close
     (tie.spec (λ c κs. let f = c .before .before in long-enough (f .args .second) (f .args .p .now) (c .match .keys1) (f .pre) (leasts (f .args .second) .opens))
     (λ c κs. let f = c .before .before in long-enough (f .args .second) (f .args .p .now) (c .match .keys2) (f .pre) (leasts (f .args .second) .reads))

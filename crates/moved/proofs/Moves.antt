@@ -27,6 +27,22 @@ use Rattle.moved.specs.Moved.{Moved, ComesOut, unchanged, was-moved, mov
 use Rattle.moved.proofs.Spelt.{records-one}
 use Rattle.moved.proofs.Moved.{moved-length, is-moved}
 
+-- ── what comes out ──
+
+-- two traces that s was moved to: their records are those of one history
+moved-one : {second : Bool} {s : List ℕ} (x y : List ℕ) → Moved second s x → Moved second s y → x ≡ y
+moved-one {second} {s} x y a c =
+    let h : c .history ≡ a .history = history-one (c .reads) (a .reads) in
+    let q : RecordsAre y (serial s 0) (wholeOf second (a .history)) = rw h at (c .records) in
+    records-one x y (a .wanted) (c .wanted) (a .records) q
+
+-- what comes out is one
+pub comes-one : {second : Bool} {s : List ℕ} (x y : List ℕ) → ComesOut second s x → ComesOut second s y → x ≡ y
+comes-one x y (unchanged e r) (unchanged d q) = refl
+comes-one x y (unchanged e r) (was-moved d m) = absurd (d e)
+comes-one x y (was-moved d m) (unchanged e r) = absurd (d e)
+comes-one x y (was-moved d m) (was-moved e k) = moved-one x y m k
+
 module _ (second : Bool) (s : List ℕ) (b : AllBytes s) (o : List ℕ) where
   -- ── the definition's cases ──
 
@@ -51,26 +67,39 @@ module _ (second : Bool) (s : List ℕ) (b : AllBytes s) (o : List ℕ) where
       let n = moved-length second s b r in
       moved-other second s o (read-has r) (other-test d) ∙ into-short (movedTrace second (serial s 0) h) o (omega (arith, n)) ∙ ap (λ (x : ℕ). fillOf (refusing 16 x) o) n
 
+  -- what comes out is put where it has room
+  pub comes-is : {x : List ℕ} → ComesOut second s x → length x ≤ length o → movedTo second s o ≡ fillOf (answering (length x)) (over x o)
+  comes-is (unchanged e r) l = same-fits r e l
+  comes-is {x} (was-moved d m) l =
+      let r = m .reads in
+      let e = moved-one x (movedTrace second (serial s 0) (m .history)) m (is-moved second s b r d) in
+      let long = moved-length second s b r in
+      rw e (moved-fits r d (omega (arith, long, ap length e)))
+
   -- ── the promise ──
 
-  abbrev Out : Type 0
-  Out = CameOut (MoveDeclines second s (length o)) (ComesOut second s) o (movedTo second s o) declined-is
+  -- every move is refused, or something comes out that has room
+  abbrev Total : Type 0
+  Total = ((m : ℕ) × (p : ℕ) × MoveDeclines second s (length o) m p) ⊎ ((x : List ℕ) × ComesOut second s x × (length x ≤ length o))
 
-  out : Out
-  out = by (reading s) refl
+  pub move-total : Total
+  move-total = by (reading s) refl
     where
-      by : (x : Reading) → reading s ≡ x → Out
-      by (refused n p) e = declining n p (trace-refused (refuses-iff s n p .0 e))
+      by : (x : Reading) → reading s ≡ x → Total
+      by (refused n p) e = inl (n, p, trace-refused (refuses-iff s n p .0 e))
       by (read h notes) e =
           let r = has-read e in
           ifso (isSame (isSecond s) second)
           (λ t.
           let q = same-iff (isSecond s) second .0 t in
-          ⊎-elim (λ l. declining 16 (length s) (unchanged-short q r l)) (λ l. putting s (unchanged q r) (same-fits r q l)) (split (length o) (length s)))
+          ⊎-elim (λ l. inl (16, length s, unchanged-short q r l)) (λ l. inr (s, unchanged q r, l)) (split (length o) (length s)))
           (λ t.
           let d : isSecond s ≡ second → ⊥ = λ q. clash (same-iff (isSecond s) second .1 q) t in
-          ⊎-elim (λ l. declining 16 (movedLength second h) (moved-short d r l))
-          (λ l. putting (movedTrace second (serial s 0) h) (was-moved d (is-moved second s b r d)) (moved-fits r d l)) (split (length o) (movedLength second h)))
+          ⊎-elim (λ l. inl (16, movedLength second h, moved-short d r l))
+          (λ l. inr (movedTrace second (serial s 0) h, was-moved d (is-moved second s b r d), omega (arith, moved-length second s b r))) (split (length o) (movedLength second h)))
+
+  out : CameOut (MoveDeclines second s (length o)) (ComesOut second s) o (movedTo second s o) declined-is
+  out = ⊎-elim (λ x. declining (x .0) (x .1) (x .2)) (λ y. putting (y .0) (y .1) (comes-is (y .1) (y .2))) move-total
 
   -- refused exactly then
   pub move-declines-iff : (m p : ℕ) → (movedTo second s o .answer ≡ refusing m p) ↔ MoveDeclines second s (length o) m p
@@ -93,30 +122,6 @@ pub move-never-15 : {second : Bool} {s : List ℕ} {o n p : ℕ} → MoveDecline
 move-never-15 d = not-15 (omega arith) (move-numbers d)
 
 -- ── one outcome ──
-
--- two traces that s was moved to: their records are those of one history
-moved-one : {second : Bool} {s : List ℕ} (x y : List ℕ) → Moved second s x → Moved second s y → x ≡ y
-moved-one {second} {s} x y a c =
-    let h : c .history ≡ a .history = history-one (c .reads) (a .reads) in
-    let q : RecordsAre y (serial s 0) (wholeOf second (a .history)) = rw h at (c .records) in
-    records-one x y (a .wanted) (c .wanted) (a .records) q
-
--- what comes out is one
-pub comes-one : {second : Bool} {s : List ℕ} (x y : List ℕ) → ComesOut second s x → ComesOut second s y → x ≡ y
-comes-one x y (unchanged e r) (unchanged d q) = refl
-comes-one x y (unchanged e r) (was-moved d m) = absurd (d e)
-comes-one x y (was-moved d m) (unchanged e r) = absurd (d e)
-comes-one x y (was-moved d m) (was-moved e k) = moved-one x y m k
-
--- .. and is put where it has room
-pub comes-is : (second : Bool) (s : List ℕ) → AllBytes s → {x : List ℕ} → ComesOut second s x → (o : List ℕ) → length x ≤ length o
-    → movedTo second s o ≡ fillOf (answering (length x)) (over x o)
-comes-is second s b (unchanged e r) o l = same-fits second s b o r e l
-comes-is second s b {x} (was-moved d m) o l =
-    let r = m .reads in
-    let e = moved-one x (movedTrace second (serial s 0) (m .history)) m (is-moved second s b r d) in
-    let long = moved-length second s b r in
-    rw e (moved-fits second s b o r d (omega (arith, long, ap length e)))
 
 -- any two outcomes that the promise admits coincide
 pub moves-one : {second : Bool} {s o : List ℕ} {r q : Filled} {c d : List ℕ} → Moves second s o r c → Moves second s o q d → (said r ≡ said q) × (c ≡ d)

@@ -3,6 +3,7 @@ use Prim.Native.Nat.{ℕ, _≤_}
 use mathlib.Core.Path.{_≡_, refl, ap, sym, _∙_}
 use mathlib.Core.Bool.{true, false, true≢false, false≢true}
 use mathlib.Core.List.{List}
+use mathlib.Core.Logic.{⊎-elim}
 use native.Mathlib.Omega.{arith}
 use lib.ListN.{length, take}
 use Rattle.rules.specs.Numbers.{over}
@@ -24,7 +25,7 @@ use Rattle.moving.proofs.Tally.{filled-is}
 use Rattle.noteless.proofs.Back.{back-without}
 use Rattle.moved.specs.Moved.{ComesOut, unchanged, was-moved, movedLength}
 use Rattle.moved.proofs.Moved.{moved-length}
-use Rattle.moved.proofs.Moves.{declined-is, comes-is, moves}
+use Rattle.moved.proofs.Moves.{declined-is, comes-is, move-total, moves, moves-one}
 use Rattle.moved.proofs.Back.{comingBack, inBetween, goes-out, comes-back, own-back}
 use Rattle.shelf.specs.Shelf.{CameBack}
 
@@ -68,7 +69,7 @@ module _ (s : List ℕ) (b : AllBytes s) (x o y : List ℕ) (q : Tallied) (e : t
               λ m i d.
               let w = was-refused ∙ declined-is true s b x m i d in
               (ap (λ (a : Fill). a .answer) w, ap (λ (a : Fill). a .buffer) w, refl);
-          out = λ c l. absurd (apart (was-refused ∙ comes-is true s b c x l) refl refl);
+          out = λ c l. absurd (apart (was-refused ∙ comes-is true s b x c l) refl refl);
           own = λ h f r l m. absurd (no-refusal f (has-history r) l);
           without = λ h f r l m. absurd (no-refusal f r l);
         }
@@ -102,7 +103,7 @@ module _ (s : List ℕ) (b : AllBytes s) (x o y : List ℕ) (q : Tallied) (e : t
           not-out = λ m i c. absurd (apart (sym (was-put ∙ declined-is true s b x m i c)) refl refl);
           out =
               λ {b = a} c l.
-              let i = comes-is true s b c x l in
+              let i = comes-is true s b x c l in
               let u : take n y ≡ a = front-is i in
               (ap (λ (g : Fill). g .buffer) (was-put ∙ i), moves false a (out-bytes b c) o r B (rw u at d));
           own = λ h f t l m. fits-back f (has-history t) l s (own-back b f t) m;
@@ -112,3 +113,21 @@ module _ (s : List ℕ) (b : AllBytes s) (x o y : List ℕ) (q : Tallied) (e : t
               let w = fits-back f t l a refl (omega (arith, moved-length false s b t)) in
               (length a, w .0, record { content = a; good = back-without b f t; long = refl; is = w .1 });
         }
+
+-- ── one outcome ──
+
+-- any two outcomes that the promise admits coincide: each trace is refused on the way out, or comes out
+pub came-back-one : {s x o : List ℕ} {r q : Filled} {X Y B C : List ℕ} → AllBytes s → CameBack s x o r X B → CameBack s x o q Y C
+    → (said r ≡ said q) × (X ≡ Y) × (B ≡ C)
+came-back-one {s} {x} b u v =
+    ⊎-elim
+    (λ d.
+    let a = u .not-out (d .0) (d .1) (d .2) in
+    let c = v .not-out (d .0) (d .1) (d .2) in
+    (a .0 ∙ sym (c .0), a .1 ∙ sym (c .1), a .2 ∙ sym (c .2)))
+    (λ d.
+    let a = u .out (d .1) (d .2) in
+    let c = v .out (d .1) (d .2) in
+    let z = moves-one (a .1) (c .1) in
+    (z .0, a .0 ∙ sym (c .0), z .1))
+    (move-total true s b x)

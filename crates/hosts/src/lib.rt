@@ -46,7 +46,7 @@ pub fn promised_steps(trace: &[u8], out: &mut [u8]) -> Filled
     lister::list_steps(trace, out)
 }
 
-// A trace without notes comes out with its own bytes, one with notes without them; the two buffers' refusals are told apart, and so is what each then holds.
+// A trace without notes comes out with its own bytes, one with notes without them; each buffer's refusal has its row, and what both buffers then hold is said.
 pub fn promised_again(trace: &[u8], steps: &mut [u8], out: &mut [u8]) -> Filled
     ensures { λ r. ⌜ RewritesTrace (now (trace .entry)) (now (steps .entry)) (now (out .entry)) r (now (steps .exit)) (now (out .exit)) × NotesLeftOut (now (trace .entry)) (now (out .entry)) r (now (out .exit)) ⌝ }
 {

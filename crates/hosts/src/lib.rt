@@ -1,9 +1,10 @@
 // Whoever calls the writer has what document 02 promises. These functions know nothing of `maker::write_trace`, `lister::list_steps` and the calls of
-// `rewriting` but their contracts: were one of those weaker, they would not be proved.
+// `rewriting` and `telling` but their contracts: were one of those weaker, they would not be proved.
 ghost use Rattle.written.specs.Writes.{WritesTrace};
 ghost use Rattle.written.specs.Lists.{ListsSteps};
 ghost use Rattle.written.specs.Rewrites.{RewritesTrace, RewritesWhole};
 ghost use Rattle.written.specs.Given.{WritesGiven};
+ghost use Rattle.telling.specs.Printed.{GivenPrinted, AgainPrinted};
 ghost use Rattle.hosts.specs.Hosts.{WrittenTwice, NotesLeftOut};
 use writing::Filled;
 
@@ -58,4 +59,18 @@ pub fn promised_whole(trace: &[u8], out: &mut [u8]) -> Filled
     ensures { λ r. ⌜ RewritesWhole (now (trace .entry)) (now (out .entry)) r (now (out .exit)) × NotesLeftOut (now (trace .entry)) (now (out .entry)) r (now (out .exit)) ⌝ }
 {
     rewriting::rewrite_whole(trace, out)
+}
+
+// What is handed back, and what `writer` prints, is what the documents say: the trace, or the line of its refusal.
+pub fn printed_given<'a>(given: &[u8], out: &'a mut [u8; 32768]) -> &'a [u8]
+    ensures { λ r. ⌜ GivenPrinted (now (given .entry)) (now r) ⌝ }
+{
+    telling::given_text(given, out)
+}
+
+// .. and what `rewrite` prints.
+pub fn printed_again<'a>(trace: &[u8], out: &'a mut [u8; 32768]) -> &'a [u8]
+    ensures { λ r. ⌜ AgainPrinted (now (trace .entry)) (now r) ⌝ }
+{
+    telling::rewritten_text(trace, out)
 }

@@ -1,7 +1,7 @@
 -- By the contracts alone: a trace that is moved and moved back.
 use Prim.Native.Nat.{ℕ, _≤_}
 use mathlib.Core.Path.{_≡_, refl, ap, sym, _∙_}
-use mathlib.Core.Bool.{true, false, true≢false, false≢true}
+use mathlib.Core.Bool.{true, false, true≢false}
 use mathlib.Core.List.{List}
 use mathlib.Core.Logic.{⊎-elim}
 use native.Mathlib.Omega.{arith}
@@ -26,7 +26,7 @@ use Rattle.noteless.proofs.Back.{back-without}
 use Rattle.moved.specs.Moved.{ComesOut, unchanged, was-moved, movedLength}
 use Rattle.moved.proofs.Moved.{moved-length}
 use Rattle.moved.proofs.Moves.{declined-is, comes-is, move-total, moves, moves-one}
-use Rattle.moved.proofs.Back.{comingBack, inBetween, goes-out, comes-back, own-back}
+use Rattle.moved.proofs.Back.{comingBack, goes-out, comes-back, own-back}
 use Rattle.shelf.specs.Shelf.{CameBack}
 
 -- a length that is answered lies within

@@ -1,7 +1,7 @@
-// Whoever moves a trace has what document 02 promises. These functions know nothing of `mover::to_edition_1`, `mover::to_edition_2` and `judging::judge` but
-// their contracts: were one of those weaker, they would not be proved.
+// Whoever moves a trace has what document 02 promises. These functions know nothing of `mover::to_edition_1`, `mover::to_edition_2`, `judging::judge` and the
+// calls of `telling` but their contracts: were one of those weaker, they would not be proved.
 ghost use mathlib.Core.Path.{_≡_};
-ghost use mathlib.Core.Bool.{false};
+ghost use mathlib.Core.Bool.{true, false};
 ghost use Prim.Native.Nat.{_≤_};
 ghost use lib.ListN.{length, take};
 ghost use Rattle.rules.specs.Outcome.{reported, outcome, judged};
@@ -9,6 +9,7 @@ ghost use Rattle.writing.specs.Filling.{said, Gives};
 ghost use Rattle.moving.specs.Moving.{movedTo};
 ghost use Rattle.moved.specs.Moved.{Moves, MovesToSecond};
 ghost use Rattle.shelf.specs.Shelf.{CameBack, MovedAndJudged};
+ghost use Rattle.shelf.specs.Printed.{MovedPrinted, NotesPrinted};
 use moving::Tallied;
 use rules::Answer;
 use writing::Filled;
@@ -115,4 +116,27 @@ fn judge_front(
     ensures { λ r. ⌜ outcome (reported r) (now (findings .exit)) (now (pairs .exit)) (now (order .exit)) ≡ judged (take n (now (trace .entry))) level (now (findings .entry)) (now (pairs .entry)) (now (order .entry)) ⌝ }
 {
     judging::judge(&trace[..n], level, findings, pairs, order)
+}
+
+// ── printed ──
+
+// What is handed back, and what `to_edition_1` prints, is what the documents say: the trace in edition 1, or the line of its refusal.
+pub fn printed_1<'a>(trace: &[u8], out: &'a mut [u8; 32768]) -> &'a [u8]
+    ensures { λ r. ⌜ MovedPrinted false (now (trace .entry)) (now r) ⌝ }
+{
+    telling::edition_1_text(trace, out)
+}
+
+// .. and what `to_edition_2` prints, in edition 2.
+pub fn printed_2<'a>(trace: &[u8], out: &'a mut [u8; 32768]) -> &'a [u8]
+    ensures { λ r. ⌜ MovedPrinted true (now (trace .entry)) (now r) ⌝ }
+{
+    telling::edition_2_text(trace, out)
+}
+
+// .. and what that prints on standard error: how many notes the trace had.
+pub fn printed_notes<'a>(trace: &[u8], line: &'a mut [u8; 64]) -> &'a [u8]
+    ensures { λ r. ⌜ NotesPrinted (now (trace .entry)) (now r) ⌝ }
+{
+    telling::notes_text(trace, line)
 }

@@ -1,13 +1,13 @@
 -- The text of an answer is what the definition says, whatever the buffer held: what is made has room in 32,768 bytes, so 16 is never given.
 use Prim.Native.Nat.{ℕ, _≤_}
-use mathlib.Core.Path.{_≡_, refl, ap, _∙_}
+use mathlib.Core.Path.{_≡_, refl, ap, sym, _∙_}
 use mathlib.Core.Bool.{Bool, true, false, true≢false, false≢true}
 use mathlib.Core.List.{List, map}
 use native.Mathlib.Omega.{arith}
 use lib.Dec.{ltb}
 use lib.ListN.{length, take, drop}
 use Rattle.base.specs.Base.{pick, joined}
-use Rattle.base.proofs.Tests.{ifso, pick-both}
+use Rattle.base.proofs.Tests.{pick-of, pick-both}
 use Rattle.rules.specs.Numbers.{le}
 use Rattle.rules.proofs.Numbers.{over-front}
 use Rattle.rules.specs.History.{History, empty}
@@ -38,20 +38,55 @@ use Rattle.telling.specs.Parts.{filledText, outText}
 
 -- ── work that has room ──
 
-abbrev Fits : Work → Type 0
+abbrev pub Fits : Work → Type 0
 Fits (refusal n p) = Unit {0}
 Fits (content l) = length l ≤ 32768
 
+-- a call that fills a buffer does some work, whose text is t, and which has room
+pub record Does (fill : List ℕ → Fill) (t : List ℕ) : Type 0 where
+  pub work : Work
+  pub fits : Fits work
+  pub puts : (o : List ℕ) → fill o ≡ into work o
+  pub text : workText work ≡ t
+
 -- what steps make
-made-fits : (n : ℕ) (s : List ℕ) → Fits (wrote n (stepsIn s) (follow empty 1 (stepsIn s)))
+abbrev made : List ℕ → ℕ → Work
+made s n = wrote n (stepsIn s) (follow empty 1 (stepsIn s))
+
+made-fits : (s : List ℕ) (n : ℕ) → Fits (made s n)
 unfolding wrote
-made-fits n s = by (follow empty 1 (stepsIn s)) refl
+made-fits s n = by (follow empty 1 (stepsIn s)) refl
   where
     by : (f : Followed) → follow empty 1 (stepsIn s) ≡ f → Fits (wrote n (stepsIn s) f)
     by (bad m p) e = tt
     by (good g) e =
         let few = counts (followed empty 1 (stepsIn s) grown-none e .0) in
         omega (arith, trace-length n (stepsIn s) 1 g e, few .few-txs, few .few-ops)
+
+-- .. unless a test refuses before
+refused-or-made : (b : Bool) (m p : ℕ) (s : List ℕ) (n : ℕ)
+    → Does (λ o. pick b (fillOf (refusing m p) o) (written s n o)) (pick b (refusedLine m p) (madeText s n))
+unfolding workText madeText into written
+refused-or-made b m p s n =
+    record {
+      work = pick b (refusal m p) (made s n);
+      fits = pick-both Fits b tt (made-fits s n);
+      puts = λ o. sym (pick-of (λ w. into w o) b (refusal m p) (made s n));
+      text = pick-of workText b (refusal m p) (made s n);
+    }
+
+pub given-does : (g : List ℕ) → Does (writtenGiven g) (givenText g)
+unfolding writtenGiven givenText
+given-does g = refused-or-made (ltb (length g) 4) 3 0 (drop 4 g) (le 4 g 0)
+
+again-does : (s : List ℕ) (q : Reading) → Does (rewrittenRead s q) (againText s q)
+unfolding rewrittenRead againText workText into
+again-does s (refused n p) = record { work = refusal n p; fits = tt; puts = λ o. refl; text = refl }
+again-does s (read h notes) = refused-or-made (isSecond s) 6 0 (joined stepBytes (historySteps h)) (serialAt s 0)
+
+pub rewritten-does : (s : List ℕ) → Does (rewrittenWhole s) (rewrittenText s)
+unfolding rewrittenWhole rewrittenText
+rewritten-does s = again-does s (reading s)
 
 -- a trace that was moved
 size-most : (second : Bool) (t n : ℕ) → t ≤ 127 → n ≤ 1024 → wholeSize second t n ≤ 32768
@@ -75,10 +110,14 @@ moved-fits second s = by (reading s) refl
     by (read h notes) e =
         pick-both (λ (l : List ℕ). length l ≤ 32768) (isSame (isSecond s) second) (read-short (reads-iff s h notes .0 e)) (other-fits second (serialAt s 0) s e)
 
+pub moved-does : (second : Bool) (s : List ℕ) → Does (movedTo second s) (movedText second s)
+unfolding movedTo movedText
+moved-does second s = record { work = movedRead second s (reading s); fits = moved-fits second s; puts = λ o. refl; text = refl }
+
 -- ── an answer's text ──
 
 -- of the answer r, which made b of the buffer o
-filled-text : (r : Filled) (b o : List ℕ) → 32768 ≤ length o → (w : Work) → Fits w → fillOf (said r) b ≡ into w o → filledText r b ≡ workText w
+pub filled-text : (r : Filled) (b o : List ℕ) → 32768 ≤ length o → (w : Work) → Fits w → fillOf (said r) b ≡ into w o → filledText r b ≡ workText w
 unfolding filledText workText said into
 filled-text (Refused m q) b o room (refusal n p) f e = rw (ap (λ (x : Fill). x .answer .no) e, ap (λ (x : Fill). x .answer .place) e)
 filled-text (Length m) b o room (refusal n p) f e = absurd (false≢true (ap (λ (x : Fill). x .answer .isRefused) e))
@@ -87,36 +126,9 @@ filled-text (Refused m q) b o room (content l) f e =
 filled-text (Length m) b o room (content l) f e =
     ap (λ (x : Fill). take (x .answer .length) (x .buffer)) (e ∙ into-fits l o (omega (arith, f))) ∙ over-front l o
 
-module _ (r : Filled) (b o : List ℕ) (room : 32768 ≤ length o) where
-  -- a refusal that comes before
-  refused-told : (n p : ℕ) → fillOf (said r) b ≡ fillOf (refusing n p) o → filledText r b ≡ refusedLine n p
-  unfolding workText into
-  refused-told n p e = filled-text r b o room (refusal n p) tt e
-
-  made-told : (s : List ℕ) (n : ℕ) → fillOf (said r) b ≡ written s n o → filledText r b ≡ madeText s n
-  unfolding written madeText
-  made-told s n e = filled-text r b o room (wrote n (stepsIn s) (follow empty 1 (stepsIn s))) (made-fits n s) e
-
-  pub given-told : (g : List ℕ) → Gives r b (writtenGiven g o) → filledText r b ≡ givenText g
-  unfolding writtenGiven givenText pick
-  given-told g x =
-      ifso (ltb (length g) 4) (λ (t : ltb (length g) 4 ≡ true). rw t (refused-told 3 0 (rw t at (x .is))))
-      (λ (f : ltb (length g) 4 ≡ false). rw f (made-told (drop 4 g) (le 4 g 0) (rw f at (x .is))))
-
-  again-told : (s : List ℕ) (q : Reading) → fillOf (said r) b ≡ rewrittenRead s q o → filledText r b ≡ againText s q
-  unfolding rewrittenRead againText pick
-  again-told s (refused n p) e = refused-told n p e
-  again-told s (read h notes) e =
-      ifso (isSecond s) (λ (t : isSecond s ≡ true). rw t (refused-told 6 0 (rw t at e)))
-      (λ (f : isSecond s ≡ false). rw f (made-told (joined stepBytes (historySteps h)) (serialAt s 0) (rw f at e)))
-
-  pub rewritten-told : (s : List ℕ) → Gives r b (rewrittenWhole s o) → filledText r b ≡ rewrittenText s
-  unfolding rewrittenWhole rewrittenText
-  rewritten-told s x = again-told s (reading s) (x .is)
-
-  pub moved-told : (second : Bool) (s : List ℕ) → Gives r b (movedTo second s o) → filledText r b ≡ movedText second s
-  unfolding movedTo movedText
-  moved-told second s x = filled-text r b o room (movedRead second s (reading s)) (moved-fits second s) (x .is)
+-- .. of a call
+pub told : {fill : List ℕ → Fill} {t : List ℕ} → Does fill t → {r : Filled} {b o : List ℕ} → 32768 ≤ length o → Gives r b (fill o) → filledText r b ≡ t
+told d {r} {b} {o} room x = filled-text r b o room (d .work) (d .fits) (x .is ∙ d .puts o) ∙ d .text
 
 -- ── the notes ──
 

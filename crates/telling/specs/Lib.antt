@@ -1,3 +1,4 @@
 pub mod Telling
+pub mod Printed
 pub mod Parts
 pub mod Cases

@@ -95,7 +95,7 @@ module _ {s : List ℕ} {x : List ℕ} (a : WrittenAgain s x) where
       let e : serial x 0 ≡ serial s 0 = same-serial ∙ omega (arith, le-below 4 s 4 b) in
       sym known-again ∙ ap (λ (n : ℕ). traceOf n (historySteps (a .history)) (a .history)) e
 
-again-one : {s : List ℕ} (x y : List ℕ) → WrittenAgain s x → WrittenAgain s y → x ≡ y
+pub again-one : {s : List ℕ} (x y : List ℕ) → WrittenAgain s x → WrittenAgain s y → x ≡ y
 again-one x y a c =
     let e : serial x 0 ≡ serial y 0 = same-serial a ∙ sym (same-serial c) in
     let h : a .history ≡ c .history = history-one (a .reads) (c .reads) in

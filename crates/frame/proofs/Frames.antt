@@ -1,11 +1,11 @@
 -- Laws of a record's fields and framing.
 use Prim.Native.Nat.{ℕ, zero, suc, _+_, _-_, _*_, _^_, _≤_, _<_, min}
 use mathlib.Core.Path.{_≡_, refl, ap, sym, _∙_}
-use mathlib.Core.Bool.{Bool, true, false}
-use mathlib.Core.List.{List, _++_}
+use mathlib.Core.Bool.{Bool, true, false, not}
+use mathlib.Core.List.{List, [], _∷_, _++_}
 use native.Mathlib.Omega.{arith}
 use native.Mathlib.Nat.{suc-add, pow-suc, mul-assoc, mul-comm}
-use lib.ListN.{length, getD, drop, length-take, length-drop}
+use lib.ListN.{length, getD, drop, length-take, length-drop, List·getD-append}
 use lib.Seq.{getD-drop}
 use lib.Dec.{ltb, eqb}
 use borrow.Author.Tests.{ltb-true, ltb-false, eqb-true, eqb-false, eq-eqb, ne-eqb, lt-ltb, le-ltb}
@@ -13,7 +13,7 @@ use Rattle.base.specs.Base.{_and_, _or_, pick, Row, firstFit}
 use Rattle.base.proofs.Tests.{ifso, neither-left, neither-right, not-false, pick-on, pick-off}
 use Rattle.rules.specs.Numbers.{le}
 use Rattle.rules.proofs.Numbers.{le-same, le-take}
-use Rattle.rules.specs.Records.{lenAt, kindAt, nextAt, payloadAt, isSecond, fieldsFrom, sessionAt, lows, eventAt, breaks, isUnknown, isMisfit, isLate, isOtherEdition, frameRows}
+use Rattle.rules.specs.Records.{lenAt, kindAt, nextAt, payloadAt, isSecond, fieldsFrom, sessionAt, lows, highs, eventAt, breaks, isUnknown, isMisfit, isLate, isOtherEdition, frameRows}
 use Rattle.frame.specs.Framing.{kindRows, sessionOf, statedOf, statedAt, Fit, framing}
 use Rattle.frame.specs.declared.Stated.{Stated}
 use Rattle.frame.specs.declared.Framed.the-variants as F
@@ -77,6 +77,10 @@ pub event-here : (s : List ℕ) (at : ℕ) {second : Bool} → second ≡ isSeco
 unfolding eventAt
 event-here s at q = rw q
 
+-- the length of kinds 1 to 5 in edition 1
+abbrev pub lengths : List ℕ
+lengths = 0 ∷ 8 ∷ 18 ∷ 18 ∷ 7 ∷ 8 ∷ []
+
 -- kinds that are not unknown, but for 16: as many as each edition's table of lengths has
 known-kind : (second : Bool) (kind : ℕ) → isUnknown second kind ≡ false → (kind ≡ 16 → ⊥) → (1 ≤ kind) × (kind ≤ pick second 5 6)
 unfolding isUnknown _and_
@@ -92,6 +96,20 @@ kind-first false kind h o = omega (arith, known-kind false kind h o .1)
 pub kind-second : {second : Bool} (kind : ℕ) → isUnknown second kind ≡ false → (kind ≡ 16 → ⊥) → second ≡ true → kind < 6
 unfolding pick
 kind-second kind h o q = omega (arith, known-kind true kind (rw q at h) o .1)
+
+-- outside of one length are all others
+pub outside-one : (len n : ℕ) → not (eqb len n) ≡ (ltb len n or ltb n len)
+unfolding _or_
+outside-one len n =
+    ifso (eqb len n) (λ t. let q : len ≡ n = eqb-true len n t in rw (q, eq-eqb n n refl, le-ltb n n (omega arith)))
+    (λ t.
+    let d : len ≡ n → ⊥ = eqb-false len n t in
+    rw t (ifso (ltb len n) (λ l. rw l) (λ l. rw (l, lt-ltb n len (omega (arith, ltb-false len n l))))))
+
+-- in edition 1 all kinds but a note have one length
+pub misfit-first : (kind len : ℕ) → kind < 6 → not (eqb len (getD lengths kind 0)) ≡ (ltb len (getD (lows false) kind 0) or ltb (getD (highs false) kind 0) len)
+misfit-first kind len h =
+    rw (List·getD-append lengths (6 ∷ []) 0 kind h, List·getD-append lengths (70 ∷ []) 0 kind h) (outside-one len (getD lengths kind 0))
 
 -- lengths that are this kind's: at least its least; that of kind 16; in edition 2 at least one with a session
 pub low-fits : (second : Bool) (kind len : ℕ) → isMisfit second kind len ≡ false → getD (lows second) kind 0 ≤ len

@@ -206,14 +206,10 @@ fn is_unknown(second: bool, kind: u16) -> bool
     6 < kind
 }
 
-// The least and the greatest length of kinds 1 to 6, and of 1 to 5 in edition 2.
-const LOWS: [usize; 7] = [0, 8, 18, 18, 7, 8, 6];
+// The length of kinds 1 to 5, in each edition. Only a note has more than one.
+const LENGTHS: [usize; 6] = [0, 8, 18, 18, 7, 8];
 
-const HIGHS: [usize; 7] = [0, 8, 18, 18, 7, 8, 70];
-
-const SECOND_LOWS: [usize; 6] = [0, 8, 20, 20, 9, 8];
-
-const SECOND_HIGHS: [usize; 6] = [0, 8, 20, 20, 9, 8];
+const SECOND_LENGTHS: [usize; 6] = [0, 8, 20, 20, 9, 8];
 
 fn is_outside(len: usize, low: usize, high: usize) -> bool
     ensures { λ r. ⌜ r ≡ (ltb len low or ltb high len) ⌝ }
@@ -233,9 +229,12 @@ fn is_misfit(second: bool, kind: usize, len: usize) -> bool
         return len != 8;
     }
     if second {
-        return is_outside(len, SECOND_LOWS[kind], SECOND_HIGHS[kind]);
+        return len != SECOND_LENGTHS[kind];
     }
-    is_outside(len, LOWS[kind], HIGHS[kind])
+    if kind == 6 {
+        return is_outside(len, 6, 70);
+    }
+    len != LENGTHS[kind]
 }
 
 // Row 7, "a kind 16 that isn't first".

@@ -1,29 +1,21 @@
 -- A well-framed record's event, by its fields' offsets.
-use Prim.Native.Nat.{ℕ, zero, suc, _+_, _-_, _<_, _≤_}
+use Prim.Native.Nat.{ℕ, _+_, _<_, _≤_}
 use mathlib.Core.Path.{_≡_, refl, ap, _∙_}
 use mathlib.Core.Bool.{Bool, true, false}
 use mathlib.Core.List.{List}
 use mathlib.Core.Logic.{⊎-elim}
 use native.Mathlib.Omega.{arith}
 use native.Mathlib.Decide.{ℕ-discrete}
-use lib.ListN.{length, drop}
-use lib.Seq.{getD-take, getD-drop}
+use lib.ListN.{length}
 use Rattle.base.specs.Base.{pick}
-use Rattle.rules.specs.Numbers.{le, part}
+use Rattle.rules.specs.Numbers.{le}
 use Rattle.base.proofs.Tests.{split}
 use Rattle.rules.specs.Records.{isSecond, fieldsFrom, fieldsAt, eventOf, eventAt, payloadAt}
 use Rattle.rules.specs.Reading.{State}
+use Rattle.rules.proofs.Records.{le-part, payload-begins}
 use Rattle.rules.specs.declared.Event.{Event}
 use Rattle.rules.specs.declared.Event.the-variants.{Open, Read, Write, Close, End, Note, Other}
 use Rattle.demand1.specs.Rows.{len, kind, session, key, value, status, endNumber, behind, UnknownKind, below-1, above-6, note-in-second, WrongLength, open-not-8, read-not-18, read-not-20, write-not-18, write-not-20, close-not-7, close-not-9, end-not-8, Check, lengthLow, bytesThere, kindKnown, lengthFits, rank, Fails, Passes}
-
--- a number in a part is the number in the whole, where it lies within the part
-pub le-part : (w a e : ℕ) (s : List ℕ) (i : ℕ) → i + w ≤ e - a → le w (part a e s) i ≡ le w s (a + i)
-unfolding le
-le-part zero a e s i h = refl
-le-part (suc w) a e s i h =
-    let n : (a + i) + 1 ≡ a + (i + 1) = omega arith in
-    rw (n, ← le-part w a e s (i + 1) (omega arith), getD-take (e - a) (drop a s) i 0 (omega arith), getD-drop a s i 0)
 
 -- no check before the n-th in the document's order fails, where F says which do
 abbrev pub Clear : (Check → Type 0) → ℕ → Type 0
@@ -149,10 +141,6 @@ module _ {k n : ℕ} where
 pub note-event : (s : List ℕ) (at : ℕ) → kind s at ≡ 6 → eventAt s at ≡ Note
 unfolding eventAt eventOf pick
 note-event s at k = rw k
-
--- a number that begins the payload
-pub payload-begins : (s : List ℕ) (at : ℕ) → 8 ≤ len s at → le 2 (payloadAt s at) 0 ≡ le 2 s (at + 8)
-payload-begins s at l = let a : at + 8 + 0 ≡ at + 8 = omega arith in le-part 2 (at + 8) (at + 2 + len s at) s 0 (omega arith) ∙ ap (le 2 s) a
 
 module _ {s : List ℕ} {at : ℕ} (f : Framed s at) where
   -- a number of the payload, w bytes from the i-th on

@@ -6,13 +6,12 @@ use mathlib.Core.List.{List, [], _∷_, _++_}
 use native.Mathlib.Omega.{arith}
 use native.Mathlib.Nat.{suc-add, pow-suc, mul-assoc, mul-comm}
 use lib.ListN.{length, getD, drop, length-take, length-drop, List·getD-append}
-use lib.Seq.{getD-drop}
 use lib.Dec.{ltb, eqb}
 use borrow.Author.Tests.{ltb-true, ltb-false, eqb-true, eqb-false, eq-eqb, ne-eqb, lt-ltb, le-ltb}
 use Rattle.base.specs.Base.{_and_, _or_, pick, Row, firstFit}
 use Rattle.base.proofs.Tests.{ifso, neither-left, neither-right, not-false, pick-on, pick-off}
 use Rattle.rules.specs.Numbers.{le}
-use Rattle.rules.proofs.Numbers.{le-same, le-take}
+use Rattle.rules.proofs.Records.{payload-begins}
 use Rattle.rules.specs.Records.{lenAt, kindAt, nextAt, payloadAt, isSecond, fieldsFrom, sessionAt, lows, highs, eventAt, breaks, isUnknown, isMisfit, isLate, isOtherEdition, frameRows}
 use Rattle.frame.specs.Framing.{kindRows, sessionOf, statedOf, statedAt, Fit, framing}
 use Rattle.frame.specs.declared.Stated.{Stated}
@@ -45,12 +44,6 @@ payload-length s at h r =
     let n : length (payloadAt s at) ≡ lenAt s at - 6 =
     length-take (nextAt s at - (at + 8)) (drop (at + 8) s) ∙ ap (λ (m : ℕ). min (nextAt s at - (at + 8)) m) (length-drop (at + 8) s) ∙ omega arith in
     omega arith
-
--- the number that a payload of two bytes or more begins with
-pub payload-begins : (s : List ℕ) (at : ℕ) → 8 ≤ lenAt s at → le 2 (payloadAt s at) 0 ≡ le 2 s (at + 8)
-payload-begins s at l =
-    le-take 2 0 (nextAt s at - (at + 8)) (drop (at + 8) s) (omega arith)
-    ∙ le-same 2 (drop (at + 8) s) s 0 (at + 8) (λ i h. let z : 0 + i ≡ i = omega arith in rw z (getD-drop (at + 8) s i 0))
 
 -- a payload is as long as its kind's reader needs
 pub long-enough : (second : Bool) (p : List ℕ) {kind k n : ℕ} → kind ≡ k → getD (lows second) kind 0 ≤ length p + 6 → n + 6 ≡ getD (lows second) k 0 → n ≤ length p

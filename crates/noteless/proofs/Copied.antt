@@ -11,7 +11,8 @@ use Rattle.rules.specs.Records.{nextSerial, isSecond, payloadAt, eventAt}
 use Rattle.rules.specs.Reading.{State, notesBehind, met, after}
 use Rattle.rules.proofs.Meeting.{met-first, met-second}
 use Rattle.demand1.specs.Rows.{len, kind, serial, edition, behind, open-not-8, read-not-20, write-not-20, close-not-9, end-not-8, edition-not-8, editionFirst, editionIs2, Passes}
-use Rattle.demand1.proofs.Events.{KindKnown, is-open, is-read, is-write, is-close, is-end, is-note, is-edition, Framed, exactly, payload-begins, passes-framed, Shape, open-record, read-record, write-record, close-record, end-record, note-record, edition-record, shape}
+use Rattle.rules.proofs.Records.{payload-begins}
+use Rattle.demand1.proofs.Events.{KindKnown, is-open, is-read, is-write, is-close, is-end, is-note, is-edition, Framed, exactly, passes-framed, Shape, open-record, read-record, write-record, close-record, end-record, note-record, edition-record, shape}
 use Rattle.written.proofs.Framed.{passes-steps, framed-passes}
 
 -- in edition 2 a record has two bytes of payload or more

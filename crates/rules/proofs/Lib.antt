@@ -1,4 +1,5 @@
 pub mod Numbers
+pub mod Records
 pub mod Traces
 pub mod History
 pub mod Origin

@@ -1,7 +1,8 @@
 use native.Mathlib.Omega.{arith}
 use Rattle.base.specs.Base.{_and_}
 use Rattle.rules.specs.Records.{isOtherEdition}
-use Rattle.frame.proofs.Frames.{payload-length, payload-begins}
+use Rattle.rules.proofs.Records.{payload-begins}
+use Rattle.frame.proofs.Frames.{payload-length}
 use borrow.Author.Tests.{eq-eqb, ne-eqb}
 use Rattle.frame.proofs.is_other_edition.Statement.{statement}
 use Rattle.frame.proofs.is_other_edition.Tie as tie

@@ -1,5 +1,4 @@
 use mathlib.Core.Path.{_∙_, sym}
-use native.Mathlib.Omega.{arith}
 use Rattle.frame.proofs.Frames.{kind-off, length-off, late, edition-off, none-off, edition-fits}
 use borrow.Author.Needs.{needs}
 use Rattle.frame.proofs.kind_no.Statement.{statement}

@@ -1,7 +1,3 @@
-use Prim.Native.Nat.{_≤_}
-use native.Mathlib.Omega.{arith}
-use lib.ListN.{getD}
-use Rattle.rules.specs.Records.{lenAt, lows}
 use Rattle.frame.proofs.Frames.{payload-length}
 use borrow.Author.Needs.{needs}
 use Rattle.frame.proofs.stated_at.Statement.{statement}

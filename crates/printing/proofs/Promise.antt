@@ -1,11 +1,10 @@
 -- What the promises of `put_answer` and `answer_text` give their callers.
 use Prim.Native.Nat.{ℕ, _≤_}
-use mathlib.Core.Path.{_≡_, refl, ap, sym, _∙_}
+use mathlib.Core.Path.{_≡_, refl, sym, _∙_}
 use mathlib.Core.List.{List}
 use native.Mathlib.Omega.{arith}
-use lib.ListN.{length, take, drop}
-use lib.Seq.{take-all, take-at}
-use Rattle.rules.specs.Numbers.{over}
+use lib.ListN.{length, take}
+use Rattle.rules.proofs.Numbers.{over-whole}
 use Rattle.demand1.proofs.Readings.{kept-same}
 use Rattle.text.specs.Answer.{readingText, answerText}
 use Rattle.printing.specs.Printing.{Written}
@@ -16,10 +15,7 @@ answer-one x y = (x .end ∙ sym (y .end), x .is ∙ sym (y .is))
 
 -- with a buffer of 1,048,576 bytes or more, the first n bytes are the whole text
 pub answer-whole : {s o b : List ℕ} {n : ℕ} → Written s o b n → 1048576 ≤ length o → take n b ≡ answerText s
-unfolding over
-answer-whole {s} {o} {b} {n} x h =
-    let e : take (length o) (answerText s) ≡ answerText s = take-all (length o) (answerText s) (omega (arith, x .end, x .short)) in
-    ap (take n) (x .is ∙ ap (λ (t : List ℕ). over t o) e) ∙ take-at (answerText s) (drop (length (answerText s)) o) n (sym (x .end))
+answer-whole {s} {o} x h = rw (x .is, x .end) (over-whole (answerText s) o (omega (arith, x .end, x .short)))
 
 -- "keeping 32,769 bytes at most" does no harm: the text of the bytes kept is the text of all of them
 pub kept-text : (s : List ℕ) → answerText (take 32769 s) ≡ answerText s

@@ -127,11 +127,18 @@ module _ {s t : List ℕ} where
   notes-accepted n level = notes-reading n (λ (x : Reading). acceptedRead x level) (λ h n m. refl)
 
   -- so the numbers are the same
-  strongest-alike : ((level : ℕ) → isAcceptedAt t level ≡ isAcceptedAt s level) → {r q : ℕ} → StrongestIs s r → StrongestIs t q → q ≡ r
+  same-strongest : ((level : ℕ) → isAcceptedAt t level ≡ isAcceptedAt s level) → {r q : ℕ} → StrongestIs s r → StrongestIs t q → q ≡ r
   unfolding strongest
-  strongest-alike e {r} {q} x y =
+  same-strongest e {r} {q} x y =
       strongest-one t q _ y (strongest-is t (strongestNo (strongest t)) refl)
       ∙ rw (e 3, e 2, e 1) (sym (strongest-one s r _ x (strongest-is s (strongestNo (strongest s)) refl)))
+
+  -- one was moved to the other; they differ only in notes
+  pub strongest-moved : {second : Bool} → Moved second s t → {r q : ℕ} → StrongestIs s r → StrongestIs t q → q ≡ r
+  strongest-moved m = same-strongest (moved-accepted m)
+
+  pub strongest-noted : ButForNotes s t → {r q : ℕ} → StrongestIs s r → StrongestIs t q → q ≡ r
+  strongest-noted n = same-strongest (notes-accepted n)
 
 pub strongest-both : (s t : List ℕ) (r : TwoNumbers) → r .one ≡ strongestNo (strongest s) → r .other ≡ strongestNo (strongest t) → StrongestBoth s t r
 strongest-both s t r a b =
@@ -140,6 +147,6 @@ strongest-both s t r a b =
     record {
       one = x;
       other = y;
-      was-moved = λ second m. strongest-alike (moved-accepted m) x y;
-      but-for-notes = λ n. strongest-alike (notes-accepted n) x y;
+      was-moved = λ second m. strongest-moved m x y;
+      but-for-notes = λ n. strongest-noted n x y;
     }

@@ -1,5 +1,5 @@
 -- What whoever makes a call on two traces, s and t, has of it: what is promised of each call; and, where the one trace is the other, moved, or they differ only in
--- their notes, what the two have in common. A prime is on what belongs to t. Buffers that held the same are lent to both.
+-- their notes, what the two have in common, given buffers that held the same. A prime is on what belongs to t.
 use Prim.Native.Nat.{ℕ}
 use mathlib.Core.Path.{_≡_}
 use mathlib.Core.Bool.{Bool, false}
@@ -90,8 +90,8 @@ pub record ListedBoth (s t : List ℕ) (r : TwoFills) (o o' B B' : List ℕ) : T
   pub other : ListsSteps t o' (r .other) B'
   pub but-for-notes : o ≡ o' → ButForNotes s t → (r .other ≡ r .one) × (B' ≡ B)
 
--- written again it has the trace's first serial, which another first serial than the trace's would change: so this is of other texts. X is what became of the
--- buffer x for the steps
+-- a trace is written again with its first serial, and one without its notes may have another: so this is of other texts alone. X is what became of the buffer x
+-- for the steps
 pub record RewrittenBoth (s t : List ℕ) (r : TwoFills) (x o x' o' X B X' B' : List ℕ) : Type 0 where
   pub one : RewritesTrace s x o (r .one) X B
   pub other : RewritesTrace t x' o' (r .other) X' B'

@@ -1,0 +1,4 @@
+pub mod Greatest
+pub mod Latest
+pub mod Own
+pub mod Cycles

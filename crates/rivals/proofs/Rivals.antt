@@ -27,9 +27,9 @@ use Rattle.pairs.proofs.Marking.{cell-is, cell-has, Marking, mark-chain, mark-d
 use Rattle.pairs.proofs.Pairs.{byte-source, basic-under, before-under, before-via}
 use Rattle.keys.specs.Keys.{bucketOf, isShared}
 use Rattle.keys.proofs.Keys.{key-wrote, wrote-key}
-use Rattle.rivals.specs.Rivals.{pairsFor, Told, seenFrom, isAbove, canRival, fits, isTried, isCandidate, isHitOf, hitBit, hitBits, settlesIn, rivalBit, rivalBits, rivalBitsIf, rivalsAmong, rivalsOf, rivals, Chosen, Candidates, Alone, isTold, Remains}
+use Rattle.rivals.specs.Rivals.{pairsFor, Told, seenFrom, isAbove, canRival, fits, isTried, isCandidate, isHitOf, hitBit, hitBits, settlesIn, rivalBit, rivalBits, rivalBitsIf, rivalsAmong, rivalsOf, rivals, Foregoing, Chosen, Candidates, Alone, isTold, Remains}
 use Rattle.rivals.proofs.Hits.{candidate, hit-tx, hit-external, hit-fits, fits-hit, last-hit-of}
-use Rattle.rivals.proofs.Seen.{pairs-first, pairs-below, told-bit, from-none, from-all, sees-above}
+use Rattle.rivals.proofs.Seen.{pairs-first, pairs-below, from-none, from-all, sees-above}
 use Rattle.rivals.proofs.Sifting.{row-candidates, row-alone, row-minus}
 
 -- ── hits, marked from the last down ──
@@ -274,19 +274,18 @@ marks-here h level t3 i a b t2 x y e c =
     let r = cell-is _ _ _ _ _ e in
     both _ _ (eq-eqb _ _ (r .1)) (rw (r .2) c)
 
--- at first: row t3 of s without t3, from the last read of t3 on
-module _ {h k s : List ℕ} {level : ℕ} (p : Told h k s level) {t3 : ℕ} (o : HasTx h t3) {lo hi own₀ own₁ : ℕ} (a : Alone t3 0 own₀) (b : Alone t3 1 own₁)
-    (m : Minus (getD s (2 * t3) 0) own₀ lo) (n : Minus (getD s (2 * t3 + 1) 0) own₁ hi) where
-  first-row : (t2 : ℕ) → t2 < 128 → rowOf lo hi t2 ≡ bitOf s t3 t2 and not (eqb t3 t2)
-  first-row t2 l = row-minus m n t2 l ∙ rw (row-own s t3 t2 l, row-alone a b t2 l) refl
+-- at first: all that the level's pairs have before t3, without t3, from the last read of t3 on
+module _ {h : List ℕ} {level : ℕ} (p : Held h) (from : 1 ≤ level) (to : level ≤ 3) {t3 l₀ h₀ : ℕ} (f : Foregoing (historyOf h) level t3 l₀ h₀)
+    {lo hi own₀ own₁ : ℕ} (a : Alone t3 0 own₀) (b : Alone t3 1 own₁) (m : Minus l₀ own₀ lo) (n : Minus h₀ own₁ hi) where
+  first-row : (t2 : ℕ) → t2 < 128 → rowOf lo hi t2 ≡ rowOf l₀ h₀ t2 and not (eqb t3 t2)
+  first-row t2 l = row-minus m n t2 l ∙ ap (λ (c : Bool). rowOf l₀ h₀ t2 and not c) (row-alone a b t2 l)
+
+  others : (t2 : ℕ) → t2 < 128 → rowOf lo hi t2 ≡ true → t2 ≡ t3 → ⊥
+  others t2 l e q = eqb-false t3 t2 (not-true _ (and-right _ _ (sym (first-row t2 l) ∙ e))) (sym q)
 
   told-chosen : Chosen (historyOf h) level t3 lo hi
-  unfolding before
   told-chosen =
-      record {
-        is = λ t2 l e. sym (p .seen .is t3 t2 (omega (arith, o .to, p .ready .settled .held .few)) l) ∙ and-left _ _ (sym (first-row t2 l) ∙ e);
-        other = λ t2 l e q. eqb-false t3 t2 (not-true _ (and-right _ _ (sym (first-row t2 l) ∙ e))) (sym q);
-      }
+      record { is = λ t2 l e. sym (f .is t2 l (others t2 l e)) ∙ and-left _ _ (sym (first-row t2 l) ∙ e); other = others }
 
   all-of : (j : ℕ) → Below j (lastOf (historyOf h) t3) (opCount (historyOf h) + 1) → (x y : ℕ)
       → rivalsAmong (historyOf h) level t3 j (rowOf lo hi) x y ≡ rivalsOf (historyOf h) level t3 x y
@@ -303,14 +302,15 @@ module _ {h k s : List ℕ} {level : ℕ} (p : Told h k s level) {t3 : ℕ} (o :
       let t = some-at (λ t2. rivalBits (historyOf h) level t3 (opCount (historyOf h)) t2 x y) (size (historyOf h)) 0 e in
       let i = some-at (λ i. rivalBit (historyOf h) level t3 (t .at) i x y) (opCount (historyOf h) + 1) 1 (t .passes) in
       let own = bit-settled (historyOf h) level t3 (t .at) (i .at) x y (i .passes) in
-      let told = bit-told (historyOf h) level t3 (t .at) (i .at) x y (i .passes) (p .from) (p .to) (i .from) (omega (arith, i .to)) in
-      let few : t .at < 128 = omega (arith, t .to, p .ready .settled .held .few) in
-      let bit = sym (told-bit p o (omega (arith, t .to))) ∙ told in
+      let told = bit-told (historyOf h) level t3 (t .at) (i .at) x y (i .passes) from to (i .from) (omega (arith, i .to)) in
+      let few : t .at < 128 = omega (arith, t .to, p .few) in
+      let other : t .at ≡ t3 → ⊥ = λ q. own .1 .not-reader (q ∙ sym (own .0)) in
+      let bit = f .is (t .at) few other ∙ told in
       among-is (historyOf h) level t3 j _ x y
       (record {
         rival = t .at;
         few = few;
-        passes = first-row (t .at) few ∙ both _ _ bit (ap not (ne-eqb t3 (t .at) (λ q. own .1 .not-reader (sym q ∙ sym (own .0)))));
+        passes = first-row (t .at) few ∙ both _ _ bit (ap not (ne-eqb t3 (t .at) (λ q. other (sym q))));
         by = i .at;
         from = i .from;
         to = omega (arith, own-below (historyOf h) t3 (opCount (historyOf h) + 1) (i .at) (own .0) (i .to), b .is);

@@ -1,8 +1,9 @@
 -- Which reads of t3 see t2.
-use Prim.Native.Nat.{ℕ, _+_, _<_, _≤_}
+use Prim.Native.Nat.{ℕ, _+_, _*_, _<_, _≤_}
 use mathlib.Core.Path.{_≡_, sym, ap, _∙_}
 use mathlib.Core.Bool.{Bool, true, false}
 use mathlib.Core.List.{List}
+use lib.ListN.{getD}
 use mathlib.Core.Logic.{_⊎_, inl, inr, ⊎-elim}
 use native.Mathlib.Omega.{arith}
 use lib.Dec.{eqb, ltb}
@@ -18,9 +19,10 @@ use Rattle.rules.proofs.Committed.{committed-below}
 use Rattle.rules.proofs.Forced.{basic-committed, leads-committed}
 use Rattle.table.specs.Table.{historyOf, HasTx, ofTx, lastOf, prevOf, Below}
 use Rattle.table.proofs.Chain.{OnChain, chain-last, chain-prev, sought-last, sought-prev}
-use Rattle.bits.specs.Bits.{bitOf, Holds}
+use Rattle.bits.specs.Bits.{Holds}
+use Rattle.bits.proofs.Tables.{row-own}
 use Rattle.pairs.specs.Pairs.{before}
-use Rattle.rivals.specs.Rivals.{pairsFor, Told, firstFrom, seenFrom}
+use Rattle.rivals.specs.Rivals.{pairsFor, Told, Foregoing, firstFrom, seenFrom}
 
 -- ── the first, found from the top down ──
 
@@ -105,13 +107,12 @@ pairs-first h level t2 t3 e =
 pub pairs-below : (h : History) (level t2 t3 : ℕ) → pairsFor h level t2 t3 ≡ true → t2 ≤ txCount h
 pairs-below h level t2 t3 e = omega (arith, committed-below h t2 (pairs-first h level t2 t3 e))
 
--- what the table says of (t2, t3)
-pub told-bit : {h k s : List ℕ} {level t2 t3 : ℕ} → Told h k s level → HasTx h t3 → t2 ≤ txCount (historyOf h)
-    → pairsFor (historyOf h) level t2 t3 ≡ bitOf s t3 t2
+-- a table's row t3 has what the level's pairs have before t3
+pub told-foregoing : {h k s : List ℕ} {level t3 : ℕ} → Told h k s level → HasTx h t3
+    → Foregoing (historyOf h) level t3 (getD s (2 * t3) 0) (getD s (2 * t3 + 1) 0)
 unfolding before
-told-bit {t2 = t2} {t3 = t3} p o l =
-    let few = p .ready .settled .held .few in
-    sym (p .seen .is t3 t2 (omega (arith, o .to)) (omega arith))
+told-foregoing {s = s} {t3 = t3} p o =
+    record { is = λ t2 l _. row-own s t3 t2 l ∙ p .seen .is t3 t2 (omega (arith, o .to, p .ready .settled .held .few)) l }
 
 module _ (h : History) (t2 t3 : ℕ) where
   -- a read pair is a basic one

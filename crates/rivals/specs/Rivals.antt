@@ -117,6 +117,10 @@ rivals h level = across 1 (size h) (rivalsOf h level)
 
 -- ── sets of rivals, in two words ──
 
+-- they are, of all others than t3, those that the level's pairs have before t3
+pub record Foregoing (h : History) (level t3 lo hi : ℕ) : Type 0 where
+  pub is : (t2 : ℕ) → t2 < 128 → (t2 ≡ t3 → ⊥) → rowOf lo hi t2 ≡ pairsFor h level t2 t3
+
 -- they are others than t3, and the level's pairs have all of them before t3
 pub record Chosen (h : History) (level t3 lo hi : ℕ) : Type 0 where
   pub is : (t2 : ℕ) → t2 < 128 → rowOf lo hi t2 ≡ true → pairsFor h level t2 t3 ≡ true

@@ -13,7 +13,7 @@ ghost use Rattle.table.proofs.Chain.{OnChain};
 ghost use Rattle.bits.specs.Bits.{bitOf, Holds, either, rowOf};
 ghost use Rattle.pairs.specs.Pairs.{Ready, before};
 ghost use Rattle.keys.specs.Keys.{writers};
-ghost use Rattle.rivals.specs.Rivals.{Told, pairsFor, firstFrom, seenFrom, standsFor, writesFor, triesFrom, isHitOf, hitBits, rivalBits, rivalsAmong, rivalsOf, rivals, Chosen, Candidates, Alone, isTold, Behind};
+ghost use Rattle.rivals.specs.Rivals.{Told, pairsFor, firstFrom, seenFrom, standsFor, writesFor, triesFrom, isHitOf, hitBits, rivalBits, rivalsAmong, rivalsOf, rivals, Foregoing, Chosen, Candidates, Alone, isTold, Behind};
 
 // ── which reads of t3 see t2 ──
 
@@ -265,15 +265,24 @@ fn mark_read(
     }
 }
 
-// .. that all reads of t3 settle, from the last down, for any rival, 0 among them: only what the level's pairs have before t3 is looked at, row t3 of s. A rival
-// is another than t3.
-fn mark_rivals_of(h: &[u64], k: &[u8], s: &[u64], w: &[u64], v: &mut [u64], level: u8, t3: usize)
-    requires { ⌜ Told (now h) (now k) (now s) level × Holds (now w) (writers (historyOf (now h))) × (length (now v) ≡ 256) × HasTx (now h) t3 ⌝ }
+// .. that all reads of t3 settle, from the last down, for any rival, 0 among them: only those of the set (lo, hi) are looked at, which has what the level's pairs
+// have before t3. A rival is another than t3.
+fn mark_rivals_of(
+    h: &[u64],
+    k: &[u8],
+    w: &[u64],
+    v: &mut [u64],
+    level: u8,
+    t3: usize,
+    lo: u64,
+    hi: u64,
+)
+    requires { ⌜ Ready (now h) (now k) × Holds (now w) (writers (historyOf (now h))) × (length (now v) ≡ 256) × (1 ≤ level) × (level ≤ 3) × HasTx (now h) t3 × Foregoing (historyOf (now h)) level t3 lo hi ⌝ }
     ensures { λ r. ⌜ Holds (now (v .exit)) (either (bitOf (now (v .entry))) (rivalsOf (historyOf (now (h .entry))) level t3)) ⌝ }
 {
     let mut left = Left {
-        lo: bits::without(s[2 * t3], own_bit(t3, 0)),
-        hi: bits::without(s[2 * t3 + 1], own_bit(t3, 1)),
+        lo: bits::without(lo, own_bit(t3, 0)),
+        hi: bits::without(hi, own_bit(t3, 1)),
     };
     let mut i = table::last_op(h, t3);
     while 0 < i {
@@ -282,6 +291,17 @@ fn mark_rivals_of(h: &[u64], k: &[u8], s: &[u64], w: &[u64], v: &mut [u64], leve
     }
 }
 
+// .. by row t3 of the table s.
+fn mark_by_table(h: &[u64], k: &[u8], s: &[u64], w: &[u64], v: &mut [u64], level: u8, t3: usize)
+    requires { ⌜ Told (now h) (now k) (now s) level × Holds (now w) (writers (historyOf (now h))) × (length (now v) ≡ 256) × HasTx (now h) t3 ⌝ }
+    ensures { λ r. ⌜ Holds (now (v .exit)) (either (bitOf (now (v .entry))) (rivalsOf (historyOf (now (h .entry))) level t3)) ⌝ }
+{
+    let lo = s[2 * t3];
+    let hi = s[2 * t3 + 1];
+    mark_rivals_of(h, k, w, v, level, t3, lo, hi);
+}
+
+// .. of all transactions.
 fn mark_rivals(h: &[u64], k: &[u8], s: &[u64], w: &[u64], v: &mut [u64], level: u8)
     requires { ⌜ Told (now h) (now k) (now s) level × Holds (now w) (writers (historyOf (now h))) × (length (now v) ≡ 256) ⌝ }
     ensures { λ r. ⌜ Holds (now (v .exit)) (either (bitOf (now (v .entry))) (rivals (historyOf (now (h .entry))) level)) ⌝ }
@@ -289,7 +309,7 @@ fn mark_rivals(h: &[u64], k: &[u8], s: &[u64], w: &[u64], v: &mut [u64], level: 
     let n = table::txs(h);
     let mut t3 = 1;
     while t3 <= n {
-        mark_rivals_of(h, k, s, w, v, level, t3);
+        mark_by_table(h, k, s, w, v, level, t3);
         t3 += 1;
     }
 }

@@ -20,8 +20,8 @@ loop-holds : tie.Need-loop-holds Inv-loop μ-loop
 unfolding rivals
 loop-holds c = (omega arith, mark-start _ _ _ (c .before .before .before .before .before .before .pre .2))
 
-mark-rivals-of-requires : tie.Need-mark-rivals-of-requires Inv-loop μ-loop
-mark-rivals-of-requires c κs =
+mark-by-table-requires : tie.Need-mark-by-table-requires Inv-loop μ-loop
+mark-by-table-requires c κs =
     let p = c .before .before .before .before .before .before .before .before .before .pre in
     let l = c .before .before .loop .inv in
     (p .0, p .1, l .1 .room, record { held = p .0 .ready .settled .held; from = l .0; to = omega (arith, c .before .before .before .txs .ensures) })
@@ -29,7 +29,7 @@ mark-rivals-of-requires c κs =
 loop-again : tie.Need-loop-again Inv-loop μ-loop
 loop-again c =
     let d = c .before .before .before .before .before in
-    (omega arith, mark-up _ _ (omega (arith, d .before .txs .ensures)) (d .loop .inv .1) (c .before .before .mark-rivals-of .ensures))
+    (omega arith, mark-up _ _ (omega (arith, d .before .txs .ensures)) (d .loop .inv .1) (c .before .before .mark-by-table .ensures))
 
 same-length : tie.Need-same-length Inv-loop μ-loop
 same-length c = c .before .loop .inv .1 .room ∙ sym (c .before .before .before .before .before .before .before .before .pre .2)
@@ -40,4 +40,4 @@ returns c = mark-end _ (omega (arith, c .before .before .txs .ensures)) (c .befo
 pub mark-rivals-spec : {M : Type 1} → statement M
 mark-rivals-spec =
     tie.close
-    (tie.spec Inv-loop μ-loop (λ c κs. search needs) loop-holds mark-rivals-of-requires (λ c. search needs) (λ c. search needs) loop-again same-length returns)
+    (tie.spec Inv-loop μ-loop (λ c κs. search needs) loop-holds mark-by-table-requires (λ c. search needs) (λ c. search needs) loop-again same-length returns)

@@ -1,7 +1,7 @@
 -- A table's bits: what each store does to them, and the laws of loops that rewrite a table word by word or fill it row by row.
 use Prim.Native.Nat.{ℕ, _+_, _*_, _/_, _%_, _^_, _<_, _≤_}
 use mathlib.Core.Path.{_≡_, refl, sym, ap, _∙_}
-use mathlib.Core.Bool.{Bool, true, false}
+use mathlib.Core.Bool.{Bool, true, false, not}
 use mathlib.Core.List.{List}
 use mathlib.Core.Logic.{⊎-elim}
 use native.Mathlib.Omega.{arith}
@@ -12,8 +12,8 @@ use lib.ListN.{length, getD, set, length-set}
 use lib.Seq.{getD-set-same, getD-set-other, ext-getD}
 use borrow.Author.Tests.{eqb-true, eqb-false, eq-eqb, ne-eqb}
 use Rattle.base.specs.Base.{_and_, _or_, pick}
-use Rattle.base.proofs.Tests.{ifso, split, same-test, both, and-left, and-right, and-on, and-no-left, and-no-right, or-on, or-off, or-assoc, pick-on, pick-off, same-eqb}
-use Rattle.bits.specs.Bits.{testBit, bitOf, Holds, nothing, either, plusBit, plusRow, rowOf}
+use Rattle.base.proofs.Tests.{ifso, split, same-test, both, and-left, and-right, and-on, and-no-left, and-no-right, and-true, or-on, or-off, or-assoc, pick-on, pick-off, same-eqb}
+use Rattle.bits.specs.Bits.{testBit, lacks, Minus, bitOf, Holds, nothing, either, plusBit, minusBit, plusRow, rowOf}
 use Rattle.bits.proofs.Words.{testBit-zero, testBit-or, testBit-one}
 
 -- ── what a table holds ──
@@ -88,17 +88,23 @@ module _ {o b : List ℕ} {i : ℕ} (room : length o ≡ 256) (whole : 256 ≤ i
 
 -- ── single stores ──
 
+-- word i becomes r, which is f of its own bits and those of m: the other words stay, and so do its bits where m has none
+module _ (f : Bool → Bool → Bool) (none : (e : Bool) → f e false ≡ e) where
+  word-stored : (t : List ℕ) (i m r : ℕ) → i < length t → ((k : ℕ) → testBit r k ≡ f (testBit (getD t i 0) k) (testBit m k)) → (x y : ℕ)
+      → bitOf (set t i r) x y ≡ f (bitOf t x y) (eqb (2 * x + y / 64) i and testBit m (y % 64))
+  unfolding bitOf
+  word-stored t i m r h is x y =
+      ifso (eqb (2 * x + y / 64) i)
+      (λ e. let q : 2 * x + y / 64 ≡ i = eqb-true _ _ e in
+      rw (and-on _ (testBit m (y % 64)) e, q, getD-set-same t i r 0 h) (is (y % 64)))
+      (λ e.
+      ap (λ (w : ℕ). testBit w (y % 64)) (getD-set-other t i (2 * x + y / 64) r 0 (eqb-false _ _ e))
+      ∙ sym (none _) ∙ ap (f (testBit (getD t (2 * x + y / 64) 0) (y % 64))) (sym (and-no-left _ (testBit m (y % 64)) e)))
+
 -- word i gets the bits of m too
 or-word : (t : List ℕ) (i m : ℕ) → i < length t → (x y : ℕ)
     → bitOf (set t i (bitOr (getD t i 0) m)) x y ≡ bitOf t x y or (eqb (2 * x + y / 64) i and testBit m (y % 64))
-unfolding bitOf
-or-word t i m h x y =
-    ifso (eqb (2 * x + y / 64) i)
-    (λ e. let q : 2 * x + y / 64 ≡ i = eqb-true _ _ e in
-    rw (and-on _ (testBit m (y % 64)) e, q, getD-set-same t i (bitOr (getD t i 0) m) 0 h) (testBit-or (getD t i 0) m (y % 64)))
-    (λ e.
-    ap (λ (w : ℕ). testBit w (y % 64)) (getD-set-other t i (2 * x + y / 64) (bitOr (getD t i 0) m) 0 (eqb-false _ _ e))
-    ∙ sym (or-off _ _ (and-no-left _ (testBit m (y % 64)) e)))
+or-word t i m h = word-stored _or_ (λ e. or-off e false refl) t i m (bitOr (getD t i 0) m) h (testBit-or (getD t i 0) m)
 
 both-eqb : (a b c d : ℕ) → a ≡ b → c ≡ d → eqb a b and eqb c d ≡ true
 both-eqb a b c d e f = both _ _ (eq-eqb a b e) (eq-eqb c d f)
@@ -116,18 +122,29 @@ same-place a b x y hb hy =
     let q = eqb-true y b (and-right _ _ h) in
     both-eqb (2 * x + y / 64) (2 * a + b / 64) (y % 64) (b % 64) (omega arith) (omega arith))
 
--- row a gets bit b, as the machine shifts it
-pub bit-set : (t : List ℕ) (a b : ℕ) → length t ≡ 256 → a < 128 → b < 128
-    → Holds (set t (2 * a + b / 64) (bitOr (getD t (2 * a + b / 64) 0) ((1 * 2 ^ (b % 64)) % 2 ^ 64))) (plusBit (bitOf t) a b)
-unfolding plusBit
-bit-set t a b h ha hb =
+-- the bit b of row a, as the machine shifts it
+bit-stored : (f : Bool → Bool → Bool) → ((e : Bool) → f e false ≡ e) → (t : List ℕ) (a b r : ℕ) → length t ≡ 256 → a < 128 → b < 128
+    → ((k : ℕ) → testBit r k ≡ f (testBit (getD t (2 * a + b / 64) 0) k) (testBit ((1 * 2 ^ (b % 64)) % 2 ^ 64) k))
+    → Holds (set t (2 * a + b / 64) r) (λ x y. f (bitOf t x y) (eqb x a and eqb y b))
+bit-stored f none t a b r h ha hb is =
     record {
-      room = simp length-set h;
+      room = length-set t _ r ∙ h;
       is =
           λ x y hx hy.
-          or-word t (2 * a + b / 64) ((1 * 2 ^ (b % 64)) % 2 ^ 64) (omega arith) x y
+          word-stored f none t (2 * a + b / 64) ((1 * 2 ^ (b % 64)) % 2 ^ 64) r (omega arith) is x y
           ∙ rw (testBit-one (b % 64) (y % 64) (mod-lt b (omega arith)), same-place a b x y hb hy);
     }
+
+module _ (t : List ℕ) (a b : ℕ) (h : length t ≡ 256) (ha : a < 128) (hb : b < 128) where
+  -- row a gets it
+  pub bit-set : Holds (set t (2 * a + b / 64) (bitOr (getD t (2 * a + b / 64) 0) ((1 * 2 ^ (b % 64)) % 2 ^ 64))) (plusBit (bitOf t) a b)
+  unfolding plusBit
+  bit-set = bit-stored _or_ (λ e. or-off e false refl) t a b _ h ha hb (testBit-or _ _)
+
+  -- .. loses it
+  pub bit-dropped : {r : ℕ} → Minus (getD t (2 * a + b / 64) 0) ((1 * 2 ^ (b % 64)) % 2 ^ 64) r → Holds (set t (2 * a + b / 64) r) (minusBit (bitOf t) a b)
+  unfolding minusBit lacks
+  bit-dropped {r} m = bit-stored (λ e g. e and not g) (λ e. and-true e true refl) t a b r h ha hb (m .is)
 
 -- a row's bits are those of its two words
 module _ (p q y : ℕ) where

@@ -3,7 +3,7 @@ use Prim.Native.Nat.{ℕ, _+_, _*_, _/_, _%_, _^_, _≤_, _<_}
 use mathlib.Core.Path.{_≡_}
 use mathlib.Core.Bool.{Bool, true, false, not}
 use mathlib.Core.List.{List, [], _∷_}
-use lib.Dec.{eqb}
+use lib.Dec.{eqb, ltb}
 use lib.ListN.{length, getD}
 use Rattle.base.specs.Base.{_and_, _or_}
 
@@ -40,6 +40,21 @@ either E G x y = E x y or G x y
 unfoldable pub plusBit : (ℕ → ℕ → Bool) → ℕ → ℕ → ℕ → ℕ → Bool
 plusBit E a b x y = E x y or (eqb x a and eqb y b)
 
+-- E without the pair (a, b)
+unfoldable pub minusBit : (ℕ → ℕ → Bool) → ℕ → ℕ → ℕ → ℕ → Bool
+minusBit E a b x y = E x y and not (eqb x a and eqb y b)
+
+-- a number from 1 to before n with itself
+unfoldable pub isSelf : ℕ → ℕ → ℕ → Bool
+isSelf n x y = eqb x y and ltb 0 x and ltb x n
+
+-- E and these pairs; E without them
+unfoldable pub plusSelves : ℕ → (ℕ → ℕ → Bool) → ℕ → ℕ → Bool
+plusSelves n E x y = E x y or isSelf n x y
+
+unfoldable pub minusSelves : ℕ → (ℕ → ℕ → Bool) → ℕ → ℕ → Bool
+minusSelves n E x y = E x y and not (isSelf n x y)
+
 -- E and the pairs (a, y) with r y
 unfoldable pub plusRow : (ℕ → ℕ → Bool) → ℕ → (ℕ → Bool) → ℕ → ℕ → Bool
 plusRow E a r x y = E x y or (eqb x a and r y)
@@ -67,3 +82,13 @@ pub record Least (p : ℕ → Bool) (a e r : ℕ) : Type 0 where
   pub from : a ≤ r
   pub hit : r < e → p r ≡ true
   pub none : (i : ℕ) → a ≤ i → i < r → i < e → p i ≡ false
+
+-- r is the greatest number below n that passes p, and there is one
+pub record Greatest (p : ℕ → Bool) (n r : ℕ) : Type 0 where
+  pub few : r < n
+  pub hit : p r ≡ true
+  pub none : (i : ℕ) → r < i → i < n → p i ≡ false
+
+-- the word r, of the 64 numbers from 64 * half on, has a, and nothing else
+pub record Alone (a half r : ℕ) : Type 0 where
+  pub is : (y : ℕ) → y < 64 → testBit r y ≡ eqb a (64 * half + y)

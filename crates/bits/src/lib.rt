@@ -2,8 +2,9 @@
 ghost use mathlib.Core.Path.{_≡_};
 ghost use Prim.Native.Nat.{_≤_, _<_};
 ghost use lib.ListN.{length};
+ghost use Rattle.base.specs.Base.{last};
 ghost use Rattle.theory.specs.Leads.{via};
-ghost use Rattle.bits.specs.Bits.{testBit, Minus, bitOf, Holds, Under, nothing, either, plusBit, plusRow, rowOf, whereLed, onceMore, Least};
+ghost use Rattle.bits.specs.Bits.{testBit, Minus, bitOf, Holds, Under, nothing, either, plusBit, minusBit, plusSelves, minusSelves, plusRow, rowOf, whereLed, onceMore, Least, Greatest, Alone};
 
 // The word m without the bits of p.
 pub fn without(m: u64, p: u64) -> u64
@@ -27,6 +28,39 @@ pub fn set_bit(t: &mut [u64], a: usize, b: usize)
 {
     let i = 2 * a + b / 64;
     t[i] = t[i] | (1u64 << (b % 64));
+}
+
+// Row a loses bit b.
+fn drop_bit(t: &mut [u64], a: usize, b: usize)
+    requires { ⌜ (length (now t) ≡ 256) × (a < 128) × (b < 128) ⌝ }
+    ensures { λ r. ⌜ Holds (now (t .exit)) (minusBit (bitOf (now (t .entry))) a b) ⌝ }
+{
+    let i = 2 * a + b / 64;
+    t[i] = without(t[i], 1u64 << (b % 64));
+}
+
+// Each row from 1 to before n gets the bit of its own number.
+pub fn add_selves(t: &mut [u64], n: usize)
+    requires { ⌜ (length (now t) ≡ 256) × (n ≤ 128) ⌝ }
+    ensures { λ r. ⌜ Holds (now (t .exit)) (plusSelves n (bitOf (now (t .entry)))) ⌝ }
+{
+    let mut a = 1;
+    while a < n {
+        set_bit(t, a, a);
+        a += 1;
+    }
+}
+
+// .. loses it.
+pub fn drop_selves(t: &mut [u64], n: usize)
+    requires { ⌜ (length (now t) ≡ 256) × (n ≤ 128) ⌝ }
+    ensures { λ r. ⌜ Holds (now (t .exit)) (minusSelves n (bitOf (now (t .entry)))) ⌝ }
+{
+    let mut a = 1;
+    while a < n {
+        drop_bit(t, a, a);
+        a += 1;
+    }
 }
 
 // No bit is left.
@@ -138,4 +172,32 @@ pub fn least_of(lo: u64, hi: u64, from: usize) -> usize
         return a;
     }
     64 + least(hi, 0)
+}
+
+// The greatest bit of w, which has one.
+fn greatest(w: u64) -> usize
+    requires { ⌜ 0 < w ⌝ }
+    ensures { λ r. ⌜ Greatest (testBit w) 64 r ⌝ }
+{
+    63 - u64::leading_zeros(w) as usize
+}
+
+// The greatest bit of a row whose words are lo and hi; 0 where there is none besides.
+pub fn greatest_of(lo: u64, hi: u64) -> usize
+    ensures { λ r. ⌜ (r ≡ last (rowOf lo hi) 128) × (r < 128) ⌝ }
+{
+    if hi != 0 {
+        return 64 + greatest(hi);
+    }
+    if lo != 0 {
+        return greatest(lo);
+    }
+    0
+}
+
+// The word of the 64 numbers from 64 * half on that has a, if it is one of them, and nothing else.
+pub fn own_bit(a: usize, half: usize) -> u64
+    ensures { λ r. ⌜ Alone a half r ⌝ }
+{
+    if a / 64 == half { 1u64 << (a % 64) } else { 0 }
 }

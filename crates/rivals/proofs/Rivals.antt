@@ -20,17 +20,18 @@ use Rattle.rules.proofs.Committed.{committed-below}
 use Rattle.table.specs.Table.{historyOf, ofTx, lastBelow, lastOf, prevOf, Held, HasTx, HasOp, Below}
 use Rattle.table.proofs.Chain.{OnChain, chain-last, chain-prev, sought-prev}
 use Rattle.reads.proofs.Fitting.{source-less}
-use Rattle.bits.specs.Bits.{Minus, bitOf, Holds, Under, nothing, either, plusRow, rowOf, Least}
+use Rattle.bits.specs.Bits.{Minus, bitOf, Holds, Under, nothing, either, plusRow, rowOf, Least, Alone}
 use Rattle.bits.proofs.Tables.{holds-same, row-own}
+use Rattle.bits.proofs.Alone.{row-alone, row-minus}
 use Rattle.pairs.specs.Pairs.{Ready, before, cell, across}
 use Rattle.pairs.proofs.Marking.{cell-is, cell-has, Marking, mark-chain, mark-down, mark-skip}
 use Rattle.pairs.proofs.Pairs.{byte-source, basic-under, before-under, before-via}
 use Rattle.keys.specs.Keys.{bucketOf, isShared}
 use Rattle.keys.proofs.Keys.{key-wrote, wrote-key}
-use Rattle.rivals.specs.Rivals.{pairsFor, Told, seenFrom, isAbove, canRival, fits, isTried, isCandidate, isHitOf, hitBit, hitBits, settlesIn, rivalBit, rivalBits, rivalBitsIf, rivalsAmong, rivalsOf, rivals, Foregoing, Chosen, Candidates, Alone, isTold, Remains}
+use Rattle.rivals.specs.Rivals.{pairsFor, Told, seenFrom, isAbove, canRival, fits, isTried, isCandidate, isHitOf, hitBit, hitBits, settlesIn, rivalBit, rivalBits, rivalBitsIf, rivalsAmong, rivalsOf, rivals, Foregoing, Chosen, Candidates, isTold, Remains}
 use Rattle.rivals.proofs.Hits.{candidate, hit-tx, hit-external, hit-fits, fits-hit, last-hit-of}
 use Rattle.rivals.proofs.Seen.{pairs-first, pairs-below, from-none, from-all, sees-above}
-use Rattle.rivals.proofs.Sifting.{row-candidates, row-alone, row-minus}
+use Rattle.rivals.proofs.Sifting.{row-candidates}
 
 -- ── hits, marked from the last down ──
 

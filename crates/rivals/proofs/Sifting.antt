@@ -1,42 +1,27 @@
 -- Candidates, word by word and as rows.
-use Prim.Native.Nat.{ℕ, _+_, _-_, _*_, _/_, _%_, _^_, _<_, _≤_}
+use Prim.Native.Nat.{ℕ, _+_, _-_, _*_, _/_, _%_, _<_, _≤_}
 use mathlib.Core.Path.{_≡_, refl, sym, _∙_}
 use mathlib.Core.Bool.{Bool, true, false, not}
 use mathlib.Core.List.{List}
 use mathlib.Core.Logic.{⊎-elim}
 use native.Mathlib.Omega.{arith}
-use native.Mathlib.Nat.{mod-lt}
 use lib.Bits.{bitAnd, bitOr}
-use lib.Dec.{eqb}
 use lib.ListN.{getD}
-use borrow.Author.Tests.{ne-eqb}
 use Rattle.base.specs.Base.{_and_, _or_}
-use Rattle.base.proofs.Tests.{split, and-no-right, same-eqb}
+use Rattle.base.proofs.Tests.{split, and-no-right}
 use Rattle.rules.specs.History.{History, op}
 use Rattle.table.specs.Table.{historyOf, HasOp}
-use Rattle.bits.specs.Bits.{testBit, lacks, Minus, bitOf, Holds, rowOf}
-use Rattle.bits.proofs.Words.{testBit-zero, testBit-and, testBit-or, testBit-one}
+use Rattle.bits.specs.Bits.{testBit, lacks, Minus, bitOf, Holds, rowOf, Alone}
+use Rattle.bits.proofs.Words.{testBit-zero, testBit-and, testBit-or}
 use Rattle.bits.proofs.Smallest.{row-in-low, row-in-high}
 use Rattle.pairs.specs.Pairs.{Ready}
 use Rattle.pairs.proofs.Pairs.{byte-clean, byte-origin}
 use Rattle.keys.specs.Keys.{bucketOf, writers}
 use Rattle.keys.proofs.Keys.{writers-all}
-use Rattle.rivals.specs.Rivals.{canRival, isTried, isCandidate, Candidates, Alone}
+use Rattle.rivals.specs.Rivals.{canRival, isTried, isCandidate, Candidates}
 use Rattle.rivals.proofs.Hits.{other-untried, not-tried}
 
 -- ── one word ──
-
-module _ (a half : ℕ) where
-  pub alone-in : a / 64 ≡ half → Alone a half ((1 * 2 ^ (a % 64)) % 2 ^ 64)
-  alone-in e =
-      record {
-        is =
-            λ y l.
-            testBit-one (a % 64) y (mod-lt a (omega arith)) ∙ same-eqb y (a % 64) a (64 * half + y) (λ q. omega arith) (λ q. omega arith);
-      }
-
-  pub alone-out : (a / 64 ≡ half → ⊥) → Alone a half 0
-  alone-out n = record { is = λ y l. testBit-zero y ∙ sym (ne-eqb a (64 * half + y) (λ q. n (omega arith))) }
 
 -- bit y of a row's word
 word-bit : (t : List ℕ) (a half y : ℕ) → y < 64 → testBit (getD t (2 * a + half) 0) y ≡ bitOf t a (64 * half + y)
@@ -92,20 +77,3 @@ module _ {h : History} {v : List ℕ} {i lo hi a b : ℕ} where
       let e : 64 * 1 + (t2 - 64) ≡ t2 = omega arith in
       row-in-high a b t2 s l ∙ q .is (t2 - 64) (omega arith) ∙ rw (e, row-in-high lo hi t2 s l))
       (split t2 64)
-
-pub row-alone : {a p q : ℕ} → Alone a 0 p → Alone a 1 q → (t2 : ℕ) → t2 < 128 → rowOf p q t2 ≡ eqb a t2
-row-alone {a} {p} {q} m n t2 l =
-    ⊎-elim
-    (λ s.
-    let e : 64 * 0 + t2 ≡ t2 = omega arith in
-    row-in-low p q t2 s ∙ m .is t2 s ∙ rw e refl)
-    (λ s.
-    let e : 64 * 1 + (t2 - 64) ≡ t2 = omega arith in
-    row-in-high p q t2 s l ∙ n .is (t2 - 64) (omega arith) ∙ rw e refl)
-    (split t2 64)
-
-pub row-minus : {lo hi a b p q : ℕ} → Minus lo a p → Minus hi b q → (t2 : ℕ) → t2 < 128 → rowOf p q t2 ≡ rowOf lo hi t2 and not (rowOf a b t2)
-unfolding lacks
-row-minus {lo} {hi} {a} {b} {p} {q} m n t2 l =
-    ⊎-elim (λ s. row-in-low p q t2 s ∙ m .is t2 ∙ rw (row-in-low lo hi t2 s, row-in-low a b t2 s))
-    (λ s. row-in-high p q t2 s l ∙ n .is (t2 - 64) ∙ rw (row-in-high lo hi t2 s l, row-in-high a b t2 s l)) (split t2 64)

@@ -130,10 +130,6 @@ pub record Chosen (h : History) (level t3 lo hi : ℕ) : Type 0 where
 pub record Candidates (h : History) (v : List ℕ) (i left half r : ℕ) : Type 0 where
   pub is : (y : ℕ) → y < 64 → testBit r y ≡ testBit left y and isCandidate h v (64 * half + y) i
 
--- .. has a, and nothing else
-pub record Alone (a half r : ℕ) : Type 0 where
-  pub is : (y : ℕ) → y < 64 → testBit r y ≡ eqb a (64 * half + y)
-
 -- all candidates of read i are rivals: no level but 1 asks anything of the read, and the read's bucket is not shared
 unfoldable pub isTold : History → ℕ → ℕ → Bool
 isTold h level i = not (eqb level 1) and isExternal h i and not (isShared h (bucketOf (op h i .key)))

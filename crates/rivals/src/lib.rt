@@ -13,7 +13,7 @@ ghost use Rattle.table.proofs.Chain.{OnChain};
 ghost use Rattle.bits.specs.Bits.{bitOf, Holds, either, rowOf};
 ghost use Rattle.pairs.specs.Pairs.{Ready, before};
 ghost use Rattle.keys.specs.Keys.{writers};
-ghost use Rattle.rivals.specs.Rivals.{Told, pairsFor, firstFrom, seenFrom, standsFor, writesFor, triesFrom, isHitOf, hitBits, rivalBits, rivalsAmong, rivalsOf, rivals, Foregoing, Chosen, Candidates, Alone, isTold, Behind};
+ghost use Rattle.rivals.specs.Rivals.{Told, pairsFor, firstFrom, seenFrom, standsFor, writesFor, triesFrom, isHitOf, hitBits, rivalBits, rivalsAmong, rivalsOf, rivals, Foregoing, Chosen, Candidates, isTold, Behind};
 
 // ── which reads of t3 see t2 ──
 
@@ -169,13 +169,6 @@ fn mark_rival(
 
 // ── the candidates of a read ──
 
-// The word of the 64 numbers from 64 * half on that has a, if it is one of them, and nothing else.
-fn own_bit(a: usize, half: usize) -> u64
-    ensures { λ r. ⌜ Alone a half r ⌝ }
-{
-    if a / 64 == half { 1u64 << (a % 64) } else { 0 }
-}
-
 // Those of the set `left`, of the 64 numbers from 64 * half on, that may be rivals for read i: its bucket has them, and transaction 0, they are not its source,
 // and do not stand before that already.
 fn candidates(h: &[u64], k: &[u8], w: &[u64], v: &[u64], i: usize, left: u64, half: usize) -> u64
@@ -188,8 +181,8 @@ fn candidates(h: &[u64], k: &[u8], w: &[u64], v: &[u64], i: usize, left: u64, ha
     }
     let t1 = s - 8;
     bits::without(
-        left & (w[2 * keys::bucket_of(h, i) + half] | own_bit(0, half)),
-        v[2 * t1 + half] | own_bit(t1, half),
+        left & (w[2 * keys::bucket_of(h, i) + half] | bits::own_bit(0, half)),
+        v[2 * t1 + half] | bits::own_bit(t1, half),
     )
 }
 
@@ -281,8 +274,8 @@ fn mark_rivals_of(
     ensures { λ r. ⌜ Holds (now (v .exit)) (either (bitOf (now (v .entry))) (rivalsOf (historyOf (now (h .entry))) level t3)) ⌝ }
 {
     let mut left = Left {
-        lo: bits::without(lo, own_bit(t3, 0)),
-        hi: bits::without(hi, own_bit(t3, 1)),
+        lo: bits::without(lo, bits::own_bit(t3, 0)),
+        hi: bits::without(hi, bits::own_bit(t3, 1)),
     };
     let mut i = table::last_op(h, t3);
     while 0 < i {

@@ -1,7 +1,7 @@
 use borrow.Author.Needs.{needs}
-use Rattle.rivals.proofs.Sifting.{alone-in, alone-out}
-use Rattle.rivals.proofs.own_bit.Statement.{statement}
-use Rattle.rivals.proofs.own_bit.Tie as tie
+use Rattle.bits.proofs.Alone.{alone-in, alone-out}
+use Rattle.bits.proofs.own_bit.Statement.{statement}
+use Rattle.bits.proofs.own_bit.Tie as tie
 
 returns : tie.Need-returns
 returns c = alone-in _ _ (c .if1 .taken)

@@ -1,6 +1,6 @@
 -- Which reads of t3 see t2.
 use Prim.Native.Nat.{ℕ, _+_, _*_, _<_, _≤_}
-use mathlib.Core.Path.{_≡_, sym, ap, _∙_}
+use mathlib.Core.Path.{_≡_, refl, sym, ap, _∙_}
 use mathlib.Core.Bool.{Bool, true, false}
 use mathlib.Core.List.{List}
 use lib.ListN.{getD}
@@ -22,7 +22,9 @@ use Rattle.table.proofs.Chain.{OnChain, chain-last, chain-prev, sought-last, so
 use Rattle.bits.specs.Bits.{Holds}
 use Rattle.bits.proofs.Tables.{row-own}
 use Rattle.pairs.specs.Pairs.{before}
-use Rattle.rivals.specs.Rivals.{pairsFor, Told, Foregoing, firstFrom, seenFrom}
+use Rattle.order.specs.declared.Words.{Words}
+use Rattle.vectors.specs.Vectors.{Joined}
+use Rattle.rivals.specs.Rivals.{pairsFor, Told, ToldByVectors, Foregoing, firstFrom, seenFrom}
 
 -- ── the first, found from the top down ──
 
@@ -113,6 +115,18 @@ pub told-foregoing : {h k s : List ℕ} {level t3 : ℕ} → Told h k s level �
 unfolding before
 told-foregoing {s = s} {t3 = t3} p o =
     record { is = λ t2 l _. row-own s t3 t2 l ∙ p .seen .is t3 t2 (omega (arith, o .to, p .ready .settled .held .few)) l }
+
+-- so do the rows that its vector names, at level 3
+pub vector-foregoing : {h k s x : List ℕ} {width t3 : ℕ} {r : Words} → ToldByVectors h k s x width → HasTx h t3 → Joined s x t3 width r
+    → Foregoing (historyOf h) 3 t3 (r .lo) (r .hi)
+unfolding pairsFor
+vector-foregoing {h} {t3 = t3} p o j =
+    record {
+      is =
+          λ t2 l n.
+          j .is t2 l ∙ p .seen t3 t2 (omega (arith, o .to)) l n
+          ∙ sym (ap (λ (f : ℕ → ℕ → Bool). f t2 t3) (pick-on (eqb 3 3) (leads (historyOf h)) (basic (historyOf h)) (eq-eqb 3 3 refl)));
+    }
 
 module _ (h : History) (t2 t3 : ℕ) where
   -- a read pair is a basic one

@@ -5,7 +5,7 @@ use mathlib.Core.Bool.{Bool, true, not}
 use mathlib.Core.List.{List}
 use lib.ListN.{length}
 use lib.Dec.{ltb, eqb}
-use Rattle.base.specs.Base.{_and_, _or_, pick, first}
+use Rattle.base.specs.Base.{_and_, _or_, pick, some, first}
 use Rattle.rules.specs.History.{History, op, opCount, size, sourceOf, committed}
 use Rattle.rules.specs.Reads.{writesAt, isExternal, readsFrom}
 use Rattle.rules.specs.Levels.{basic, leads, writesKey, settles}
@@ -14,6 +14,7 @@ use Rattle.table.proofs.Chain.{OnChain}
 use Rattle.bits.specs.Bits.{testBit, bitOf, Holds, rowOf}
 use Rattle.pairs.specs.Pairs.{Ready, before, cell, across}
 use Rattle.keys.specs.Keys.{bucketOf, isShared, wrote}
+use Rattle.vectors.specs.Vectors.{Small, named}
 use Rattle.rivals.specs.declared.Left.{Left}
 
 -- the pairs that the search goes by: basic pairs at levels 1 and 2, what leads to what at level 3
@@ -26,6 +27,14 @@ pub record Told (h k s : List ℕ) (level : ℕ) : Type 0 where
   pub from : 1 ≤ level
   pub to : level ≤ 3
   pub seen : Holds s (before (pairsFor (historyOf h) level))
+
+-- .. or a table s, vectors x in columns below `width`: the rows of s that the vector of t3 names have, of all others than t3, what leads to t3
+pub record ToldByVectors (h k s x : List ℕ) (width : ℕ) : Type 0 where
+  pub ready : Ready h k
+  pub room : length s ≡ 256
+  pub wide : width ≤ 128
+  pub small : (t3 : ℕ) → t3 < size (historyOf h) → Small x t3
+  pub seen : (t3 t2 : ℕ) → t3 < size (historyOf h) → t2 < 128 → (t2 ≡ t3 → ⊥) → some 1 width (named s x t3 t2) ≡ leads (historyOf h) t2 t3
 
 -- ── which reads of t3 see t2 ──
 

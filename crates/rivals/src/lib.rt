@@ -13,7 +13,7 @@ ghost use Rattle.table.proofs.Chain.{OnChain};
 ghost use Rattle.bits.specs.Bits.{bitOf, Holds, either, rowOf};
 ghost use Rattle.pairs.specs.Pairs.{Ready, before};
 ghost use Rattle.keys.specs.Keys.{writers};
-ghost use Rattle.rivals.specs.Rivals.{Told, pairsFor, firstFrom, seenFrom, standsFor, writesFor, triesFrom, isHitOf, hitBits, rivalBits, rivalsAmong, rivalsOf, rivals, Foregoing, Chosen, Candidates, isTold, Behind};
+ghost use Rattle.rivals.specs.Rivals.{Told, ToldByVectors, pairsFor, firstFrom, seenFrom, standsFor, writesFor, triesFrom, isHitOf, hitBits, rivalBits, rivalsAmong, rivalsOf, rivals, Foregoing, Chosen, Candidates, isTold, Behind};
 
 // ── which reads of t3 see t2 ──
 
@@ -314,4 +314,62 @@ pub fn fill_rivals(h: &[u64], k: &[u8], s: &[u64], w: &[u64], v: &mut [u64], lev
 {
     bits::clear(v);
     mark_rivals(h, k, s, w, v, level);
+}
+
+// ── level 3, by vectors ──
+
+// The pairs that all reads of t3 settle at level 3: what leads to t3 is read off its vector, in x, which names rows of s.
+fn mark_by_vector(
+    h: &[u64],
+    k: &[u8],
+    s: &[u64],
+    x: &[u8; 16384],
+    width: usize,
+    w: &[u64],
+    v: &mut [u64],
+    t3: usize,
+)
+    requires { ⌜ ToldByVectors (now h) (now k) (now s) (now x) width × Holds (now w) (writers (historyOf (now h))) × (length (now v) ≡ 256) × HasTx (now h) t3 ⌝ }
+    ensures { λ r. ⌜ Holds (now (v .exit)) (either (bitOf (now (v .entry))) (rivalsOf (historyOf (now (h .entry))) 3 t3)) ⌝ }
+{
+    let known = vectors::known(s, x, t3, width);
+    mark_rivals_of(h, k, w, v, 3, t3, known.lo, known.hi);
+}
+
+// .. of all transactions.
+fn mark_by_vectors(
+    h: &[u64],
+    k: &[u8],
+    s: &[u64],
+    x: &[u8; 16384],
+    width: usize,
+    w: &[u64],
+    v: &mut [u64],
+)
+    requires { ⌜ ToldByVectors (now h) (now k) (now s) (now x) width × Holds (now w) (writers (historyOf (now h))) × (length (now v) ≡ 256) ⌝ }
+    ensures { λ r. ⌜ Holds (now (v .exit)) (either (bitOf (now (v .entry))) (rivals (historyOf (now (h .entry))) 3)) ⌝ }
+{
+    let n = table::txs(h);
+    let mut t3 = 1;
+    while t3 <= n {
+        mark_by_vector(h, k, s, x, width, w, v, t3);
+        t3 += 1;
+    }
+}
+
+// As `fill_rivals` at level 3.
+pub fn fill_by_vectors(
+    h: &[u64],
+    k: &[u8],
+    s: &[u64],
+    x: &[u8; 16384],
+    width: usize,
+    w: &[u64],
+    v: &mut [u64],
+)
+    requires { ⌜ ToldByVectors (now h) (now k) (now s) (now x) width × Holds (now w) (writers (historyOf (now h))) × (length (now v) ≡ 256) ⌝ }
+    ensures { λ r. ⌜ Holds (now (v .exit)) (before (isRival (historyOf (now (h .entry))) 3)) ⌝ }
+{
+    bits::clear(v);
+    mark_by_vectors(h, k, s, x, width, w, v);
 }

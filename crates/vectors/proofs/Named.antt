@@ -5,14 +5,14 @@ use mathlib.Core.Bool.{Bool, true}
 use mathlib.Core.List.{List}
 use mathlib.Core.Logic.{⊎-elim, inl, inr}
 use native.Mathlib.Omega.{arith}
-use lib.Dec.{eqb, ltb}
+use lib.Dec.{eqb}
 use borrow.Author.Tests.{eqb-true, eqb-false, eq-eqb, ltb-true, lt-ltb}
-use Rattle.base.specs.Base.{_and_, _or_, some}
+use Rattle.base.specs.Base.{_or_, some}
 use Rattle.base.proofs.Tests.{ifso, split, same-test, both, and-left, and-right, or-cases, or-left, or-right}
 use Rattle.base.proofs.Searches.{some-at, some-of}
 use Rattle.theory.specs.Leads.{Leads, step, then, via}
 use Rattle.theory.proofs.Leads.{via-iff}
-use Rattle.bits.specs.Bits.{bitOf}
+use Rattle.bits.specs.Bits.{bitOf, isSelf}
 use Rattle.vectors_rules.specs.Latest.{Basics, KnowsOrIs, latest, withOwn}
 use Rattle.vectors_rules.proofs.Latest.{leads-first, leads-second}
 use Rattle.vectors_rules.proofs.Own.{own-is}
@@ -20,7 +20,7 @@ use Rattle.vectors.specs.Vectors.{cell, named}
 
 -- y stands before x, or is x, from 1 to before n
 abbrev pub selfOrBefore : ℕ → (ℕ → ℕ → Bool) → ℕ → ℕ → Bool
-selfOrBefore n f x y = f y x or (eqb x y and ltb 0 x and ltb x n)
+selfOrBefore n f x y = f y x or isSelf n x y
 
 module _ {n : ℕ} {m : ℕ → Bool} {ses : ℕ → ℕ} {f : ℕ → ℕ → Bool} (b : Basics n m ses f) (free : (a : ℕ) → Leads f a a → ⊥)
     {width : ℕ} (columns : (a : ℕ) → 0 < a → m a ≡ true → (0 < ses a) × (ses a < width)) (wide : width ≤ 128) where
@@ -46,6 +46,7 @@ module _ {n : ℕ} {m : ℕ → Bool} {ses : ℕ → ℕ} {f : ℕ → ℕ → B
 
   -- one that stands before x, or is x, leads where x leads, or is
   reaches : {t k x : ℕ} (y : ℕ) → (y ≡ t → ⊥) → KnowsOrIs m ses f t k x → selfOrBefore n f x y ≡ true → Leads f y t
+  unfolding isSelf
   reaches {x = x} y d (inl q) e =
       ⊎-elim (λ p. then p (q .way)) (λ p. let z : x ≡ y = eqb-true x y (and-left _ _ (and-left _ _ p)) in rw z at (q .way)) (or-cases _ _ e)
   reaches {t} {x = x} y d (inr o) e =
@@ -53,6 +54,7 @@ module _ {n : ℕ} {m : ℕ → Bool} {ses : ℕ → ℕ} {f : ℕ → ℕ → B
       ⊎-elim (λ p. step (rw z at p)) (λ p. absurd (d (sym (eqb-true x y (and-left _ _ (and-left _ _ p))) ∙ z))) (or-cases _ _ e)
 
   says : (t y k : ℕ) → (y ≡ t → ⊥) → selfOrBefore n f (entry t k) y ≡ true → Leads f y t
+  unfolding isSelf
   says t y k d e =
       ⊎-elim (λ z. reaches y d (own-is {ses = ses} (b .forces) t k .has z) e)
       (λ z.
@@ -79,6 +81,7 @@ module _ {n : ℕ} {m : ℕ → Bool} {ses : ℕ → ℕ} {f : ℕ → ℕ → B
 
   -- for any other its own
   shown-later : (t y : ℕ) → t < n → 0 < y → Leads f y t → Shown t y
+  unfolding isSelf
   shown-later t y lt pos p =
       let my = leads-first (b .forces) p .1 in
       let c = columns y pos my in

@@ -1,3 +1,4 @@
 pub mod Marking
 pub mod Walk
 pub mod Pairs
+pub mod Priors

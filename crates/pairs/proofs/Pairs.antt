@@ -12,7 +12,7 @@ use Rattle.base.specs.Base.{_and_, _or_, last}
 use Rattle.base.proofs.Tests.{split, clash, is-false, same-test, both, and-left, and-right, and-on, and-no-right, or-cases, or-left, or-right, or-on, or-off, or-assoc, below-more}
 use Rattle.base.proofs.Searches.{some-at, some-same}
 use Rattle.base.proofs.Chains.{last-passes, last-none}
-use Rattle.theory.specs.Leads.{Leads, then, via}
+use Rattle.theory.specs.Leads.{via}
 use Rattle.theory.proofs.Leads.{via-flip}
 use Rattle.theory.proofs.Same.{via-same}
 use Rattle.rules.specs.History.{History, tx, op, opCount, size, sourceOf, committed}
@@ -108,15 +108,15 @@ module _ {h : List ℕ} (p : Held h) (a b : ℕ) where
 -- ── what was marked ──
 
 -- a session pair
-record InSession (h : History) (a b : ℕ) : Type 0 where
-  from : 0 < a
-  less : a < b
-  first : committed h a ≡ true
-  second : committed h b ≡ true
-  same : tx h a .session ≡ tx h b .session
+pub record InSession (h : History) (a b : ℕ) : Type 0 where
+  pub from : 0 < a
+  pub less : a < b
+  pub first : committed h a ≡ true
+  pub second : committed h b ≡ true
+  pub same : tx h a .session ≡ tx h b .session
 
 module _ (h : History) (a b : ℕ) where
-  session-is : isSession h a b ≡ true → InSession h a b
+  pub session-is : isSession h a b ≡ true → InSession h a b
   unfolding isSession
   session-is e =
       let c = and-left _ _ e in
@@ -130,7 +130,7 @@ module _ (h : History) (a b : ℕ) where
         same = eqb-true _ _ (and-right _ _ e);
       }
 
-  is-session : InSession h a b → isSession h a b ≡ true
+  pub is-session : InSession h a b → isSession h a b ≡ true
   unfolding isSession
   is-session s =
       both _ _ (both _ _ (both _ _ (both _ _ (lt-ltb 0 a (s .from)) (lt-ltb a b (s .less))) (s .first)) (s .second)) (eq-eqb _ _ (s .same))
@@ -151,27 +151,29 @@ module _ (h : History) (a b : ℕ) where
   unfolding precedes isStart
   precedes-second e = ⊎-elim (λ s. and-right _ _ s) (λ s. session-is s .second) (or-cases _ _ e)
 
--- what stands before b: the prior one, and what stands before that
-module _ (h : History) (b : ℕ) (l : 0 < b) (c : committed h b ≡ true) where
-  prior-is : 0 < priorOf h b → isSession h (priorOf h b) b ≡ true
+-- the prior one
+module _ (h : History) (b : ℕ) where
+  pub prior-is : 0 < priorOf h b → isSession h (priorOf h b) b ≡ true
   unfolding priorOf before
   prior-is z = last-passes (before (isSession h) b) b z .0
 
-  prior-over : (y : ℕ) → isSession h y b ≡ true → y ≤ priorOf h b
+  pub prior-over : (y : ℕ) → isSession h y b ≡ true → y ≤ priorOf h b
   unfolding priorOf before
   prior-over y e =
       ⊎-elim (λ m. absurd (clash e (last-none (before (isSession h) b) b y m (session-is h y b e .less)))) (λ m. m) (split (last (before (isSession h) b) b) y)
 
+-- what stands before b: it, and what stands before that
+module _ (h : History) (b : ℕ) (l : 0 < b) (c : committed h b ≡ true) where
   orders-prior : (y : ℕ) → precedes h y (priorOf h b) or eqb y (priorOf h b) ≡ precedes h y b
   orders-prior y = same-test _ _ (λ e. ⊎-elim down (λ q. own (eqb-true y (priorOf h b) q)) (or-cases _ _ e)) up
     where
       own : y ≡ priorOf h b → precedes h y b ≡ true
       own q =
-          ⊎-elim (λ z. by-session h y b (rw q (prior-is (omega arith)))) (λ z. start-is h y b (omega arith) l c) (split 0 y)
+          ⊎-elim (λ z. by-session h y b (rw q (prior-is h b (omega arith)))) (λ z. start-is h y b (omega arith) l c) (split 0 y)
 
       down : precedes h y (priorOf h b) ≡ true → precedes h y b ≡ true
       down e =
-          let p = session-is h (priorOf h b) b (prior-is (omega (arith, precedes-below h y (priorOf h b) e .0))) in
+          let p = session-is h (priorOf h b) b (prior-is h b (omega (arith, precedes-below h y (priorOf h b) e .0))) in
           ⊎-elim (λ z. start-is h y b z l c)
           (λ s.
           let r = session-is h y (priorOf h b) s in
@@ -183,17 +185,17 @@ module _ (h : History) (b : ℕ) (l : 0 < b) (c : committed h b ≡ true) where
       up e =
           ⊎-elim
           (λ z.
-          ⊎-elim (λ m. or-left _ _ (start-is h y (priorOf h b) z m (session-is h (priorOf h b) b (prior-is m) .first)))
+          ⊎-elim (λ m. or-left _ _ (start-is h y (priorOf h b) z m (session-is h (priorOf h b) b (prior-is h b m) .first)))
           (λ m. or-right _ _ (eq-eqb y (priorOf h b) (omega arith))) (split 0 (priorOf h b)))
           (λ s.
           let r = session-is h y b s in
           ⊎-elim
           (λ m.
-          let p = session-is h (priorOf h b) b (prior-is (omega (arith, r .from))) in
+          let p = session-is h (priorOf h b) b (prior-is h b (omega (arith, r .from))) in
           or-left _ _
           (by-session h y (priorOf h b)
           (is-session h y (priorOf h b) (record { from = r .from; less = m; first = r .first; second = p .first; same = r .same ∙ sym (p .same) }))))
-          (λ m. or-right _ _ (eq-eqb y (priorOf h b) (omega (arith, prior-over y s)))) (split y (priorOf h b)))
+          (λ m. or-right _ _ (eq-eqb y (priorOf h b) (omega (arith, prior-over h b y s)))) (split y (priorOf h b)))
           (precedes-cases h y b e)
 
 -- row b gets row a, then a

@@ -1,8 +1,10 @@
 -- Tables of pairs, kept by predecessor, and how the table of basic pairs is filled.
-use Prim.Native.Nat.{ℕ, _+_}
+use Prim.Native.Nat.{ℕ, _+_, _<_}
+use mathlib.Core.Path.{_≡_}
 use mathlib.Core.Bool.{Bool}
 use mathlib.Core.List.{List}
 use lib.Dec.{eqb, ltb}
+use lib.ListN.{length, getD}
 use Rattle.base.specs.Base.{_and_, _or_, some, last}
 use Rattle.rules.specs.History.{History, op, opCount, sourceOf}
 use Rattle.rules.specs.Reads.{isExternal}
@@ -40,6 +42,16 @@ ordersBelow h n x y = ltb x n and precedes h y x
 -- the last that stands before b by session; 0, which stands before every other, where there is none
 unfoldable pub priorOf : History → ℕ → ℕ
 priorOf h b = last (before (isSession h) b) b
+
+-- 128 bytes that are all 0
+pub record Blank (p : List ℕ) : Type 0 where
+  pub room : length p ≡ 128
+  pub is : (b : ℕ) → b < 128 → getD p b 0 ≡ 0
+
+-- the prior transaction of each. One that does not count as committed has none, nor has 0, nor a number past the last
+pub record Priors (h : History) (p : List ℕ) : Type 0 where
+  pub room : length p ≡ 128
+  pub is : (b : ℕ) → b < 128 → getD p b 0 ≡ priorOf h b
 
 -- a, and what E has in row a
 unfoldable pub behind : (ℕ → ℕ → Bool) → ℕ → ℕ → Bool

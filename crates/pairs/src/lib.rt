@@ -6,7 +6,7 @@ ghost use Rattle.rules.specs.History.{size};
 ghost use Rattle.rules.specs.Levels.{isStart, isSession, isRead, basic};
 ghost use Rattle.table.specs.Table.{historyOf, HasTx, HasOp, Settled, Below};
 ghost use Rattle.bits.specs.Bits.{bitOf, Holds, nothing, either, plusRow};
-ghost use Rattle.pairs.specs.Pairs.{Ready, before, priorOf, behind, ordersBelow, readBit, readBits};
+ghost use Rattle.pairs.specs.Pairs.{Ready, before, priorOf, Blank, Priors, behind, ordersBelow, readBit, readBits};
 
 // ── the reasons, one by one ──
 
@@ -61,6 +61,30 @@ fn prior(h: &[u64], b: usize) -> usize
     0
 }
 
+// .. where b counts as committed; 0, without a search, where it does not.
+fn prior_of(h: &[u64], b: usize) -> usize
+    requires { ⌜ Settled (now h) × (0 < b) ⌝ }
+    ensures { λ r. ⌜ Below r (priorOf (historyOf (now (h .entry))) b) b ⌝ }
+{
+    if !reads::is_committed(h, b) {
+        return 0;
+    }
+    prior(h, b)
+}
+
+// For each transaction the last one that stands before it by session; 0 where there is none, or where it does not count as committed.
+pub fn fill_priors(h: &[u64], p: &mut [u8; 128])
+    requires { ⌜ Settled (now h) × Blank (now p) ⌝ }
+    ensures { λ r. ⌜ Priors (historyOf (now (h .entry))) (now (p .exit)) ⌝ }
+{
+    let n = table::txs(h);
+    let mut b = 1;
+    while b <= n {
+        p[b] = prior_of(h, b) as u8;
+        b += 1;
+    }
+}
+
 // Row b gets a, and what row a has.
 fn mark_behind(t: &mut [u64], a: usize, b: usize)
     requires { ⌜ (length (now t) ≡ 256) × (a < 128) × (b < 128) ⌝ }
@@ -73,23 +97,23 @@ fn mark_behind(t: &mut [u64], a: usize, b: usize)
 }
 
 // Row b gets what stands before b by start or by session: the prior one, and all that stand before that. The rows before b have theirs.
-fn mark_order(h: &[u64], t: &mut [u64], b: usize)
-    requires { ⌜ Settled (now h) × HasTx (now h) b × Holds (now t) (ordersBelow (historyOf (now h)) b) ⌝ }
+fn mark_order(h: &[u64], p: &[u8; 128], t: &mut [u64], b: usize)
+    requires { ⌜ Settled (now h) × Priors (historyOf (now h)) (now p) × HasTx (now h) b × Holds (now t) (ordersBelow (historyOf (now h)) b) ⌝ }
     ensures { λ r. ⌜ Holds (now (t .exit)) (ordersBelow (historyOf (now (h .entry))) (b + 1)) ⌝ }
 {
     if reads::is_committed(h, b) {
-        mark_behind(t, prior(h, b), b);
+        mark_behind(t, p[b] as usize, b);
     }
 }
 
-fn mark_orders(h: &[u64], t: &mut [u64])
-    requires { ⌜ Settled (now h) × Holds (now t) nothing ⌝ }
+fn mark_orders(h: &[u64], p: &[u8; 128], t: &mut [u64])
+    requires { ⌜ Settled (now h) × Priors (historyOf (now h)) (now p) × Holds (now t) nothing ⌝ }
     ensures { λ r. ⌜ Holds (now (t .exit)) (ordersBelow (historyOf (now (h .entry))) (size (historyOf (now (h .entry))))) ⌝ }
 {
     let n = table::txs(h);
     let mut b = 1;
     while b <= n {
-        mark_order(h, t, b);
+        mark_order(h, p, t, b);
         b += 1;
     }
 }
@@ -117,13 +141,13 @@ fn mark_reads(h: &[u64], k: &[u8], t: &mut [u64])
     }
 }
 
-// Row b has the bits of the transactions that are before b in a basic pair.
-pub fn fill_basic(h: &[u64], k: &[u8], t: &mut [u64])
-    requires { ⌜ Ready (now h) (now k) × (length (now t) ≡ 256) ⌝ }
+// Row b has the bits of the transactions that are before b in a basic pair. The bytes p are what `fill_priors` makes.
+pub fn fill_basic(h: &[u64], k: &[u8], p: &[u8; 128], t: &mut [u64])
+    requires { ⌜ Ready (now h) (now k) × Priors (historyOf (now h)) (now p) × (length (now t) ≡ 256) ⌝ }
     ensures { λ r. ⌜ Holds (now (t .exit)) (before (basic (historyOf (now (h .entry))))) ⌝ }
 {
     bits::clear(t);
-    mark_orders(h, t);
+    mark_orders(h, p, t);
     mark_reads(h, k, t);
 }
 

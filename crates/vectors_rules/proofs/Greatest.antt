@@ -1,12 +1,12 @@
 -- The greatest number of which something holds.
 use Prim.Native.Nat.{ℕ, _<_, _≤_}
 use mathlib.Core.Path.{_≡_, _∙_}
-use mathlib.Core.Bool.{Bool, true, false}
+use mathlib.Core.Bool.{Bool, true}
 use mathlib.Core.Logic.{_⊎_, inl, inr, ⊎-elim}
 use native.Mathlib.Omega.{arith}
 use lib.Dec.{ltb}
 use borrow.Author.Tests.{ltb-true, ltb-false}
-use Rattle.base.specs.Base.{pick, last}
+use Rattle.base.specs.Base.{last}
 use Rattle.base.proofs.Tests.{known, clash, pick-on, pick-off, split}
 use Rattle.base.proofs.Chains.{last-passes, last-none}
 use Rattle.vectors_rules.specs.Latest.{Greatest, greater}

@@ -2,7 +2,7 @@
 use Prim.Native.Nat.{ℕ, _<_, _≤_}
 use mathlib.Core.Path.{_≡_, refl, sym, _∙_}
 use mathlib.Core.Bool.{Bool, true, false}
-use mathlib.Core.Logic.{_⊎_, inl, inr, ⊎-elim, _↔_}
+use mathlib.Core.Logic.{inl, inr, ⊎-elim, _↔_}
 use native.Mathlib.Omega.{arith}
 use lib.Dec.{eqb}
 use borrow.Author.Tests.{eqb-true, eq-eqb}
@@ -11,7 +11,7 @@ use Rattle.base.proofs.Tests.{known, clash, both, and-left, and-right, pick-on,
 use Rattle.theory.specs.Leads.{Leads, step, then}
 use Rattle.theory.specs.Order.{Forces}
 use Rattle.theory.proofs.Leads.{leads-on}
-use Rattle.vectors_rules.specs.Latest.{Basics, Greatest, Knows, Own, KnowsOrIs, latest, withOwn}
+use Rattle.vectors_rules.specs.Latest.{Basics, Greatest, Own, KnowsOrIs, latest, withOwn}
 use Rattle.vectors_rules.proofs.Greatest.{greatest-one, greatest-none, greatest-either}
 use Rattle.vectors_rules.proofs.Latest.{leads-first, latest-is}
 

@@ -2,7 +2,7 @@
 -- are, `ses` each number's session. 0 is of no session.
 use Prim.Native.Nat.{ℕ, _<_, _≤_}
 use mathlib.Core.Path.{_≡_}
-use mathlib.Core.Bool.{Bool, true, false}
+use mathlib.Core.Bool.{Bool, true}
 use mathlib.Core.Logic.{_⊎_}
 use lib.Dec.{eqb, leb, ltb}
 use Rattle.base.specs.Base.{_and_, pick, some, last}

@@ -1,2 +1,4 @@
+pub mod Cells
+pub mod Merging
 pub mod Joining
 pub mod Named

@@ -3,8 +3,54 @@ ghost use mathlib.Core.Path.{_≡_};
 ghost use Prim.Native.Nat.{_<_, _≤_};
 ghost use lib.ListN.{length};
 ghost use Rattle.order.specs.declared.Words.{Words};
-ghost use Rattle.vectors.specs.Vectors.{Small, Joined};
+ghost use Rattle.vectors_rules.specs.Latest.{greater};
+ghost use Rattle.vectors.specs.Vectors.{Changed, Narrow, mergedBlock, mergedRow, notedRow, Small, Joined};
 use order::Words;
+
+// ── one row ──
+
+// The greater of two.
+fn most(a: u8, b: u8) -> u8
+    ensures { λ r. ⌜ r ≡ greater a b ⌝ }
+{
+    if a < b { b } else { a }
+}
+
+// Sixteen columns of row t, from 16 * j on, get what row p has there. A length that is fixed: the compiler makes it one comparison.
+fn merge_block(v: &mut [u8; 16384], t: usize, p: usize, j: usize)
+    requires { ⌜ (length (now v) ≡ 16384) × (t < 128) × (p < 128) × (j < 8) ⌝ }
+    ensures { λ r. ⌜ Changed (now (v .entry)) t (mergedBlock (now (v .entry)) t p j) (now (v .exit)) ⌝ }
+{
+    let mut s = 0;
+    while s < 16 {
+        let i = 128 * t + 16 * j + s;
+        let x = most(v[i], v[128 * p + 16 * j + s]);
+        v[i] = x;
+        s += 1;
+    }
+}
+
+// Row t gets what row p knows, which has nothing from column `width` on.
+fn merge_row(v: &mut [u8; 16384], t: usize, p: usize, width: usize)
+    requires { ⌜ (length (now v) ≡ 16384) × (t < 128) × (p < 128) × (width ≤ 128) × Narrow (now v) p width ⌝ }
+    ensures { λ r. ⌜ Changed (now (v .entry)) t (mergedRow (now (v .entry)) t p) (now (v .exit)) ⌝ }
+{
+    let mut j = 0;
+    while 16 * j < width {
+        merge_block(v, t, p, j);
+        j += 1;
+    }
+}
+
+// Row t gets x at column s.
+fn note(v: &mut [u8; 16384], t: usize, s: usize, x: usize)
+    requires { ⌜ (length (now v) ≡ 16384) × (t < 128) × (s < 128) × (x < 128) ⌝ }
+    ensures { λ r. ⌜ Changed (now (v .entry)) t (notedRow (now (v .entry)) t s x) (now (v .exit)) ⌝ }
+{
+    let i = 128 * t + s;
+    let y = most(v[i], x as u8);
+    v[i] = y;
+}
 
 // ── asking ──
 

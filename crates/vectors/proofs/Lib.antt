@@ -1,4 +1,8 @@
 pub mod Cells
 pub mod Merging
 pub mod Joining
+pub mod Gathering
+pub mod Taking
+pub mod Filling
+pub mod Sequences
 pub mod Named

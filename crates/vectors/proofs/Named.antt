@@ -11,16 +11,33 @@ use Rattle.base.specs.Base.{_or_, some}
 use Rattle.base.proofs.Tests.{ifso, split, same-test, both, and-left, and-right, or-cases, or-left, or-right}
 use Rattle.base.proofs.Searches.{some-at, some-of}
 use Rattle.theory.specs.Leads.{Leads, step, then, via}
+use Rattle.theory.specs.Order.{Forces}
 use Rattle.theory.proofs.Leads.{via-iff}
 use Rattle.bits.specs.Bits.{bitOf, isSelf}
+use Rattle.order.specs.declared.Words.{Words}
+use Rattle.order.specs.Sets.{inWords}
 use Rattle.vectors_rules.specs.Latest.{Basics, KnowsOrIs, latest, withOwn}
 use Rattle.vectors_rules.proofs.Latest.{leads-first, leads-second}
 use Rattle.vectors_rules.proofs.Own.{own-is}
-use Rattle.vectors.specs.Vectors.{cell, named}
+use Rattle.vectors.specs.Vectors.{cell, pairOf, columnOf, Outcome, Small, named}
 
 -- y stands before x, or is x, from 1 to before n
 abbrev pub selfOrBefore : ℕ → (ℕ → ℕ → Bool) → ℕ → ℕ → Bool
 selfOrBefore n f x y = f y x or isSelf n x y
+
+-- an entry is the number of a row
+own-small : {n : ℕ} {m : ℕ → Bool} {f : ℕ → ℕ → Bool} (ses : ℕ → ℕ) → Forces n m f → n ≤ 128 → (t s : ℕ) → t < 128 → withOwn m ses (latest n ses f) t s < 128
+own-small {n} {m} {f} ses w few t s l =
+    ⊎-elim (λ z. below (own-is {ses = ses} w t s .has z)) (λ z. omega arith) (split 0 (withOwn m ses (latest n ses f) t s))
+  where
+    below : {x : ℕ} → KnowsOrIs m ses f t s x → x < 128
+    below (inl k) = omega (arith, few, leads-first w (k .way) .0)
+    below (inr o) = let e = o .is in omega arith
+
+-- so `known` can be asked of a table that is filled
+pub vectors-small : {f : List ℕ} {n : ℕ} {w : Words} {c v u : List ℕ} {r : Bool} → Forces n (inWords w) (pairOf f) → n ≤ 128 → Outcome f n w c v u r → r ≡ true
+    → (t : ℕ) → t < 128 → Small u t
+vectors-small {c = c} w few h e t l = record { is = λ s k. rw (h .vectors e t s l k) (own-small (columnOf c) w few t s l) }
 
 module _ {n : ℕ} {m : ℕ → Bool} {ses : ℕ → ℕ} {f : ℕ → ℕ → Bool} (b : Basics n m ses f) (free : (a : ℕ) → Leads f a a → ⊥)
     {width : ℕ} (columns : (a : ℕ) → 0 < a → m a ≡ true → (0 < ses a) × (ses a < width)) (wide : width ≤ 128) where
@@ -32,10 +49,6 @@ module _ {n : ℕ} {m : ℕ → Bool} {ses : ℕ → ℕ} {f : ℕ → ℕ → B
   member : {t k x : ℕ} → t < n → KnowsOrIs m ses f t k x → (x < n) × (m x ≡ true) × (ses x ≡ k)
   member l (inl k) = let i = leads-first (b .forces) (k .way) in (i .0, i .1, k .of)
   member l (inr o) = let e = o .is in rw e (l, o .member, o .of)
-
-  small : (t k : ℕ) → t < n → n ≤ 128 → entry t k < 128
-  small t k l few =
-      ⊎-elim (λ z. omega (arith, few, member l (own-is {ses = ses} (b .forces) t k .has z) .0)) (λ z. omega arith) (split 0 (entry t k))
 
   -- nothing stands before 0: 0 would lead to it and back
   none-before : (y : ℕ) → f y 0 ≡ true → ⊥
@@ -126,4 +139,4 @@ module _ {n : ℕ} {m : ℕ → Bool} {ses : ℕ → ℕ} {f : ℕ → ℕ → B
     where
       -- the bit of a row that is named
       bit : (k : ℕ) → k < 128 → bitOf s (cell v t k) y ≡ selfOrBefore n f (entry t k) y
-      bit k l = ap (λ (x : ℕ). bitOf s x y) (vector k l) ∙ selves (entry t k) y (small t k lt few) ly
+      bit k l = ap (λ (x : ℕ). bitOf s x y) (vector k l) ∙ selves (entry t k) y (own-small ses (b .forces) few t k (omega arith)) ly

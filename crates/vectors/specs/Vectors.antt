@@ -3,6 +3,7 @@ use Prim.Native.Nat.{ℕ, _+_, _*_, _/_, _≤_, _<_}
 use mathlib.Core.Path.{_≡_}
 use mathlib.Core.Bool.{Bool, true, false, not}
 use mathlib.Core.List.{List}
+use mathlib.Core.Logic.{_⊎_}
 use lib.Dec.{eqb, ltb}
 use lib.ListN.{length, getD}
 use Rattle.base.specs.Base.{_and_, pick, some, count}
@@ -10,7 +11,7 @@ use Rattle.theory.specs.Order.{Forces}
 use Rattle.bits.specs.Bits.{bitOf, Under, rowOf}
 use Rattle.order.specs.declared.Words.{Words}
 use Rattle.order.specs.Sets.{inWords}
-use Rattle.vectors_rules.specs.Latest.{latest, greater, withOwn, cyclic}
+use Rattle.vectors_rules.specs.Latest.{Greatest, KnowsOrIs, latest, greater, withOwn, cyclic}
 
 -- column s of row t
 unfoldable pub cell : List ℕ → ℕ → ℕ → ℕ
@@ -49,6 +50,72 @@ mergedBlock v t p j s = pick (eqb (s / 16) j) (mergedRow v t p s) (cell v t s)
 
 unfoldable pub notedRow : List ℕ → ℕ → ℕ → ℕ → ℕ → ℕ
 notedRow v t q x s = greater (cell v t s) (pick (eqb q s) x 0)
+
+-- row t is empty, and those that stand before t are others, with nothing from column `width` on
+pub record Sources (f : List ℕ) (t width : ℕ) (v : List ℕ) : Type 0 where
+  pub room : length v ≡ 16384
+  pub here : t < 128
+  pub wide : width ≤ 128
+  pub empty : (s : ℕ) → s < 128 → cell v t s ≡ 0
+  pub before : (q : ℕ) → q < 128 → bitOf f t q ≡ true → (q ≡ t → ⊥) × Narrow v q width
+
+-- x is what one that stands before t has at column s
+pub record From (f v : List ℕ) (t s x : ℕ) : Type 0 where
+  pub by : ℕ
+  pub few : by < 128
+  pub pair : bitOf f t by ≡ true
+  pub is : x ≡ cell v by s
+
+-- row t of u knows what p does: by the row of p, or by that of one that p stands before
+pub record Taken (f v : List ℕ) (t : ℕ) (u : List ℕ) (p : ℕ) : Type 0 where
+  pub by : ℕ
+  pub few : by < 128
+  pub pair : bitOf f t by ≡ true
+  pub is : (p ≡ by) ⊎ (bitOf f by p ≡ true)
+  pub most : (s : ℕ) → s < 128 → cell v by s ≤ cell u t s
+
+-- u is v with what those before t know in row t, and nothing else in it
+pub record Gathered (f : List ℕ) (t : ℕ) (v u : List ℕ) : Type 0 where
+  pub room : length u ≡ 16384
+  pub has : (s : ℕ) → s < 128 → 0 < cell u t s → From f v t s (cell u t s)
+  pub most : (p : ℕ) → 0 < p → p < 128 → bitOf f t p ≡ true → Taken f v t u p
+  pub others : (x s : ℕ) → x < 128 → s < 128 → (x ≡ t → ⊥) → cell u x s ≡ cell v x s
+
+-- row t has t's vector, with t itself in it
+unfoldable pub anyone : ℕ → Bool
+anyone x = true
+
+pub record HasVector (f c v : List ℕ) (t : ℕ) : Type 0 where
+  pub is : (s : ℕ) → s < 128 → Greatest (KnowsOrIs anyone (columnOf c) (pairOf f) t s) (cell v t s)
+
+-- t's turn: its row is empty, and those before it have their vectors
+pub record Prepared (f c : List ℕ) (t width : ℕ) (v : List ℕ) : Type 0 where
+  pub room : length v ≡ 16384
+  pub columns : Columns c width
+  pub here : t < 128
+  pub start : (q : ℕ) → q < 128 → bitOf f 0 q ≡ false
+  pub empty : (s : ℕ) → s < 128 → cell v t s ≡ 0
+  pub before : (q : ℕ) → q < 128 → bitOf f t q ≡ true → (q ≡ t → ⊥) × HasVector f c v q
+
+-- .. and what it comes to
+pub record Finished (f c : List ℕ) (t : ℕ) (v u : List ℕ) : Type 0 where
+  pub room : length u ≡ 16384
+  pub row : HasVector f c u t
+  pub others : (x s : ℕ) → x < 128 → s < 128 → (x ≡ t → ⊥) → cell u x s ≡ cell v x s
+
+-- the first k bytes of o: each number once, after all that stand before it. Nothing stands before 0
+pub record Sequence (f o : List ℕ) (k : ℕ) : Type 0 where
+  pub few : k ≤ 128
+  pub below : (i : ℕ) → i < k → getD o i 0 < 128
+  pub once : (i j : ℕ) → i < j → j < k → getD o i 0 ≡ getD o j 0 → ⊥
+  pub after : (i q : ℕ) → i < k → q < 128 → bitOf f (getD o i 0) q ≡ true → (j : ℕ) × (j < i) × (getD o j 0 ≡ q)
+  pub start : (q : ℕ) → q < 128 → bitOf f 0 q ≡ false
+
+-- these have their vectors, and the other rows nothing
+pub record Filled (f c o : List ℕ) (k : ℕ) (v : List ℕ) : Type 0 where
+  pub room : length v ≡ 16384
+  pub done : (i : ℕ) → i < k → HasVector f c v (getD o i 0)
+  pub left : (x s : ℕ) → x < 128 → s < 128 → ((i : ℕ) → i < k → getD o i 0 ≡ x → ⊥) → cell v x s ≡ 0
 
 -- no entry
 pub record Zeros (v : List ℕ) : Type 0 where

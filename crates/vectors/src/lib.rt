@@ -4,7 +4,7 @@ ghost use Prim.Native.Nat.{_<_, _≤_};
 ghost use lib.ListN.{length};
 ghost use Rattle.order.specs.declared.Words.{Words};
 ghost use Rattle.vectors_rules.specs.Latest.{greater};
-ghost use Rattle.vectors.specs.Vectors.{Changed, Narrow, mergedBlock, mergedRow, notedRow, Small, Joined};
+ghost use Rattle.vectors.specs.Vectors.{Columns, Changed, Narrow, mergedBlock, mergedRow, notedRow, Sources, Gathered, Prepared, Finished, Sequence, Filled, Zeros, Given, Outcome, Small, Joined};
 use order::Words;
 
 // ── one row ──
@@ -50,6 +50,70 @@ fn note(v: &mut [u8; 16384], t: usize, s: usize, x: usize)
     let i = 128 * t + s;
     let y = most(v[i], x as u8);
     v[i] = y;
+}
+
+// Row t gets what those before t know. From the greatest down, and without those that stand before one that was taken, since that one knows what they do:
+// so each source is taken once, and of a session the last alone.
+fn gather(v: &mut [u8; 16384], f: &[u64; 256], t: usize, width: usize)
+    requires { ⌜ Sources (now f) t width (now v) ⌝ }
+    ensures { λ r. ⌜ Gathered (now (f .entry)) t (now (v .entry)) (now (v .exit)) ⌝ }
+{
+    let mut lo = f[2 * t];
+    let mut hi = f[2 * t + 1];
+    let mut p = bits::greatest_of(lo, hi);
+    while 0 < p {
+        merge_row(v, t, p, width);
+        lo = bits::without(lo, f[2 * p] | bits::own_bit(p, 0));
+        hi = bits::without(hi, f[2 * p + 1] | bits::own_bit(p, 1));
+        p = bits::greatest_of(lo, hi);
+    }
+}
+
+// .. and itself.
+fn take_row(v: &mut [u8; 16384], f: &[u64; 256], c: &[u8; 128], t: usize, width: usize)
+    requires { ⌜ Prepared (now f) (now c) t width (now v) ⌝ }
+    ensures { λ r. ⌜ Finished (now (f .entry)) (now (c .entry)) t (now (v .entry)) (now (v .exit)) ⌝ }
+{
+    gather(v, f, t, width);
+    note(v, t, c[t] as usize, t);
+}
+
+// ── all rows ──
+
+// The rows of the first k of o, in this order.
+fn fill(v: &mut [u8; 16384], f: &[u64; 256], c: &[u8; 128], o: &[u8; 128], k: usize, width: usize)
+    requires { ⌜ Zeros (now v) × Columns (now c) width × Sequence (now f) (now o) k ⌝ }
+    ensures { λ r. ⌜ Filled (now (f .entry)) (now (c .entry)) (now (o .entry)) k (now (v .exit)) ⌝ }
+{
+    let mut i = 0;
+    while i < k {
+        let t = o[i] as usize;
+        take_row(v, f, c, t, width);
+        i += 1;
+    }
+}
+
+// The vectors, and true; where some member leads to itself, false, and v stays as it is. Row b of f has the bits of what stands before b, w has the members,
+// of which there are m, and c their columns, below `width`.
+pub fn fill_vectors(
+    f: &[u64; 256],
+    n: usize,
+    w: Words,
+    m: usize,
+    c: &[u8; 128],
+    width: usize,
+    v: &mut [u8; 16384],
+) -> bool
+    requires { ⌜ Given (now f) n w m (now c) width (now v) ⌝ }
+    ensures { λ r. ⌜ Outcome (now (f .entry)) n w (now (c .entry)) (now (v .entry)) (now (v .exit)) r ⌝ }
+{
+    let mut o = [0u8; 128];
+    let k = order::order_all(f, n, w, &mut o);
+    if k != m {
+        return false;
+    }
+    fill(v, f, c, &o, k, width);
+    true
 }
 
 // ── asking ──

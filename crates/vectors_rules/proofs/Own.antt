@@ -16,7 +16,7 @@ use Rattle.vectors_rules.proofs.Greatest.{greatest-one, greatest-none, 
 use Rattle.vectors_rules.proofs.Latest.{leads-first, latest-is}
 
 -- t itself, or none
-own-alone : (m : ℕ → Bool) (ses : ℕ → ℕ) (t s : ℕ) → Greatest (Own m ses t s) (pick (m t and eqb (ses t) s) t 0)
+pub own-alone : (m : ℕ → Bool) (ses : ℕ → ℕ) (t s : ℕ) → Greatest (Own m ses t s) (pick (m t and eqb (ses t) s) t 0)
 own-alone m ses t s =
     ⊎-elim
     (λ (q : m t and eqb (ses t) s ≡ true).

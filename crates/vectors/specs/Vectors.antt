@@ -81,7 +81,7 @@ pub record Gathered (f : List ℕ) (t : ℕ) (v u : List ℕ) : Type 0 where
   pub most : (p : ℕ) → 0 < p → p < 128 → bitOf f t p ≡ true → Taken f v t u p
   pub others : (x s : ℕ) → x < 128 → s < 128 → (x ≡ t → ⊥) → cell u x s ≡ cell v x s
 
--- row t has t's vector, with t itself in it
+-- row t has t's vector, with t itself in it. Only members get a turn, so that no set of them is asked
 unfoldable pub anyone : ℕ → Bool
 anyone x = true
 

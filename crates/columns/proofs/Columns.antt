@@ -8,7 +8,7 @@ use borrow.Author.Tests.{eq-eqb}
 use Rattle.base.specs.Base.{first, last}
 use Rattle.base.proofs.Tests.{ifso, split, clash, pick-on, pick-off}
 use Rattle.base.proofs.Searches.{first-cases, first-end}
-use Rattle.base.proofs.Chains.{last-none}
+use Rattle.base.proofs.Chains.{last-less, last-none}
 use Rattle.rules.specs.History.{History, tx, size, committed}
 use Rattle.rules.specs.Levels.{isSession}
 use Rattle.rules.proofs.Committed.{committed-0, committed-below}
@@ -108,3 +108,7 @@ module _ (h : History) where
   column-below a =
       ⊎-elim (λ l. absurd (clash (eq-eqb _ _ (column-own a)) (last-none (isColumn h) (size h) (columnAt h a) l (column-few a)))) (λ g. omega arith)
       (split (last (isColumn h) (size h)) (columnAt h a))
+
+  pub width-few : widthOf h ≤ size h
+  unfolding widthOf
+  width-few = omega (arith, last-less (isColumn h) (size h) (omega arith))

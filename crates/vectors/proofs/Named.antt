@@ -26,18 +26,13 @@ abbrev pub selfOrBefore : ℕ → (ℕ → ℕ → Bool) → ℕ → ℕ → Boo
 selfOrBefore n f x y = f y x or isSelf n x y
 
 -- an entry is the number of a row
-own-small : {n : ℕ} {m : ℕ → Bool} {f : ℕ → ℕ → Bool} (ses : ℕ → ℕ) → Forces n m f → n ≤ 128 → (t s : ℕ) → t < 128 → withOwn m ses (latest n ses f) t s < 128
+pub own-small : {n : ℕ} {m : ℕ → Bool} {f : ℕ → ℕ → Bool} (ses : ℕ → ℕ) → Forces n m f → n ≤ 128 → (t s : ℕ) → t < 128 → withOwn m ses (latest n ses f) t s < 128
 own-small {n} {m} {f} ses w few t s l =
     ⊎-elim (λ z. below (own-is {ses = ses} w t s .has z)) (λ z. omega arith) (split 0 (withOwn m ses (latest n ses f) t s))
   where
     below : {x : ℕ} → KnowsOrIs m ses f t s x → x < 128
     below (inl k) = omega (arith, few, leads-first w (k .way) .0)
     below (inr o) = let e = o .is in omega arith
-
--- so `known` can be asked of a table that is filled
-pub vectors-small : {f : List ℕ} {n : ℕ} {w : Words} {c v u : List ℕ} {r : Bool} → Forces n (inWords w) (pairOf f) → n ≤ 128 → Outcome f n w c v u r → r ≡ true
-    → (t : ℕ) → t < 128 → Small u t
-vectors-small {c = c} w few h e t l = record { is = λ s k. rw (h .vectors e t s l k) (own-small (columnOf c) w few t s l) }
 
 module _ {n : ℕ} {m : ℕ → Bool} {ses : ℕ → ℕ} {f : ℕ → ℕ → Bool} (b : Basics n m ses f) (free : (a : ℕ) → Leads f a a → ⊥)
     {width : ℕ} (columns : (a : ℕ) → 0 < a → m a ≡ true → (0 < ses a) × (ses a < width)) (wide : width ≤ 128) where

@@ -1,0 +1,115 @@
+-- What level 3 goes by, for the search and for the basic pairs that are put back.
+use Prim.Native.Nat.{ℕ, _+_, _<_, _≤_}
+use mathlib.Core.Path.{_≡_, refl, sym, ap, _∙_}
+use mathlib.Core.Bool.{Bool, true, false}
+use mathlib.Core.List.{List}
+use native.Mathlib.Omega.{arith}
+use Rattle.base.specs.Base.{_or_, pick}
+use Rattle.base.proofs.Tests.{is-false, not-true, not-false, or-left, or-right, pick-on, pick-off}
+use Rattle.theory.specs.Leads.{via}
+use Rattle.rules.specs.History.{History, txCount, size, committed}
+use Rattle.rules.specs.Levels.{basic, leads, forced}
+use Rattle.rules.proofs.Forced.{forced-apart}
+use Rattle.table.specs.Table.{historyOf}
+use Rattle.bits.specs.Bits.{bitOf, Holds, isSelf, plusSelves, minusSelves}
+use Rattle.bits.proofs.Tables.{holds-same}
+use Rattle.bits.proofs.Selves.{selves-back}
+use Rattle.pairs.specs.Pairs.{Ready, before}
+use Rattle.pairs.proofs.Pairs.{basic-leads}
+use Rattle.rivals.specs.Rivals.{Told, ToldByVectors}
+use Rattle.rivals.proofs.Seen.{goes-by-leads}
+use Rattle.vectors_rules.specs.Latest.{Basics}
+use Rattle.vectors_rules.specs.Vectors.{basicCycle}
+use Rattle.vectors_rules.proofs.Cycles.{cyclic-no}
+use Rattle.vectors_rules.proofs.History.{basic-forces}
+use Rattle.order.specs.declared.Words.{Words}
+use Rattle.columns.specs.Columns.{columnAt, Numbered, widthOf}
+use Rattle.columns.proofs.Columns.{column-from, column-below, columns-basic, width-few}
+use Rattle.vectors.specs.Vectors.{Zeros, Outcome}
+use Rattle.vectors.proofs.Named.{own-small, named-tells}
+use Rattle.causal.specs.Causal.{Parties, entryAt, Known}
+use Rattle.causal.proofs.Given.{cycle-is, held-vectors}
+
+-- columns are as good as sessions
+column-basics : (h : History) → Basics (size h) (committed h) (columnAt h) (basic h)
+unfolding basic
+column-basics h =
+    record { forces = basic-forces h; session = λ a b z l _ ca cb e. or-left _ _ (or-right _ _ (columns-basic h a b z l ca cb e)) }
+
+-- no basic pair is of one transaction with itself
+basic-apart : (h : History) (a : ℕ) → basic h a a ≡ false
+unfolding forced
+basic-apart h a = is-false _ (λ e. forced-apart h a a 1 (or-left _ _ e) refl)
+
+-- ── what the search is told ──
+
+module _ {h k s x : List ℕ} {r : ℕ} (q : Ready h k) (w : Known (historyOf h) s x r) where
+  -- by the table
+  pub by-table : r ≡ 0 → Told h k s 3
+  by-table e = record { ready = q; from = omega arith; to = omega arith; seen = goes-by-leads (historyOf h) 3 refl (w .table e) }
+
+  no-cycle : 0 < r → basicCycle (historyOf h) ≡ false
+  no-cycle l = is-false _ (λ t. let e : r ≡ 0 = w .used ∙ pick-on _ 0 (widthOf (historyOf h)) t in omega arith)
+
+  is-wide : 0 < r → r ≡ widthOf (historyOf h)
+  is-wide l = w .used ∙ pick-off _ 0 (widthOf (historyOf h)) (no-cycle l)
+
+  -- by vectors
+  pub by-vectors : 0 < r → ToldByVectors h k s x r
+  unfolding leads entryAt basicCycle plusSelves before
+  by-vectors l =
+      let e = is-wide l in
+      let few : size (historyOf h) ≤ 128 = omega (arith, q .settled .held .few) in
+      let wide : r ≤ 128 = omega (arith, few, e, width-few (historyOf h)) in
+      let b = column-basics (historyOf h) in
+      let free = cyclic-no (basic-forces (historyOf h)) (no-cycle l) in
+      let columns : (a : ℕ) → 0 < a → committed (historyOf h) a ≡ true → (0 < columnAt (historyOf h) a) × (columnAt (historyOf h) a < r) =
+      λ a z c. (column-from (historyOf h) a z c, omega (arith, e, column-below (historyOf h) a)) in
+      record {
+        ready = q;
+        room = w .rows l .room;
+        wide = wide;
+        small = λ t3 y. record { is = λ c z. rw (w .vectors l .is t3 c (omega (arith, few)) z) (own-small (columnAt (historyOf h)) (basic-forces (historyOf h)) few t3 c (omega (arith, few))) };
+        seen =
+            λ t3 t2 y z n.
+            named-tells b free columns wide s x t3 t2 y few z n (w .rows l .is) (λ c u. w .vectors l .is t3 c (omega (arith, few)) u);
+      }
+
+-- ── what is known ──
+
+module _ {h p : List ℕ} {m : Words} {n : ℕ} (w : Parties h p m n) {s c x : List ℕ} (b : Holds s (before (basic (historyOf h)))) (d : Numbered (historyOf h) c)
+    (z : Zeros x) {r width : ℕ} (e : r ≡ txCount (historyOf h)) (k : width ≡ widthOf (historyOf h)) {u : List ℕ} {q : Bool} (o : Outcome s (r + 1) m c x u q) where
+  -- "when basic pairs form no cycle"
+  pub known-vectors : q ≡ true → {t : List ℕ} → Holds t (plusSelves (r + 1) (bitOf s)) → Known (historyOf h) t u width × (width ≡ 0 → u ≡ x)
+  unfolding plusSelves
+  known-vectors y {t} g =
+      let free : basicCycle (historyOf h) ≡ false = sym (cycle-is w b d z e k) ∙ not-true _ (sym (o .is) ∙ y) in
+      let some : 0 < width = omega (arith, k, column-below (historyOf h) 0) in
+      let v = rw e at g in (
+        record {
+          used = k ∙ sym (pick-off _ 0 (widthOf (historyOf h)) free);
+          table = λ n. absurd (omega arith);
+          rows = λ _. holds-same v (λ i a l f. ap (λ (c : Bool). c or isSelf (size (historyOf h)) i a) (b .is i a l f));
+          vectors = λ _. held-vectors w b d z e k (o .vectors y);
+        },
+        λ n. absurd (omega arith),
+      )
+
+  -- "with a cycle the old table is used"
+  pub known-table : q ≡ false → {t : List ℕ} → Holds t (via (bitOf s) (r + 1)) → Known (historyOf h) t u 0 × (_≡_ {A = ℕ} 0 0 → u ≡ x)
+  known-table y g =
+      let cycle : basicCycle (historyOf h) ≡ true = sym (cycle-is w b d z e k) ∙ not-false _ (sym (o .is) ∙ y) in (
+        record {
+          used = sym (pick-on _ 0 (widthOf (historyOf h)) cycle);
+          table = λ _. basic-leads (w .settled .held) b (rw e at g);
+          rows = λ l. absurd (omega arith);
+          vectors = λ l. absurd (omega arith);
+        },
+        λ _. o .kept y,
+      )
+
+-- the basic pairs are had back
+pub basic-back : {s u : List ℕ} (h : History) {n : ℕ} → n ≡ txCount h → Holds s (plusSelves (size h) (before (basic h))) → Holds u (minusSelves (n + 1) (bitOf s))
+    → Holds u (before (basic h))
+unfolding before
+basic-back h e p m = selves-back (before (basic h)) (size h) (λ a. basic-apart h a) p (rw e at m)

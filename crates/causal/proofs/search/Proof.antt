@@ -1,0 +1,25 @@
+use borrow.Author.Needs.{needs}
+use Rattle.causal.proofs.Given.{fresh-vectors}
+use Rattle.causal.proofs.search.Statement.{statement}
+use Rattle.causal.proofs.search.Tie as tie
+
+know-requires : tie.Need-know-requires
+know-requires c κs = let p = c .before .before .before .before .pre in (p .1, p .2, fresh-vectors)
+
+mark-requires : tie.Need-mark-requires
+mark-requires c κs =
+    let k = c .before .before .before .before in
+    let p = k .before .before .before .before .before .pre in
+    (p .0, k .know .ensures .0, p .3, p .4)
+
+put-basic-requires : tie.Need-put-basic-requires
+put-basic-requires c κs =
+    let k = c .before .before .before .before .before .before .before in
+    let p = k .before .before .before .before .before .pre in
+    (p .0, p .1 .priors, k .know .ensures .0 .rows, p .3 .room)
+
+returns : tie.Need-returns
+returns c = record { basics = c .put-basic .ensures; rivals = c .before .before .before .mark .ensures }
+
+pub search-spec : {M : Type 1} → statement M
+search-spec = tie.close (tie.spec know-requires mark-requires put-basic-requires returns)

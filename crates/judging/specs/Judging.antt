@@ -3,14 +3,13 @@ use Prim.Native.Nat.{ℕ, _≤_}
 use mathlib.Core.Path.{_≡_}
 use mathlib.Core.List.{List}
 use lib.ListN.{length, take}
-use Rattle.theory.specs.Leads.{via}
 use Rattle.rules.specs.History.{History, size}
 use Rattle.rules.specs.Reading.{read, reading}
 use Rattle.rules.specs.Levels.{isRival, forced}
 use Rattle.rules.specs.Outcome.{findings, order, reported, outcome, acceptance, rejection, judgedRead}
 use Rattle.rules.specs.declared.Answer.{Answer}
 use Rattle.table.specs.Table.{historyOf}
-use Rattle.bits.specs.Bits.{bitOf, Holds}
+use Rattle.bits.specs.Bits.{Holds}
 use Rattle.trace.specs.Trace.{TraceRead}
 use Rattle.trace.specs.declared.Out.{Out}
 use Rattle.trace.specs.declared.Out.the-variants.{Good, Bad}
@@ -38,11 +37,6 @@ pub record Prepared (r : Out) (s h₀ k₀ h k : List ℕ) : Type 0 where
   pub classified : (n : ℕ) → r ≡ Good n → Classified k₀ k (historyOf h)
 
 -- ── what is worked out ──
-
--- s was made of the table f of pairs of numbers below n: at level 3 what leads to what through them, else the same pairs
-pub record Known (level n : ℕ) (f s : List ℕ) : Type 0 where
-  pub closed : level ≡ 3 → Holds s (via (bitOf f) n)
-  pub same : (level ≡ 3 → ⊥) → s ≡ f
 
 -- the history's table h, what is to be known of its operations, k, and a level
 pub record AtLevel (h k : List ℕ) (level : ℕ) : Type 0 where

@@ -12,9 +12,10 @@ ghost use Rattle.table.specs.Table.{tableWords, historyOf, Settled};
 ghost use Rattle.bits.specs.Bits.{bitOf, Holds, Under};
 ghost use Rattle.order.specs.Sets.{Gathered};
 ghost use Rattle.pairs.specs.Pairs.{Ready, before};
-ghost use Rattle.rivals.specs.Rivals.{Told};
+ghost use Rattle.keys.specs.Keys.{writers};
+ghost use Rattle.causal.specs.Causal.{Parties, Searched};
 ghost use Rattle.lists.specs.Lists.{listedIn, Listing, Judging};
-ghost use Rattle.judging.specs.Judging.{Known, AtLevel, Forcing, Counted, Arranged, OnAcceptance, OnRejection, OnReading, Prepared};
+ghost use Rattle.judging.specs.Judging.{AtLevel, Forcing, Counted, Arranged, OnAcceptance, OnRejection, OnReading, Prepared};
 use order::Words;
 use rules::Answer;
 use trace::Out;
@@ -78,12 +79,13 @@ fn count_members(h: &[u64]) -> usize
 
 // ── acceptance ──
 
-// The order by the document's rule, beside the caller's buffer, so that one that is too short is not touched. Answers how many places it fills.
-fn arrange(h: &[u64], f: &[u64; 256], shown: &mut [u8; 128]) -> usize
-    requires { ⌜ Settled (now h) × Under (size (historyOf (now h))) (now f) × (length (now shown) ≡ 128) ⌝ }
+// The order by the document's rule, beside the caller's buffer, so that one that is too short is not touched. m has those that count. Answers how many places
+// it fills.
+fn arrange(h: &[u64], f: &[u64; 256], m: Words, shown: &mut [u8; 128]) -> usize
+    requires { ⌜ Settled (now h) × Under (size (historyOf (now h))) (now f) × (length (now shown) ≡ 128) × Gathered (committed (historyOf (now h))) (size (historyOf (now h))) m ⌝ }
     ensures { λ r. ⌜ ((level : ℕ) → Holds (now (f .entry)) (before (forced (historyOf (now (h .entry))) level)) → Arranged (historyOf (now (h .entry))) level (now (shown .exit)) r) ⌝ }
 {
-    order::order_all(f, table::txs(h) + 1, members(h), shown)
+    order::order_all(f, table::txs(h) + 1, m, shown)
 }
 
 // "on acceptance only, 14"
@@ -214,48 +216,64 @@ fn list(h: &[u64], k: &[u8], f: &mut [u64; 256], s: &mut [u64; 256])
     pairs::fill_reads(h, k, s);
 }
 
-// s: basic pairs, which become what the search for rivals goes by. Levels 1 and 2 ask for one of them: "an earlier clean external read in t3, of any key,
-// came from t2", or "(t2, t3) is a basic pair". Level 3: "t2 leads to t3 through one or more basic pairs".
-fn know(level: u8, s: &mut [u64; 256], n: usize)
-    requires { ⌜ Under n (now s) ⌝ }
-    ensures { λ r. ⌜ Known level n (now (s .entry)) (now (s .exit)) ⌝ }
+// Levels 1 and 2: s has the basic pairs, which are all that the search goes by ("an earlier clean external read in t3, of any key, came from t2", or "(t2, t3)
+// is a basic pair"), and f who writes what; v gets the pairs that the level adds, and f the basic ones.
+fn search_direct(
+    h: &[u64],
+    k: &[u8],
+    level: u8,
+    f: &mut [u64; 256],
+    s: &[u64; 256],
+    v: &mut [u64; 256],
+)
+    requires { ⌜ AtLevel (now h) (now k) level × (level ≡ 3 → ⊥) × Holds (now s) (before (basic (historyOf (now h)))) × Holds (now f) (writers (historyOf (now h))) × (length (now v) ≡ 256) ⌝ }
+    ensures { λ r. ⌜ Searched (historyOf (now (h .entry))) level (now (f .exit)) (now (v .exit)) ⌝ }
 {
-    if level == 3 {
-        bits::close(s, n);
-    }
+    rivals::fill_rivals(h, k, s, f, v, level);
+    bits::copy(s, f);
 }
 
-// s gets what the search for rivals goes by.
-fn tell(h: &[u64], k: &[u8], level: u8, s: &mut [u64; 256])
-    requires { ⌜ AtLevel (now h) (now k) level × (length (now s) ≡ 256) ⌝ }
-    ensures { λ r. ⌜ Told (now (h .entry)) (now (k .entry)) (now (s .exit)) level ⌝ }
-{
-    pairs::fill_basic(h, k, s);
-    know(level, s, table::txs(h) + 1);
-}
-
-// f gets the basic pairs, which s has but at level 3.
-fn put_basic(h: &[u64], k: &[u8], level: u8, s: &[u64; 256], f: &mut [u64; 256])
-    requires { ⌜ Told (now h) (now k) (now s) level × (length (now f) ≡ 256) ⌝ }
-    ensures { λ r. ⌜ Holds (now (f .exit)) (before (basic (historyOf (now (h .entry))))) ⌝ }
+// .. level 3: "t2 leads to t3 through one or more basic pairs".
+fn search(
+    h: &[u64],
+    k: &[u8],
+    p: &[u8; 128],
+    m: Words,
+    n: usize,
+    level: u8,
+    f: &mut [u64; 256],
+    s: &mut [u64; 256],
+    v: &mut [u64; 256],
+)
+    requires { ⌜ AtLevel (now h) (now k) level × Parties (now h) (now p) m n × Holds (now s) (before (basic (historyOf (now h)))) × Holds (now f) (writers (historyOf (now h))) × (length (now v) ≡ 256) ⌝ }
+    ensures { λ r. ⌜ Searched (historyOf (now (h .entry))) level (now (f .exit)) (now (v .exit)) ⌝ }
 {
     if level == 3 {
-        pairs::fill_basic(h, k, f);
+        causal::search(h, k, p, m, n, f, s, v);
     } else {
-        bits::copy(s, f);
+        search_direct(h, k, level, f, s, v);
     }
 }
 
 // f: forced pairs; v: "The level adds the pair t2 before t1"; s: what the search for these went by. While it goes on, f lends its room to the table of who
-// writes what, and before it v to the keys that are read.
-fn force(h: &[u64], k: &[u8], level: u8, f: &mut [u64; 256], s: &mut [u64; 256], v: &mut [u64; 256])
-    requires { ⌜ AtLevel (now h) (now k) level × (length (now f) ≡ 256) × (length (now s) ≡ 256) × (length (now v) ≡ 256) ⌝ }
+// writes what, and before it v to the keys that are read. p has the prior transaction of each, m those that count, n of them.
+fn force(
+    h: &[u64],
+    k: &[u8],
+    p: &[u8; 128],
+    m: Words,
+    n: usize,
+    level: u8,
+    f: &mut [u64; 256],
+    s: &mut [u64; 256],
+    v: &mut [u64; 256],
+)
+    requires { ⌜ AtLevel (now h) (now k) level × Parties (now h) (now p) m n × (length (now f) ≡ 256) × (length (now s) ≡ 256) × (length (now v) ≡ 256) ⌝ }
     ensures { λ r. ⌜ Forcing (now (h .entry)) (now (k .entry)) (now (f .exit)) (now (v .exit)) level ⌝ }
 {
-    tell(h, k, level, s);
+    pairs::fill_basic(h, k, p, s);
     keys::fill_writers(h, k, v, f);
-    rivals::fill_rivals(h, k, s, f, v, level);
-    put_basic(h, k, level, s, f);
+    search(h, k, p, m, n, level, f, s, v);
     bits::join(v, f);
 }
 
@@ -289,14 +307,18 @@ pub fn judge_history(
     requires { ⌜ AtLevel (now h) (now k) level ⌝ }
     ensures { λ r. ⌜ OnReading (historyOf (now (h .entry))) level (now (findings .entry)) (now (pairs .entry)) (now (order .entry)) (now (findings .exit)) (now (pairs .exit)) (now (order .exit)) r ⌝ }
 {
+    let mut p = [0u8; 128];
+    pairs::fill_priors(h, &mut p);
+    let m = members(h);
+    let all = count_members(h);
     let mut f = [0u64; 256];
     let mut s = [0u64; 256];
     let mut v = [0u64; 256];
-    force(h, k, level, &mut f, &mut s, &mut v);
+    force(h, k, &p, m, all, level, &mut f, &mut s, &mut v);
     let mut shown = [0u8; 128];
-    let n = arrange(h, &f, &mut shown);
+    let n = arrange(h, &f, m, &mut shown);
     // an order that has them all shows that no pair is listed: what leads to what through forced pairs is then not needed
-    if n == count_members(h) {
+    if n == all {
         return decide_placed(h, k, &shown, n, findings, order);
     }
     lead(&f, &mut s, table::txs(h) + 1);

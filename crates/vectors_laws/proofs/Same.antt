@@ -19,7 +19,7 @@ use Rattle.vectors_rules.proofs.Greatest.{greatest-same}
 use Rattle.vectors_rules.proofs.Latest.{leads-first, entry-tells, vectors-tell}
 use Rattle.vectors_rules.proofs.Own.{sources-tell}
 use Rattle.vectors_rules.proofs.History.{basics}
-use Rattle.vectors_laws.specs.Vectors.{VectorsOf, OwnVectorsOf, NoBasicCycle, Say, AtMost, SameAsTable}
+use Rattle.vectors_laws.specs.Vectors.{VectorsOf, OwnVectorsOf, NoBasicCycle, Say, AtMost, SameAsTable, SameAsSources}
 use Rattle.vectors_laws.proofs.Vectors.{to-way, from-way, to-known, from-known, own-vectors-one}
 
 module _ {h : History} (ok : LawfulHistory h) where
@@ -60,8 +60,7 @@ told-is-leads h a b z =
 
 -- so it is of every trace
 pub trace-same : (s : List ℕ) → SameAsTable s
-trace-same s =
-    record {
-      says = λ h r f v x a b d z y. same-as-table (lawful-history r) x f a b d z y;
-      computes = λ h r f a b d z y. told-is-leads h a b z;
-    }
+trace-same s = record { says = λ h r f v x a b d z y. same-as-table (lawful-history r) x f a b d z y }
+
+pub trace-sources : (s : List ℕ) → SameAsSources s
+trace-sources s = record { says = λ h r v x a b m n z y d. sources-say (lawful-history r) x a b m n z y d }

@@ -4,12 +4,10 @@ use mathlib.Core.Path.{_≡_}
 use mathlib.Core.List.{List}
 use mathlib.Core.Logic.{_↔_, _⊎_}
 use Rattle.rules.specs.History.{History, tx, size}
-use Rattle.rules.specs.Levels.{leads}
 use Rattle.demand1.specs.Rows.{HasHistory}
 use Rattle.demand2.specs.Axiom.{Member}
 use Rattle.demand3.specs.Forced.{Way, IsBasic}
 use Rattle.vectors_rules.specs.Latest.{Greatest}
-use Rattle.vectors_rules.specs.Vectors.{toldBy}
 
 -- ── the vectors ──
 
@@ -54,8 +52,11 @@ AtMost v a b = (s : ℕ) → v a s ≤ v b s
 pub record SameAsTable (s : List ℕ) : Type 0 where
   pub says : (h : History) → HasHistory s h → NoBasicCycle h → (v : ℕ → ℕ → ℕ) → VectorsOf h v → (a b : ℕ) → (a ≡ b → ⊥) → 0 < a → 0 < b
       → Say h v a b ↔ Way (IsBasic h) a b
-  -- .. and of the two as they compute
-  pub computes : (h : History) → HasHistory s h → NoBasicCycle h → (a b : ℕ) → (a ≡ b → ⊥) → 0 < a → 0 < b → toldBy h a b ≡ leads h a b
+
+-- .. and as the sources have it, for those that take part
+pub record SameAsSources (s : List ℕ) : Type 0 where
+  pub says : (h : History) → HasHistory s h → (v : ℕ → ℕ → ℕ) → OwnVectorsOf h v → (a b : ℕ) → Member h a → Member h b → 0 < a → 0 < b → (a ≡ b → ⊥)
+      → AtMost v a b ↔ Way (IsBasic h) a b
 
 -- ── as the sources work them out ──
 

@@ -8,7 +8,7 @@ use native.Mathlib.Omega.{arith}
 use lib.Dec.{ltb}
 use lib.ListN.{replicate, length-replicate, getD-replicate}
 use borrow.Author.Tests.{ltb-true, lt-ltb}
-use Rattle.base.specs.Base.{_and_, count}
+use Rattle.base.specs.Base.{_and_, last, count}
 use Rattle.base.proofs.Tests.{ifso, clash, is-false, both, and-left, and-right, and-on, and-no-left}
 use Rattle.base.proofs.Searches.{count-same}
 use Rattle.theory.specs.Leads.{Leads}
@@ -29,8 +29,9 @@ use Rattle.vectors_rules.proofs.Greatest.{greatest-same}
 use Rattle.vectors_rules.proofs.Latest.{leads-first}
 use Rattle.vectors_rules.proofs.Own.{own-is, own-one}
 use Rattle.vectors_rules.proofs.History.{basic-forces}
-use Rattle.columns.specs.Columns.{columnAt, Numbered, widthOf}
+use Rattle.columns.specs.Columns.{columnAt, Numbered, saysColumn, widthOf}
 use Rattle.columns.proofs.Columns.{column-below, width-few}
+use Rattle.columns.proofs.Filling.{width-is}
 use Rattle.vectors.specs.Vectors.{cell, pairOf, columnOf, Columns, Zeros, Given, Outcome}
 use Rattle.causal.specs.Causal.{Parties, entryAt, HoldsVectors}
 
@@ -75,6 +76,10 @@ module _ {h p : List ℕ} {m : Words} {n : ℕ} (w : Parties h p m n) where
 
   in-below : (a : ℕ) → a < 128 → inWords m a ≡ true → a < size (historyOf h)
   in-below a l e = ltb-true a (size (historyOf h)) (and-left _ _ (sym (w .members .is a l) ∙ e))
+
+  -- the columns' number
+  pub wide : {c : List ℕ} {r width : ℕ} → Numbered (historyOf h) c → r ≡ txCount (historyOf h) → width ≡ last (saysColumn c) (r + 1) + 1 → width ≡ widthOf (historyOf h)
+  wide {r = r} d e k = k ∙ width-is {n = r + 1} d (omega (arith, e)) (omega (arith, e, few))
 
   -- what `fill_vectors` asks for
   module _ {s c x : List ℕ} (b : Holds s (before (basic (historyOf h)))) (d : Numbered (historyOf h) c) (z : Zeros x) where

@@ -5,7 +5,7 @@ use mathlib.Core.Bool.{Bool, true, false}
 use mathlib.Core.List.{List}
 use native.Mathlib.Omega.{arith}
 use Rattle.base.specs.Base.{_or_, pick}
-use Rattle.base.proofs.Tests.{is-false, not-true, not-false, or-left, or-right, pick-on, pick-off}
+use Rattle.base.proofs.Tests.{ifso, is-false, not-true, not-false, or-left, or-right, pick-on, pick-off}
 use Rattle.theory.specs.Leads.{via}
 use Rattle.rules.specs.History.{History, txCount, size, committed}
 use Rattle.rules.specs.Levels.{basic, leads, forced}
@@ -27,7 +27,7 @@ use Rattle.columns.specs.Columns.{columnAt, Numbered, widthOf}
 use Rattle.columns.proofs.Columns.{column-from, column-below, columns-basic, width-few}
 use Rattle.vectors.specs.Vectors.{Zeros, Outcome}
 use Rattle.vectors.proofs.Named.{own-small, named-tells}
-use Rattle.causal.specs.Causal.{Parties, entryAt, Known}
+use Rattle.causal.specs.Causal.{Parties, entryAt, Known, leftIn}
 use Rattle.causal.proofs.Given.{cycle-is, held-vectors}
 
 -- columns are as good as sessions
@@ -74,6 +74,15 @@ module _ {h k s x : List ℕ} {r : ℕ} (q : Ready h k) (w : Known (historyOf h)
             λ t3 t2 y z n.
             named-tells b free columns wide s x t3 t2 y few z n (w .rows l .is) (λ c u. w .vectors l .is t3 c (omega (arith, few)) u);
       }
+
+-- the table that the search leaves is told
+pub left-in : {h : History} {s x : List ℕ} {r : ℕ} → Known h s x r → Holds s (leftIn h)
+unfolding leftIn
+left-in {h} {r = r} w =
+    ifso (basicCycle h) (λ c. rw (pick-on _ (before (leads h)) (plusSelves (size h) (before (basic h))) c) (w .table (w .used ∙ pick-on _ 0 (widthOf h) c)))
+    (λ c.
+    let e : r ≡ widthOf h = w .used ∙ pick-off _ 0 (widthOf h) c in
+    rw (pick-off _ (before (leads h)) (plusSelves (size h) (before (basic h))) c) (w .rows (omega (arith, e, column-below h 0))))
 
 -- ── what is known ──
 

@@ -1,6 +1,7 @@
 -- Document 02's Request Nine: "Replace the table of basic reachability at level 3 by such vectors .. with a cycle the old table is used."
 use Prim.Native.Nat.{ℕ, _<_}
 use mathlib.Core.Path.{_≡_}
+use mathlib.Core.Bool.{Bool}
 use mathlib.Core.List.{List}
 use Rattle.base.specs.Base.{pick, count}
 use Rattle.rules.specs.History.{History, size, committed}
@@ -37,6 +38,10 @@ pub record Known (h : History) (s x : List ℕ) (r : ℕ) : Type 0 where
   pub table : r ≡ 0 → Holds s (before (leads h))
   pub rows : 0 < r → Holds s (plusSelves (size h) (before (basic h)))
   pub vectors : 0 < r → HoldsVectors h x
+
+-- what the table is left with, behind the search by the one or the other
+unfoldable pub leftIn : History → ℕ → ℕ → Bool
+leftIn h = pick (basicCycle h) (before (leads h)) (plusSelves (size h) (before (basic h)))
 
 -- f has the basic pairs, v the rivals that a level puts before a source
 pub record Searched (h : History) (level : ℕ) (f v : List ℕ) : Type 0 where

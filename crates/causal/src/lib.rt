@@ -9,7 +9,7 @@ ghost use Rattle.bits.specs.Bits.{Holds, plusSelves};
 ghost use Rattle.pairs.specs.Pairs.{Ready, before, Priors};
 ghost use Rattle.keys.specs.Keys.{writers};
 ghost use Rattle.vectors.specs.Vectors.{Zeros};
-ghost use Rattle.causal.specs.Causal.{Parties, Known, Searched};
+ghost use Rattle.causal.specs.Causal.{Parties, Known, leftIn, Searched};
 use order::Words;
 
 // s has the basic pairs, and becomes what the search goes by: with the vectors, which x gets, or alone. Answers the number of their columns, 0 where the table is
@@ -70,7 +70,7 @@ fn put_basic(h: &[u64], k: &[u8], p: &[u8; 128], s: &[u64; 256], width: usize, f
     }
 }
 
-// s has the basic pairs and f who writes what; v gets the pairs that level 3 adds, and f the basic ones.
+// s has the basic pairs and f who writes what; v gets the pairs that level 3 adds, and f the basic ones. s is left with what the search went by.
 pub fn search(
     h: &[u64],
     k: &[u8],
@@ -82,7 +82,7 @@ pub fn search(
     v: &mut [u64; 256],
 )
     requires { ⌜ Ready (now h) (now k) × Parties (now h) (now p) m n × Holds (now s) (before (basic (historyOf (now h)))) × Holds (now f) (writers (historyOf (now h))) × (length (now v) ≡ 256) ⌝ }
-    ensures { λ r. ⌜ Searched (historyOf (now (h .entry))) 3 (now (f .exit)) (now (v .exit)) ⌝ }
+    ensures { λ r. ⌜ Searched (historyOf (now (h .entry))) 3 (now (f .exit)) (now (v .exit)) × Holds (now (s .exit)) (leftIn (historyOf (now (h .entry)))) ⌝ }
 {
     let mut x = [0u8; 16384];
     let width = know(h, p, m, n, s, &mut x);

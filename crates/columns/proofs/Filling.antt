@@ -62,19 +62,19 @@ module _ (c : List ℕ) (n s : ℕ) where
   pub width-miss : last (saysColumn c) n ≡ last (saysColumn c) s → 0 < s → saysColumn c (s - 1) ≡ false → last (saysColumn c) n ≡ last (saysColumn c) (s - 1)
   width-miss e l m = let q : s - 1 + 1 ≡ s = omega arith in e ∙ ap (last (saysColumn c)) (sym q) ∙ last-miss (saysColumn c) (s - 1) m
 
-  module _ (few : n ≤ 128) (e : last (saysColumn c) n ≡ last (saysColumn c) s) where
-    whole : (h : History) → Numbered h c → n ≡ size h → widthOf h ≡ last (saysColumn c) s + 1
-    unfolding widthOf isColumn saysColumn
-    whole h w z =
-        ap (λ (x : ℕ). x + 1)
-        (ap (last (isColumn h)) (sym z) ∙ last-same (isColumn h) (saysColumn c) n (λ i l. ap (λ (x : ℕ). eqb x i) (sym (w .is i (omega arith)))) ∙ e)
-
-    pub width-hit : 0 < s → saysColumn c (s - 1) ≡ true → (h : History) → Numbered h c → n ≡ size h → s ≡ widthOf h
-    width-hit l t h w z =
+  module _ (e : last (saysColumn c) n ≡ last (saysColumn c) s) where
+    pub width-hit : 0 < s → saysColumn c (s - 1) ≡ true → s ≡ last (saysColumn c) n + 1
+    width-hit l t =
         let q : s - 1 + 1 ≡ s = omega arith in
         let r : last (saysColumn c) s ≡ s - 1 = rw q at (last-hit (saysColumn c) (s - 1) t) in
-        omega (arith, whole h w z, r)
+        omega (arith, e, r)
 
-    pub width-end : s ≤ 1 → (h : History) → Numbered h c → n ≡ size h → 1 ≡ widthOf h
-    width-end l h w z =
-        ⊎-elim (λ f. omega (arith, whole h w z, last-less (saysColumn c) s f)) (λ g. omega (arith, whole h w z, last-le (saysColumn c) s)) (split 0 s)
+    pub width-end : s ≤ 1 → 1 ≡ last (saysColumn c) n + 1
+    width-end l = ⊎-elim (λ f. omega (arith, e, last-less (saysColumn c) s f)) (λ g. omega (arith, e, last-le (saysColumn c) s)) (split 0 s)
+
+-- of the columns of a history it is the history's
+pub width-is : {h : History} {c : List ℕ} {n : ℕ} → Numbered h c → n ≡ size h → n ≤ 128 → last (saysColumn c) n + 1 ≡ widthOf h
+unfolding widthOf isColumn saysColumn
+width-is {h} {c} {n} w z few =
+    ap (λ (x : ℕ). x + 1)
+    (last-same (saysColumn c) (isColumn h) n (λ i l. ap (λ (x : ℕ). eqb x i) (w .is i (omega arith))) ∙ ap (last (isColumn h)) z)

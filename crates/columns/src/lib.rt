@@ -1,10 +1,10 @@
 // The columns of a table of vectors: a transaction's column is the number of its session's first transaction.
 ghost use mathlib.Core.Path.{_≡_};
-ghost use Prim.Native.Nat.{_≤_, _<_};
-ghost use Rattle.rules.specs.History.{History, size};
+ghost use Prim.Native.Nat.{_+_, _≤_, _<_};
+ghost use Rattle.base.specs.Base.{last};
 ghost use Rattle.table.specs.Table.{historyOf, HasTx, Settled};
 ghost use Rattle.pairs.specs.Pairs.{Blank, Priors};
-ghost use Rattle.columns.specs.Columns.{columnAt, SoFar, Numbered, saysColumn, widthOf};
+ghost use Rattle.columns.specs.Columns.{columnAt, SoFar, Numbered, saysColumn};
 
 // The column of t, where c has those of the transactions before t: the column of the prior transaction of its session, and t itself where there is none.
 fn column(h: &[u64], p: &[u8; 128], c: &[u8; 128], t: usize) -> u8
@@ -42,10 +42,10 @@ fn is_column(c: &[u8; 128], s: usize) -> bool
     c[s] == s as u8
 }
 
-// How many numbers there are up to the greatest column, 0 among them, which is one always. The history has the numbers below n.
+// One more than the greatest column of the numbers below n. 0 is one always.
 pub fn width(c: &[u8; 128], n: usize) -> usize
     requires { ⌜ n ≤ 128 ⌝ }
-    ensures { λ r. ⌜ ((h : History) → Numbered h (now (c .entry)) → n ≡ size h → r ≡ widthOf h) × (0 < r) × (r ≤ 128) ⌝ }
+    ensures { λ r. ⌜ r ≡ last (saysColumn (now (c .entry))) n + 1 ⌝ }
 {
     let mut s = n;
     while 1 < s {

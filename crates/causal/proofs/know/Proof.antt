@@ -1,10 +1,6 @@
-use mathlib.Core.Path.{refl, ap, _∙_}
-use Prim.Native.Nat.{ℕ, _+_}
-use native.Mathlib.Omega.{arith}
 use borrow.Author.Needs.{needs}
-use Rattle.table.specs.Table.{historyOf}
 use Rattle.pairs.proofs.Pairs.{basic-closes}
-use Rattle.causal.proofs.Given.{fresh, given}
+use Rattle.causal.proofs.Given.{fresh, wide, given}
 use Rattle.causal.proofs.Known.{known-vectors, known-table}
 use Rattle.causal.proofs.know.Statement.{statement}
 use Rattle.causal.proofs.know.Tie as tie
@@ -18,7 +14,7 @@ fill-vectors-requires c κs =
     let f = w .before .before in
     let t = f .before .before .txs .ensures in
     let p = f .before .before .before .before .pre in
-    given (p .0) (p .1) (f .fill-columns .ensures) (p .2) t (w .width .ensures .0 _ (f .fill-columns .ensures) (ap (λ (n : ℕ). n + 1) t))
+    given (p .0) (p .1) (f .fill-columns .ensures) (p .2) t (wide (p .0) (f .fill-columns .ensures) t (w .width .ensures))
 
 returns : tie.Need-returns
 returns c =
@@ -27,7 +23,7 @@ returns c =
     let f = w .before .before in
     let t = f .before .before .txs .ensures in
     let p = f .before .before .before .before .pre in
-    known-vectors (p .0) (p .1) (f .fill-columns .ensures) (p .2) t (w .width .ensures .0 _ (f .fill-columns .ensures) (ap (λ (n : ℕ). n + 1) t)) (v .fill-vectors .ensures)
+    known-vectors (p .0) (p .1) (f .fill-columns .ensures) (p .2) t (wide (p .0) (f .fill-columns .ensures) t (w .width .ensures)) (v .fill-vectors .ensures)
     (c .before .before .if1 .taken) (c .add-selves .ensures)
 
 close-requires : tie.Need-close-requires
@@ -44,7 +40,7 @@ returns-2 c =
     let f = w .before .before in
     let t = f .before .before .txs .ensures in
     let p = f .before .before .before .before .pre in
-    known-table (p .0) (p .1) (f .fill-columns .ensures) (p .2) t (w .width .ensures .0 _ (f .fill-columns .ensures) (ap (λ (n : ℕ). n + 1) t)) (v .fill-vectors .ensures)
+    known-table (p .0) (p .1) (f .fill-columns .ensures) (p .2) t (wide (p .0) (f .fill-columns .ensures) t (w .width .ensures)) (v .fill-vectors .ensures)
     (c .before .before .if1 .left) (c .close .ensures)
 
 pub know-spec : {M : Type 1} → statement M

@@ -1,5 +1,6 @@
 use borrow.Author.Needs.{needs}
 use Rattle.causal.proofs.Given.{fresh-vectors}
+use Rattle.causal.proofs.Known.{left-in}
 use Rattle.causal.proofs.search.Statement.{statement}
 use Rattle.causal.proofs.search.Tie as tie
 
@@ -19,7 +20,8 @@ put-basic-requires c κs =
     (p .0, p .1 .priors, k .know .ensures .0 .rows, p .3 .room)
 
 returns : tie.Need-returns
-returns c = record { basics = c .put-basic .ensures; rivals = c .before .before .before .mark .ensures }
+returns c =
+    (record { basics = c .put-basic .ensures; rivals = c .before .before .before .mark .ensures }, left-in (c .before .before .before .before .before .before .before .before .know .ensures .0))
 
 pub search-spec : {M : Type 1} → statement M
 search-spec = tie.close (tie.spec know-requires mark-requires put-basic-requires returns)

@@ -17,8 +17,7 @@ abbrev μ-loop : tie.MeasureT-loop
 returns : tie.Need-returns Inv-loop μ-loop
 returns c =
     let l = c .before .before .before .loop in
-    let few = c .before .before .before .before .pre in
-    (width-hit _ _ (l .s) few (l .inv .1) (omega arith) (sym (c .before .is-column .ensures) ∙ c .if1 .taken), omega arith, omega arith)
+    width-hit _ _ (l .s) (l .inv .1) (omega arith) (sym (c .before .is-column .ensures) ∙ c .if1 .taken)
 
 loop-again : tie.Need-loop-again Inv-loop μ-loop
 loop-again c =
@@ -26,7 +25,7 @@ loop-again c =
     (omega arith, width-miss _ _ (l .s) (l .inv .1) (omega arith) (sym (c .before .is-column .ensures) ∙ c .if1 .left))
 
 returns-2 : tie.Need-returns-2 Inv-loop μ-loop
-returns-2 c = (width-end _ _ (c .before .loop .s) (c .before .before .pre) (c .before .loop .inv .1) (c .loop-test .left), omega arith, omega arith)
+returns-2 c = width-end _ _ (c .before .loop .s) (c .before .loop .inv .1) (c .loop-test .left)
 
 pub width-spec : {M : Type 1} → statement M
 width-spec =

@@ -1,29 +1,28 @@
 -- A history's basic pairs, as a table has them, with columns for sessions: what the vectors are made of, and that they are a history's.
 use Prim.Native.Nat.{ℕ, _+_, _*_, _<_, _≤_}
-use mathlib.Core.Path.{_≡_, refl, sym, ap, _∙_}
-use mathlib.Core.Bool.{Bool, true, false, not}
+use mathlib.Core.Path.{_≡_, refl, sym, _∙_}
+use mathlib.Core.Bool.{true}
 use mathlib.Core.List.{List}
-use mathlib.Core.Logic.{_⊎_, inl, inr, ⊎-elim}
+use mathlib.Core.Logic.{inl, inr}
 use native.Mathlib.Omega.{arith}
 use lib.Dec.{ltb}
 use lib.ListN.{replicate, length-replicate, getD-replicate}
 use borrow.Author.Tests.{ltb-true, lt-ltb}
-use Rattle.base.specs.Base.{_and_, last, count}
+use Rattle.base.specs.Base.{_and_, last}
 use Rattle.base.proofs.Tests.{ifso, clash, is-false, both, and-left, and-right, and-on, and-no-left}
 use Rattle.base.proofs.Searches.{count-same}
-use Rattle.theory.specs.Leads.{Leads}
 use Rattle.theory.specs.Order.{Forces}
-use Rattle.rules.specs.History.{History, txCount, size, committed}
+use Rattle.rules.specs.History.{txCount, size, committed}
 use Rattle.rules.specs.Levels.{basic}
 use Rattle.rules.proofs.Committed.{committed-below}
 use Rattle.table.specs.Table.{historyOf, Held}
-use Rattle.bits.specs.Bits.{bitOf, Holds}
+use Rattle.bits.specs.Bits.{Holds}
 use Rattle.pairs.specs.Pairs.{before, Blank}
 use Rattle.pairs.proofs.Pairs.{basic-closes, basic-under}
 use Rattle.order.specs.declared.Words.{Words}
-use Rattle.order.specs.Sets.{inWords, Gathered}
+use Rattle.order.specs.Sets.{inWords}
 use Rattle.order.proofs.Sets.{gather-end}
-use Rattle.vectors_rules.specs.Latest.{Basics, Greatest, Knows, KnowsOrIs, latest, withOwn, cyclic}
+use Rattle.vectors_rules.specs.Latest.{KnowsOrIs, latest, withOwn, cyclic}
 use Rattle.vectors_rules.specs.Vectors.{basicCycle}
 use Rattle.vectors_rules.proofs.Greatest.{greatest-same}
 use Rattle.vectors_rules.proofs.Latest.{leads-first}
@@ -32,7 +31,7 @@ use Rattle.vectors_rules.proofs.History.{basic-forces}
 use Rattle.columns.specs.Columns.{columnAt, Numbered, saysColumn, widthOf}
 use Rattle.columns.proofs.Columns.{column-below, width-few}
 use Rattle.columns.proofs.Filling.{width-is}
-use Rattle.vectors.specs.Vectors.{cell, pairOf, columnOf, Columns, Zeros, Given, Outcome}
+use Rattle.vectors.specs.Vectors.{cell, pairOf, columnOf, Zeros, Given}
 use Rattle.causal.specs.Causal.{Parties, entryAt, HoldsVectors}
 
 -- what comes fresh has no byte set

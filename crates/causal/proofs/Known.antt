@@ -4,7 +4,7 @@ use mathlib.Core.Path.{_≡_, refl, sym, ap, _∙_}
 use mathlib.Core.Bool.{Bool, true, false}
 use mathlib.Core.List.{List}
 use native.Mathlib.Omega.{arith}
-use Rattle.base.specs.Base.{_or_, pick}
+use Rattle.base.specs.Base.{_or_}
 use Rattle.base.proofs.Tests.{ifso, is-false, not-true, not-false, or-left, or-right, pick-on, pick-off}
 use Rattle.theory.specs.Leads.{via}
 use Rattle.rules.specs.History.{History, txCount, size, committed}

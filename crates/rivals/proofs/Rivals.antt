@@ -1,5 +1,5 @@
 -- What was marked are the rival pairs; these are of transactions that the history has.
-use Prim.Native.Nat.{ℕ, _+_, _-_, _*_, _<_, _≤_}
+use Prim.Native.Nat.{ℕ, _+_, _-_, _<_, _≤_}
 use mathlib.Core.Path.{_≡_, refl, sym, ap, _∙_}
 use mathlib.Core.Bool.{Bool, true, false, not}
 use mathlib.Core.List.{List}
@@ -17,18 +17,18 @@ use Rattle.rules.specs.History.{History, op, opCount, size, sourceOf, committed
 use Rattle.rules.specs.Reads.{isExternal}
 use Rattle.rules.specs.Levels.{basic, writesKey, sees, settles, isRival, forced}
 use Rattle.rules.proofs.Committed.{committed-below}
-use Rattle.table.specs.Table.{historyOf, ofTx, lastBelow, lastOf, prevOf, Held, HasTx, HasOp, Below}
+use Rattle.table.specs.Table.{historyOf, ofTx, lastBelow, lastOf, prevOf, Held, HasOp, Below}
 use Rattle.table.proofs.Chain.{OnChain, chain-last, chain-prev, sought-prev}
 use Rattle.reads.proofs.Fitting.{source-less}
 use Rattle.bits.specs.Bits.{Minus, bitOf, Holds, Under, nothing, either, plusRow, rowOf, Least, Alone}
-use Rattle.bits.proofs.Tables.{holds-same, row-own}
+use Rattle.bits.proofs.Tables.{holds-same}
 use Rattle.bits.proofs.Alone.{row-alone, row-minus}
 use Rattle.pairs.specs.Pairs.{Ready, before, cell, across}
 use Rattle.pairs.proofs.Marking.{cell-is, cell-has, Marking, mark-chain, mark-down, mark-skip}
 use Rattle.pairs.proofs.Pairs.{byte-source, basic-under, before-under, before-via}
 use Rattle.keys.specs.Keys.{bucketOf, isShared}
 use Rattle.keys.proofs.Keys.{key-wrote, wrote-key}
-use Rattle.rivals.specs.Rivals.{pairsFor, Told, seenFrom, isAbove, canRival, fits, isTried, isCandidate, isHitOf, hitBit, hitBits, settlesIn, rivalBit, rivalBits, rivalBitsIf, rivalsAmong, rivalsOf, rivals, Foregoing, Chosen, Candidates, isTold, Remains}
+use Rattle.rivals.specs.Rivals.{pairsFor, seenFrom, isAbove, canRival, fits, isTried, isCandidate, isHitOf, hitBit, hitBits, settlesIn, rivalBit, rivalBits, rivalBitsIf, rivalsAmong, rivalsOf, rivals, Foregoing, Chosen, Candidates, isTold, Remains}
 use Rattle.rivals.proofs.Hits.{candidate, hit-tx, hit-external, hit-fits, fits-hit, last-hit-of}
 use Rattle.rivals.proofs.Seen.{pairs-first, pairs-below, from-none, from-all, sees-above}
 use Rattle.rivals.proofs.Sifting.{row-candidates}

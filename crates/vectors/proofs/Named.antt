@@ -14,12 +14,10 @@ use Rattle.theory.specs.Leads.{Leads, step, then, via}
 use Rattle.theory.specs.Order.{Forces}
 use Rattle.theory.proofs.Leads.{via-iff}
 use Rattle.bits.specs.Bits.{bitOf, isSelf}
-use Rattle.order.specs.declared.Words.{Words}
-use Rattle.order.specs.Sets.{inWords}
 use Rattle.vectors_rules.specs.Latest.{Basics, KnowsOrIs, latest, withOwn}
 use Rattle.vectors_rules.proofs.Latest.{leads-first, leads-second}
 use Rattle.vectors_rules.proofs.Own.{own-is}
-use Rattle.vectors.specs.Vectors.{cell, pairOf, columnOf, Outcome, Small, named}
+use Rattle.vectors.specs.Vectors.{cell, named}
 
 -- y stands before x, or is x, from 1 to before n
 abbrev pub selfOrBefore : ℕ → (ℕ → ℕ → Bool) → ℕ → ℕ → Bool

@@ -1,4 +1,3 @@
-use borrow.Author.Needs.{needs}
 use Rattle.causal.proofs.Given.{fresh-vectors}
 use Rattle.causal.proofs.Known.{left-in}
 use Rattle.causal.proofs.search.Statement.{statement}

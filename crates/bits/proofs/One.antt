@@ -1,17 +1,33 @@
 -- Two outcomes that a contract admits are the same. A machine word is below 2^64.
-use Prim.Native.Nat.{ℕ, _+_, _*_, _/_, _%_, _^_, _<_}
-use mathlib.Core.Path.{_≡_, sym, _∙_}
+use Prim.Native.Nat.{ℕ, _+_, _-_, _*_, _/_, _%_, _^_, _<_}
+use mathlib.Core.Path.{_≡_, sym, ap, _∙_}
 use mathlib.Core.Bool.{Bool}
 use mathlib.Core.List.{List}
 use native.Mathlib.Omega.{arith}
 use lib.ListN.{getD}
 use lib.Seq.{ext-getD}
-use Rattle.bits.specs.Bits.{testBit, Minus, bitOf, Holds}
+use Rattle.bits.specs.Bits.{testBit, Minus, bitOf, Holds, rowOf, Alone}
 use Rattle.bits.proofs.Words.{word-one}
+use Rattle.bits.proofs.Smallest.{row-in-low, row-in-high}
 
 -- of `without`
 pub without-one : {u v r s : ℕ} → Minus u v r → Minus u v s → r < 2 ^ 64 → s < 2 ^ 64 → r ≡ s
 without-one {r = r} {s = s} p q hr hs = word-one 64 r s hr hs (λ k l. p .is k ∙ sym (q .is k))
+
+-- of `own_bit`
+pub alone-one : {a half r s : ℕ} → Alone a half r → Alone a half s → r < 2 ^ 64 → s < 2 ^ 64 → r ≡ s
+alone-one {r = r} {s = s} p q hr hs = word-one 64 r s hr hs (λ k l. p .is k l ∙ sym (q .is k l))
+
+-- a row's two words
+pub row-one : {a b c d : ℕ} → ((y : ℕ) → y < 128 → rowOf a b y ≡ rowOf c d y) → a < 2 ^ 64 → b < 2 ^ 64 → c < 2 ^ 64 → d < 2 ^ 64 → (a ≡ c) × (b ≡ d)
+row-one {a} {b} {c} {d} e ha hb hc hd = (
+  word-one 64 a c ha hc (λ k l. sym (row-in-low a b k l) ∙ e k (omega arith) ∙ row-in-low c d k l),
+  word-one 64 b d hb hd
+      (λ k l.
+      let z : 64 + k - 64 ≡ k = omega arith in
+      let at : (p q : ℕ) → rowOf p q (64 + k) ≡ testBit q k = λ p q. row-in-high p q (64 + k) (omega arith) (omega arith) ∙ ap (testBit q) z in
+      sym (at a b) ∙ e (64 + k) (omega arith) ∙ at c d),
+)
 
 -- a table's words are machine words
 pub record MachineWords (t : List ℕ) : Type 0 where

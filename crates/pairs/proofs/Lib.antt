@@ -2,3 +2,4 @@ pub mod Marking
 pub mod Walk
 pub mod Pairs
 pub mod Priors
+pub mod One

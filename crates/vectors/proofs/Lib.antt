@@ -6,3 +6,4 @@ pub mod Taking
 pub mod Filling
 pub mod Sequences
 pub mod Named
+pub mod One

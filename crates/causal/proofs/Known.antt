@@ -4,8 +4,8 @@ use mathlib.Core.Path.{_≡_, refl, sym, ap, _∙_}
 use mathlib.Core.Bool.{Bool, true, false}
 use mathlib.Core.List.{List}
 use native.Mathlib.Omega.{arith}
-use Rattle.base.specs.Base.{_or_}
-use Rattle.base.proofs.Tests.{ifso, is-false, not-true, not-false, or-left, or-right, pick-on, pick-off}
+use Rattle.base.specs.Base.{_or_, some}
+use Rattle.base.proofs.Tests.{ifso, is-false, is-true, not-true, not-false, or-left, or-right, pick-on, pick-off}
 use Rattle.theory.specs.Leads.{via}
 use Rattle.rules.specs.History.{History, txCount, size, committed}
 use Rattle.rules.specs.Levels.{basic, leads, forced}
@@ -25,7 +25,7 @@ use Rattle.vectors_rules.proofs.History.{basic-forces}
 use Rattle.order.specs.declared.Words.{Words}
 use Rattle.columns.specs.Columns.{columnAt, Numbered, widthOf}
 use Rattle.columns.proofs.Columns.{column-from, column-below, columns-basic, width-few}
-use Rattle.vectors.specs.Vectors.{Zeros, Outcome}
+use Rattle.vectors.specs.Vectors.{Zeros, Outcome, Small, named}
 use Rattle.vectors.proofs.Named.{own-small, named-tells}
 use Rattle.causal.specs.Causal.{Parties, entryAt, Known, leftIn}
 use Rattle.causal.proofs.Given.{cycle-is, held-vectors}
@@ -41,6 +41,37 @@ basic-apart : (h : History) (a : ℕ) → basic h a a ≡ false
 unfolding forced
 basic-apart h a = is-false _ (λ e. forced-apart h a a 1 (or-left _ _ e) refl)
 
+-- ── which of the two is used ──
+
+module _ {h : History} {s x : List ℕ} {r : ℕ} (w : Known h s x r) where
+  pub used-cycle : r ≡ 0 → basicCycle h ≡ true
+  used-cycle e = is-true _ (λ f. omega (arith, w .used, pick-off _ 0 (widthOf h) f, column-below h 0))
+
+  pub used-none : 0 < r → basicCycle h ≡ false
+  used-none l = is-false _ (λ t. omega (arith, w .used, pick-on _ 0 (widthOf h) t))
+
+-- ── what the vectors say ──
+
+module _ {h : History} {s x : List ℕ} {r : ℕ} (few : size h ≤ 128) (w : Known h s x r) (l : 0 < r) where
+  is-wide : r ≡ widthOf h
+  is-wide = w .used ∙ pick-off _ 0 (widthOf h) (used-none w l)
+
+  pub vectors-wide : r ≤ 128
+  vectors-wide = omega (arith, few, is-wide, width-few h)
+
+  pub vectors-small : (t : ℕ) → t < size h → Small x t
+  unfolding entryAt
+  vectors-small t y =
+      record { is = λ c z. rw (w .vectors l .is t c (omega (arith, few)) z) (own-small (columnAt h) (basic-forces h) few t c (omega (arith, few))) }
+
+  -- the rows that t's vector names have, of all others than t, what leads to t
+  pub vectors-say : (t a : ℕ) → t < size h → a < 128 → (a ≡ t → ⊥) → some 1 r (named s x t a) ≡ leads h a t
+  unfolding leads entryAt basicCycle plusSelves before
+  vectors-say t a y z n =
+      named-tells (column-basics h) (cyclic-no (basic-forces h) (used-none w l))
+      (λ b v c. (column-from h b v c, omega (arith, is-wide, column-below h b)))
+      vectors-wide s x t a y few z n (w .rows l .is) (λ c u. w .vectors l .is t c (omega (arith, few)) u)
+
 -- ── what the search is told ──
 
 module _ {h k s x : List ℕ} {r : ℕ} (q : Ready h k) (w : Known (historyOf h) s x r) where
@@ -48,32 +79,11 @@ module _ {h k s x : List ℕ} {r : ℕ} (q : Ready h k) (w : Known (historyOf h)
   pub by-table : r ≡ 0 → Told h k s 3
   by-table e = record { ready = q; from = omega arith; to = omega arith; seen = goes-by-leads (historyOf h) 3 refl (w .table e) }
 
-  no-cycle : 0 < r → basicCycle (historyOf h) ≡ false
-  no-cycle l = is-false _ (λ t. let e : r ≡ 0 = w .used ∙ pick-on _ 0 (widthOf (historyOf h)) t in omega arith)
-
-  is-wide : 0 < r → r ≡ widthOf (historyOf h)
-  is-wide l = w .used ∙ pick-off _ 0 (widthOf (historyOf h)) (no-cycle l)
-
   -- by vectors
   pub by-vectors : 0 < r → ToldByVectors h k s x r
-  unfolding leads entryAt basicCycle plusSelves before
   by-vectors l =
-      let e = is-wide l in
       let few : size (historyOf h) ≤ 128 = omega (arith, q .settled .held .few) in
-      let wide : r ≤ 128 = omega (arith, few, e, width-few (historyOf h)) in
-      let b = column-basics (historyOf h) in
-      let free = cyclic-no (basic-forces (historyOf h)) (no-cycle l) in
-      let columns : (a : ℕ) → 0 < a → committed (historyOf h) a ≡ true → (0 < columnAt (historyOf h) a) × (columnAt (historyOf h) a < r) =
-      λ a z c. (column-from (historyOf h) a z c, omega (arith, e, column-below (historyOf h) a)) in
-      record {
-        ready = q;
-        room = w .rows l .room;
-        wide = wide;
-        small = λ t3 y. record { is = λ c z. rw (w .vectors l .is t3 c (omega (arith, few)) z) (own-small (columnAt (historyOf h)) (basic-forces (historyOf h)) few t3 c (omega (arith, few))) };
-        seen =
-            λ t3 t2 y z n.
-            named-tells b free columns wide s x t3 t2 y few z n (w .rows l .is) (λ c u. w .vectors l .is t3 c (omega (arith, few)) u);
-      }
+      record { ready = q; room = w .rows l .room; wide = vectors-wide few w l; small = vectors-small few w l; seen = vectors-say few w l }
 
 -- the table that the search leaves is told
 pub left-in : {h : History} {s x : List ℕ} {r : ℕ} → Known h s x r → Holds s (leftIn h)

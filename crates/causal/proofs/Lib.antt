@@ -1,3 +1,4 @@
 pub mod Given
 pub mod Known
+pub mod Sessions
 pub mod One

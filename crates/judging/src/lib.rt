@@ -37,7 +37,7 @@ fn enter(h: &[u64], w: Words, t: usize) -> Words
 }
 
 // The transactions that count as committed, 0 among them.
-fn members(h: &[u64]) -> Words
+pub fn members(h: &[u64]) -> Words
     requires { ⌜ Settled (now h) ⌝ }
     ensures { λ r. ⌜ Gathered (committed (historyOf (now (h .entry)))) (size (historyOf (now (h .entry)))) r ⌝ }
 {
@@ -63,7 +63,7 @@ fn count_on(h: &[u64], n: usize, t: usize) -> usize
 }
 
 // How many transactions count as committed, 0 among them.
-fn count_members(h: &[u64]) -> usize
+pub fn count_members(h: &[u64]) -> usize
     requires { ⌜ Settled (now h) ⌝ }
     ensures { λ r. ⌜ r ≡ count 0 (size (historyOf (now (h .entry)))) (committed (historyOf (now (h .entry)))) ⌝ }
 {

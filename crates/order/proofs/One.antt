@@ -1,11 +1,14 @@
 -- Two outcomes that a contract admits are the same. A machine word is below 2^64.
-use Prim.Native.Nat.{ℕ, _+_, _-_, _^_, _<_}
-use mathlib.Core.Path.{_≡_, sym, ap, _∙_}
-use native.Mathlib.Omega.{arith}
-use Rattle.bits.specs.Bits.{testBit}
-use Rattle.bits.proofs.Words.{word-one}
+use Prim.Native.Nat.{ℕ, _^_, _<_}
+use mathlib.Core.Path.{_≡_, sym, _∙_}
+use mathlib.Core.Bool.{Bool}
+use mathlib.Core.Logic.{⊎-elim}
+use Rattle.base.proofs.Tests.{split}
+use Rattle.bits.specs.Bits.{rowOf}
+use Rattle.bits.proofs.Smallest.{row-in-low, row-in-high}
+use Rattle.bits.proofs.One.{row-one}
 use Rattle.order.specs.declared.Words.{Words}
-use Rattle.order.specs.Sets.{inWords, Plus}
+use Rattle.order.specs.Sets.{inWords, Plus, Gathered}
 use Rattle.order.proofs.Sets.{in-low, in-high}
 
 -- both words of a set
@@ -13,20 +16,21 @@ pub record MachineSet (w : Words) : Type 0 where
   pub lo : w .lo < 2 ^ 64
   pub hi : w .hi < 2 ^ 64
 
+-- a set's words are those of a row
+row-set : (w : Words) (y : ℕ) → y < 128 → rowOf (w .lo) (w .hi) y ≡ inWords w y
+row-set w y l =
+    ⊎-elim (λ h. row-in-low (w .lo) (w .hi) y h ∙ sym (in-low w y h)) (λ h. row-in-high (w .lo) (w .hi) y h l ∙ sym (in-high w y h)) (split y 64)
+
+-- two sets with the same numbers
+set-one : {u v : Words} → ((x : ℕ) → x < 128 → inWords u x ≡ inWords v x) → MachineSet u → MachineSet v → u ≡ v
+set-one {u} {v} same s t =
+    let e = row-one {a = u .lo} {b = u .hi} {c = v .lo} {d = v .hi} (λ y l. row-set u y l ∙ same y l ∙ sym (row-set v y l)) (s .lo) (s .hi) (t .lo) (t .hi) in
+    λ i. record { lo = e .0 i; hi = e .1 i }
+
 -- of `with`
 pub with-one : {w u v : Words} {a : ℕ} → Plus w a u → Plus w a v → MachineSet u → MachineSet v → u ≡ v
-with-one {w} {u} {v} {a} p q s t = λ i. record { lo = low i; hi = high i }
-  where
-    same : (x : ℕ) → x < 128 → inWords u x ≡ inWords v x
-    same x l = p .is x l ∙ sym (q .is x l)
+with-one p q = set-one (λ x l. p .is x l ∙ sym (q .is x l))
 
-    low : u .lo ≡ v .lo
-    low = word-one 64 (u .lo) (v .lo) (s .lo) (t .lo) (λ k l. sym (in-low u k l) ∙ same k (omega arith) ∙ in-low v k l)
-
-    high : u .hi ≡ v .hi
-    high =
-        word-one 64 (u .hi) (v .hi) (s .hi) (t .hi)
-        (λ k l.
-        let e : k + 64 - 64 ≡ k = omega arith in
-        let at : (w : Words) → inWords w (k + 64) ≡ testBit (w .hi) k = λ w. in-high w (k + 64) (omega arith) ∙ ap (testBit (w .hi)) e in
-        sym (at u) ∙ same (k + 64) (omega arith) ∙ at v)
+-- of a set that is gathered
+pub gathered-one : {p : ℕ → Bool} {n : ℕ} {u v : Words} → Gathered p n u → Gathered p n v → MachineSet u → MachineSet v → u ≡ v
+gathered-one p q = set-one (λ x l. p .is x l ∙ sym (q .is x l))

@@ -10,7 +10,7 @@ use lib.Pow.{pow-mono}
 use Rattle.base.specs.Base.{last}
 use Rattle.base.proofs.Tests.{split}
 use Rattle.base.proofs.Chains.{last-is}
-use Rattle.bits.specs.Bits.{testBit, rowOf, Greatest}
+use Rattle.bits.specs.Bits.{testBit, rowOf, GreatestBit}
 use Rattle.bits.proofs.Words.{testBit-zero}
 use Rattle.bits.proofs.Smallest.{row-in-low, row-in-high}
 
@@ -29,7 +29,7 @@ bit-top w j l h =
     let e : w / 2 ^ j ≡ 1 = div-eq-of-lt-le {k = 1} (2 ^ j) {m = w} (omega arith) (omega arith) in
     rw e refl
 
-pub greatest-word : (w : ℕ) → 0 < w → w < 2 ^ 64 → Greatest (testBit w) 64 (63 - leadingZeros 64 w)
+pub greatest-word : (w : ℕ) → 0 < w → w < 2 ^ 64 → GreatestBit (testBit w) 64 (63 - leadingZeros 64 w)
 greatest-word w p h =
     let t = leading-top 64 w p h in
     let e : 63 - leadingZeros 64 w ≡ t .0 = omega (arith, t .1) in
@@ -46,7 +46,7 @@ zeros-less w p h = let t = leading-top 64 w p h in omega (arith, t .1)
 -- ── of two words ──
 
 module _ (lo hi : ℕ) where
-  pub greatest-high : {r : ℕ} → Greatest (testBit hi) 64 r → 64 + r ≡ last (rowOf lo hi) 128
+  pub greatest-high : {r : ℕ} → GreatestBit (testBit hi) 64 r → 64 + r ≡ last (rowOf lo hi) 128
   greatest-high {r} g =
       sym
       (last-is (rowOf lo hi) 128 (64 + r)
@@ -54,7 +54,7 @@ module _ (lo hi : ℕ) where
       (λ i a b. row-in-high lo hi i (omega arith) b ∙ g .none (i - 64) (omega arith) (omega arith)))
 
   -- where the high word is 0
-  pub greatest-low : {r : ℕ} → hi ≡ 0 → Greatest (testBit lo) 64 r → r ≡ last (rowOf lo hi) 128
+  pub greatest-low : {r : ℕ} → hi ≡ 0 → GreatestBit (testBit lo) 64 r → r ≡ last (rowOf lo hi) 128
   greatest-low {r} z g =
       sym
       (last-is (rowOf lo hi) 128 r (λ p. (row-in-low lo hi r (g .few) ∙ g .hit, omega (arith, g .few)))

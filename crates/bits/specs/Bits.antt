@@ -84,7 +84,7 @@ pub record Least (p : ℕ → Bool) (a e r : ℕ) : Type 0 where
   pub none : (i : ℕ) → a ≤ i → i < r → i < e → p i ≡ false
 
 -- r is the greatest number below n that passes p, and there is one
-pub record Greatest (p : ℕ → Bool) (n r : ℕ) : Type 0 where
+pub record GreatestBit (p : ℕ → Bool) (n r : ℕ) : Type 0 where
   pub few : r < n
   pub hit : p r ≡ true
   pub none : (i : ℕ) → r < i → i < n → p i ≡ false

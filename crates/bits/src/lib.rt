@@ -4,7 +4,7 @@ ghost use Prim.Native.Nat.{_≤_, _<_};
 ghost use lib.ListN.{length};
 ghost use Rattle.base.specs.Base.{last};
 ghost use Rattle.theory.specs.Leads.{via};
-ghost use Rattle.bits.specs.Bits.{testBit, Minus, bitOf, Holds, Under, nothing, either, plusBit, minusBit, plusSelves, minusSelves, plusRow, rowOf, whereLed, onceMore, Least, Greatest, Alone};
+ghost use Rattle.bits.specs.Bits.{testBit, Minus, bitOf, Holds, Under, nothing, either, plusBit, minusBit, plusSelves, minusSelves, plusRow, rowOf, whereLed, onceMore, Least, GreatestBit, Alone};
 
 // The word m without the bits of p.
 pub fn without(m: u64, p: u64) -> u64
@@ -177,7 +177,7 @@ pub fn least_of(lo: u64, hi: u64, from: usize) -> usize
 // The greatest bit of w, which has one.
 fn greatest(w: u64) -> usize
     requires { ⌜ 0 < w ⌝ }
-    ensures { λ r. ⌜ Greatest (testBit w) 64 r ⌝ }
+    ensures { λ r. ⌜ GreatestBit (testBit w) 64 r ⌝ }
 {
     63 - u64::leading_zeros(w) as usize
 }

@@ -31,15 +31,15 @@ use Rattle.vectors_rules.proofs.History.{basic-forces}
 use Rattle.columns.specs.Columns.{columnAt, Numbered, saysColumn, widthOf}
 use Rattle.columns.proofs.Columns.{column-below, width-few}
 use Rattle.columns.proofs.Filling.{width-is}
-use Rattle.vectors.specs.Vectors.{cell, pairOf, columnOf, Zeros, Given}
-use Rattle.causal.specs.Causal.{Parties, entryAt, HoldsVectors}
+use Rattle.vectors.specs.Vectors.{slot, pairOf, columnOf, Zeros, VectorsGiven}
+use Rattle.causal.specs.Causal.{Parties, columnEntry, HoldsVectors}
 
 -- what comes fresh has no byte set
 pub fresh : Blank (replicate 128 0)
 fresh = record { room = length-replicate {A = ℕ} 128 0; is = λ b l. getD-replicate 128 b 0 0 l }
 
 pub fresh-vectors : Zeros (replicate 16384 0)
-unfolding cell
+unfolding slot
 fresh-vectors = record { room = length-replicate {A = ℕ} 16384 0; is = λ t s l k. getD-replicate 16384 (128 * t + s) 0 0 (omega arith) }
 
 -- ── the table's pairs are the history's ──
@@ -100,7 +100,7 @@ module _ {h p : List ℕ} {m : Words} {n : ℕ} (w : Parties h p m n) where
     column-is a l = d .is a l
 
     module _ {r width : ℕ} (e : r ≡ txCount (historyOf h)) (k : width ≡ widthOf (historyOf h)) where
-      pub given : Given s (r + 1) m n c width x
+      pub given : VectorsGiven s (r + 1) m n c width x
       given =
           rw (e, k)
           (record {
@@ -145,14 +145,14 @@ module _ {h p : List ℕ} {m : Words} {n : ℕ} (w : Parties h p m n) where
 
       -- the entries are the history's: there is one greatest
       pub held-vectors : {u : List ℕ}
-          → ((t q : ℕ) → t < 128 → q < 128 → cell u t q ≡ withOwn (inWords m) (columnOf c) (latest (r + 1) (columnOf c) (pairOf s)) t q)
+          → ((t q : ℕ) → t < 128 → q < 128 → slot u t q ≡ withOwn (inWords m) (columnOf c) (latest (r + 1) (columnOf c) (pairOf s)) t q)
           → HoldsVectors (historyOf h) u
-      unfolding entryAt
+      unfolding columnEntry
       held-vectors {u} is =
           record {
             is =
                 λ t q l y.
-                own-one (basic-forces (historyOf h)) t q (cell u t q)
+                own-one (basic-forces (historyOf h)) t q (slot u t q)
                 (let g = own-is {ses = columnOf c} table-forces t q in
                 let v = rw e at (is t q l y) in
                 rw v (greatest-same (λ a _ z. known-as t q a l z) (λ a _ z. as-known t q a l z) g));

@@ -25,9 +25,9 @@ use Rattle.vectors_rules.proofs.History.{basic-forces}
 use Rattle.order.specs.declared.Words.{Words}
 use Rattle.columns.specs.Columns.{columnAt, Numbered, widthOf}
 use Rattle.columns.proofs.Columns.{column-from, column-below, columns-basic, width-few}
-use Rattle.vectors.specs.Vectors.{Zeros, Outcome, Small, named}
+use Rattle.vectors.specs.Vectors.{Zeros, VectorsMade, Small, named}
 use Rattle.vectors.proofs.Named.{own-small, named-tells}
-use Rattle.causal.specs.Causal.{Parties, entryAt, Known, leftIn}
+use Rattle.causal.specs.Causal.{Parties, columnEntry, Known, leftIn}
 use Rattle.causal.proofs.Given.{cycle-is, held-vectors}
 
 -- columns are as good as sessions
@@ -60,13 +60,13 @@ module _ {h : History} {s x : List ℕ} {r : ℕ} (few : size h ≤ 128) (w : Kn
   vectors-wide = omega (arith, few, is-wide, width-few h)
 
   pub vectors-small : (t : ℕ) → t < size h → Small x t
-  unfolding entryAt
+  unfolding columnEntry
   vectors-small t y =
       record { is = λ c z. rw (w .vectors l .is t c (omega (arith, few)) z) (own-small (columnAt h) (basic-forces h) few t c (omega (arith, few))) }
 
   -- the rows that t's vector names have, of all others than t, what leads to t
   pub vectors-say : (t a : ℕ) → t < size h → a < 128 → (a ≡ t → ⊥) → some 1 r (named s x t a) ≡ leads h a t
-  unfolding leads entryAt basicCycle plusSelves before
+  unfolding leads columnEntry basicCycle plusSelves before
   vectors-say t a y z n =
       named-tells (column-basics h) (cyclic-no (basic-forces h) (used-none w l))
       (λ b v c. (column-from h b v c, omega (arith, is-wide, column-below h b)))
@@ -97,7 +97,7 @@ left-in {h} {r = r} w =
 -- ── what is known ──
 
 module _ {h p : List ℕ} {m : Words} {n : ℕ} (w : Parties h p m n) {s c x : List ℕ} (b : Holds s (before (basic (historyOf h)))) (d : Numbered (historyOf h) c)
-    (z : Zeros x) {r width : ℕ} (e : r ≡ txCount (historyOf h)) (k : width ≡ widthOf (historyOf h)) {u : List ℕ} {q : Bool} (o : Outcome s (r + 1) m c x u q) where
+    (z : Zeros x) {r width : ℕ} (e : r ≡ txCount (historyOf h)) (k : width ≡ widthOf (historyOf h)) {u : List ℕ} {q : Bool} (o : VectorsMade s (r + 1) m c x u q) where
   -- "when basic pairs form no cycle"
   pub known-vectors : q ≡ true → {t : List ℕ} → Holds t (plusSelves (r + 1) (bitOf s)) → Known (historyOf h) t u width × (width ≡ 0 → u ≡ x)
   unfolding plusSelves

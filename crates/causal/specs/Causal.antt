@@ -14,7 +14,7 @@ use Rattle.order.specs.Sets.{Gathered}
 use Rattle.vectors_rules.specs.Latest.{latest, withOwn}
 use Rattle.vectors_rules.specs.Vectors.{basicCycle}
 use Rattle.columns.specs.Columns.{columnAt, widthOf}
-use Rattle.vectors.specs.Vectors.{cell}
+use Rattle.vectors.specs.Vectors.{slot}
 
 -- the history's table h, the prior transaction of each, p, the set m of those that count as committed, and their number n
 pub record Parties (h p : List ℕ) (m : Words) (n : ℕ) : Type 0 where
@@ -24,12 +24,12 @@ pub record Parties (h p : List ℕ) (m : Words) (n : ℕ) : Type 0 where
   pub many : n ≡ count 0 (size (historyOf h)) (committed (historyOf h))
 
 -- what t's vector, with t itself in it, has at column s: a column stands for a session
-unfoldable pub entryAt : History → ℕ → ℕ → ℕ
-entryAt h = withOwn (committed h) (columnAt h) (latest (size h) (columnAt h) (basic h))
+unfoldable pub columnEntry : History → ℕ → ℕ → ℕ
+columnEntry h = withOwn (committed h) (columnAt h) (latest (size h) (columnAt h) (basic h))
 
 -- the bytes x have the vectors, row by row
 pub record HoldsVectors (h : History) (x : List ℕ) : Type 0 where
-  pub is : (t s : ℕ) → t < 128 → s < 128 → cell x t s ≡ entryAt h t s
+  pub is : (t s : ℕ) → t < 128 → s < 128 → slot x t s ≡ columnEntry h t s
 
 -- what level 3 goes by. r is the number of the vectors' columns where these are used, 0 where the table is: they are "when basic pairs form no cycle", and "with a
 -- cycle the old table is used". s has what leads to what, or else the basic pairs and in each row its own number, which the vectors x name

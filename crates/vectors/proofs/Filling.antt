@@ -6,13 +6,13 @@ use mathlib.Core.Logic.{⊎-elim}
 use native.Mathlib.Omega.{arith}
 use lib.ListN.{getD}
 use Rattle.base.proofs.Tests.{split}
-use Rattle.vectors.specs.Vectors.{Columns, Prepared, Finished, Sequence, Filled, Zeros}
+use Rattle.vectors.specs.Vectors.{Columns, RowPrepared, Finished, Sequence, AllFilled, Zeros}
 
 module _ {f c o : List ℕ} {k : ℕ} (w : Sequence f o k) where
-  pub filled-start : {v : List ℕ} → Zeros v → Filled f c o 0 v
+  pub filled-start : {v : List ℕ} → Zeros v → AllFilled f c o 0 v
   filled-start z = record { room = z .room; done = λ j l. absurd (omega arith); left = λ x s hx hs d. z .is x s hx hs }
 
-  pub filled-turn : {v : List ℕ} {width : ℕ} (i : ℕ) → i < k → Columns c width → Filled f c o i v → Prepared f c (getD o i 0) width v
+  pub filled-turn : {v : List ℕ} {width : ℕ} (i : ℕ) → i < k → Columns c width → AllFilled f c o i v → RowPrepared f c (getD o i 0) width v
   filled-turn i l col g =
       record {
         room = g .room;
@@ -26,7 +26,7 @@ module _ {f c o : List ℕ} {k : ℕ} (w : Sequence f o k) where
             (λ e. w .once (r .0) i (r .1) l (r .2 ∙ e), rw (r .2) at (g .done (r .0) (r .1)));
       }
 
-  pub filled-step : {v u : List ℕ} (i : ℕ) → i < k → Filled f c o i v → Finished f c (getD o i 0) v u → Filled f c o (i + 1) u
+  pub filled-step : {v u : List ℕ} (i : ℕ) → i < k → AllFilled f c o i v → Finished f c (getD o i 0) v u → AllFilled f c o (i + 1) u
   filled-step {v} {u} i l g h =
       record {
         room = h .room;

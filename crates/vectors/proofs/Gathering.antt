@@ -17,18 +17,18 @@ use Rattle.bits.proofs.Tables.{row-own}
 use Rattle.bits.proofs.Alone.{row-alone, row-minus}
 use Rattle.vectors_rules.specs.Latest.{greater}
 use Rattle.vectors_rules.proofs.Greatest.{greater-left, greater-right}
-use Rattle.vectors.specs.Vectors.{cell, Changed, Narrow, mergedRow, Sources, From, Taken, Gathered}
+use Rattle.vectors.specs.Vectors.{slot, Changed, NarrowRow, mergedRow, Sources, From, RowTaken, RowGathered}
 use Rattle.vectors.proofs.Joining.{row-or}
 
 -- ── what is left to take ──
 
 -- lo' and hi' are lo and hi without what stands before p, and without p
-pub record Dropped (f : List ℕ) (p lo hi lo' hi' : ℕ) : Type 0 where
+pub record Lost (f : List ℕ) (p lo hi lo' hi' : ℕ) : Type 0 where
   pub is : (x : ℕ) → x < 128 → rowOf lo' hi' x ≡ rowOf lo hi x and not (bitOf f p x or eqb p x)
 
 module _ {f : List ℕ} {p lo hi lo' hi' : ℕ} where
   pub dropped : {a b : ℕ} → Alone p 0 a → Alone p 1 b → Minus lo (bitOr (getD f (2 * p) 0) a) lo' → Minus hi (bitOr (getD f (2 * p + 1) 0) b) hi'
-      → Dropped f p lo hi lo' hi'
+      → Lost f p lo hi lo' hi'
   dropped {a} {b} ha hb ml mh =
       record {
         is =
@@ -36,7 +36,7 @@ module _ {f : List ℕ} {p lo hi lo' hi' : ℕ} where
             row-minus ml mh x l ∙ rw (row-or (getD f (2 * p) 0) (getD f (2 * p + 1) 0) a b x l, row-own f p x l, row-alone ha hb x l);
       }
 
-  module _ (d : Dropped f p lo hi lo' hi') (x : ℕ) (l : x < 128) where
+  module _ (d : Lost f p lo hi lo' hi') (x : ℕ) (l : x < 128) where
     -- what is left was there
     dropped-within : rowOf lo' hi' x ≡ true → rowOf lo hi x ≡ true
     dropped-within e = and-left _ _ (sym (d .is x l) ∙ e)
@@ -48,7 +48,7 @@ module _ {f : List ℕ} {p lo hi lo' hi' : ℕ} where
         (λ t. inl (d .is x l ∙ both _ _ e (ap not t)))
 
   -- p was the greatest: what is left is below
-  dropped-less : {r : ℕ} → Dropped f p lo hi lo' hi' → p ≡ last (rowOf lo hi) 128 → 0 < p → r ≡ last (rowOf lo' hi') 128 → r < p
+  dropped-less : {r : ℕ} → Lost f p lo hi lo' hi' → p ≡ last (rowOf lo hi) 128 → 0 < p → r ≡ last (rowOf lo' hi') 128 → r < p
   dropped-less {r} d e h i =
       ⊎-elim
       (λ z.
@@ -72,9 +72,9 @@ pub record Gathering (f : List ℕ) (t : ℕ) (v : List ℕ) (lo hi p : ℕ) (u 
   pub few : p < 128
   pub room : length u ≡ 16384
   pub within : (x : ℕ) → x < 128 → rowOf lo hi x ≡ true → bitOf f t x ≡ true
-  pub has : (s : ℕ) → s < 128 → 0 < cell u t s → From f v t s (cell u t s)
-  pub most : (x : ℕ) → 0 < x → x < 128 → bitOf f t x ≡ true → (rowOf lo hi x ≡ true) ⊎ Taken f v t u x
-  pub others : (x s : ℕ) → x < 128 → s < 128 → (x ≡ t → ⊥) → cell u x s ≡ cell v x s
+  pub has : (s : ℕ) → s < 128 → 0 < slot u t s → From f v t s (slot u t s)
+  pub most : (x : ℕ) → 0 < x → x < 128 → bitOf f t x ≡ true → (rowOf lo hi x ≡ true) ⊎ RowTaken f v t u x
+  pub others : (x s : ℕ) → x < 128 → s < 128 → (x ≡ t → ⊥) → slot u x s ≡ slot v x s
 
 module _ {f : List ℕ} {t width : ℕ} {v : List ℕ} (w : Sources f t width v) where
   pub gathering-start : {p : ℕ} → (p ≡ last (rowOf (getD f (2 * t) 0) (getD f (2 * t + 1) 0)) 128) × (p < 128)
@@ -92,7 +92,7 @@ module _ {f : List ℕ} {t width : ℕ} {v : List ℕ} (w : Sources f t width v)
 
   module _ {lo hi p : ℕ} {u : List ℕ} (g : Gathering f t v lo hi p u) where
     module _ (h : 0 < p) where
-      before : (bitOf f t p ≡ true) × (p ≡ t → ⊥) × Narrow v p width
+      before : (bitOf f t p ≡ true) × (p ≡ t → ⊥) × NarrowRow v p width
       before =
           let e = g .top in
           let r : rowOf lo hi p ≡ true = rw e (last-passes (rowOf lo hi) 128 (omega arith) .0) in
@@ -100,43 +100,43 @@ module _ {f : List ℕ} {t width : ℕ} {v : List ℕ} (w : Sources f t width v)
           let q = w .before p (g .few) b in
           (b, q .0, q .1)
 
-      same : (s : ℕ) → s < 128 → cell u p s ≡ cell v p s
+      same : (s : ℕ) → s < 128 → slot u p s ≡ slot v p s
       same s l = g .others p s (g .few) l (before .1)
 
       -- row p can be merged
-      pub gathering-turn : Narrow u p width
+      pub gathering-turn : NarrowRow u p width
       gathering-turn = record { is = λ s l m. same s m ∙ before .2 .is s l m }
 
       -- the greatest that is left then is below p
-      pub gathering-less : {lo' hi' p' : ℕ} → Dropped f p lo hi lo' hi' → p' ≡ last (rowOf lo' hi') 128 → p' < p
+      pub gathering-less : {lo' hi' p' : ℕ} → Lost f p lo hi lo' hi' → p' ≡ last (rowOf lo' hi') 128 → p' < p
       gathering-less d e = dropped-less d (g .top) h e
 
-      module _ {lo' hi' p' : ℕ} {z : List ℕ} (c : Changed u t (mergedRow u t p) z) (d : Dropped f p lo hi lo' hi') (e : (p' ≡ last (rowOf lo' hi') 128) × (p' < 128)) where
-        value : (s : ℕ) → s < 128 → cell z t s ≡ greater (cell u t s) (cell v p s)
+      module _ {lo' hi' p' : ℕ} {z : List ℕ} (c : Changed u t (mergedRow u t p) z) (d : Lost f p lo hi lo' hi') (e : (p' ≡ last (rowOf lo' hi') 128) × (p' < 128)) where
+        value : (s : ℕ) → s < 128 → slot z t s ≡ greater (slot u t s) (slot v p s)
         unfolding mergedRow
-        value s l = c .row s l ∙ ap (greater (cell u t s)) (same s l)
+        value s l = c .row s l ∙ ap (greater (slot u t s)) (same s l)
 
         -- each entry is the old one or that of row p
-        at-least : (s : ℕ) → s < 128 → (cell u t s ≤ cell z t s) × (cell v p s ≤ cell z t s)
+        at-least : (s : ℕ) → s < 128 → (slot u t s ≤ slot z t s) × (slot v p s ≤ slot z t s)
         at-least s l =
             let q = value s l in
-            ⊎-elim (λ m. let k = greater-right (cell u t s) (cell v p s) (omega arith) in (omega arith, omega arith))
-            (λ m. let k = greater-left (cell u t s) (cell v p s) m in (omega arith, omega arith)) (split (cell u t s) (cell v p s))
+            ⊎-elim (λ m. let k = greater-right (slot u t s) (slot v p s) (omega arith) in (omega arith, omega arith))
+            (λ m. let k = greater-left (slot u t s) (slot v p s) m in (omega arith, omega arith)) (split (slot u t s) (slot v p s))
 
-        entries : (s : ℕ) → s < 128 → 0 < cell z t s → From f v t s (cell z t s)
+        entries : (s : ℕ) → s < 128 → 0 < slot z t s → From f v t s (slot z t s)
         entries s l n =
             let q = value s l in
             ⊎-elim
             (λ m.
-            let k = greater-right (cell u t s) (cell v p s) (omega arith) in
+            let k = greater-right (slot u t s) (slot v p s) (omega arith) in
             record { by = p; few = g .few; pair = before .0; is = q ∙ k })
             (λ m.
-            let k = greater-left (cell u t s) (cell v p s) m in
+            let k = greater-left (slot u t s) (slot v p s) m in
             let r = g .has s l (omega arith) in
             record { by = r .by; few = r .few; pair = r .pair; is = q ∙ k ∙ r .is })
-            (split (cell u t s) (cell v p s))
+            (split (slot u t s) (slot v p s))
 
-        taken-more : (x : ℕ) → Taken f v t u x → Taken f v t z x
+        taken-more : (x : ℕ) → RowTaken f v t u x → RowTaken f v t z x
         taken-more x r =
             record { by = r .by; few = r .few; pair = r .pair; is = r .is; most = λ s l. omega (arith, r .most s l, at-least s l .0) }
 
@@ -160,7 +160,7 @@ module _ {f : List ℕ} {t width : ℕ} {v : List ℕ} (w : Sources f t width v)
             }
 
     -- none is left besides 0
-    pub gathering-end : p ≤ 0 → Gathered f t v u
+    pub gathering-end : p ≤ 0 → RowGathered f t v u
     gathering-end l =
         record {
           room = g .room;

@@ -15,7 +15,7 @@ use Rattle.bits.specs.Bits.{rowOf}
 use Rattle.bits.proofs.Words.{testBit-zero, testBit-or}
 use Rattle.bits.proofs.Tables.{row-low, row-high, row-own}
 use Rattle.order.specs.Sets.{words}
-use Rattle.vectors.specs.Vectors.{cell, Small, named, Joined}
+use Rattle.vectors.specs.Vectors.{slot, Small, named, Joined}
 
 -- two words without bits; the bits of either of two rows
 pub row-zero : (y : ℕ) → y < 128 → rowOf 0 0 y ≡ false
@@ -33,7 +33,7 @@ top-more q a j h =
 
 -- an entry as it is read
 pub entry-small : {v : List ℕ} {t : ℕ} (s : ℕ) → s < 128 → Small v t → getD v (128 * t + s) 0 < 128
-unfolding cell
+unfolding slot
 entry-small s l h = h .is s l
 
 -- a loop that has come to column s
@@ -49,7 +49,7 @@ module _ {f v : List ℕ} {t width : ℕ} where
 
   pub joining-step : {s lo hi : ℕ} → s < width → Joining f v t width s lo hi
       → let x = getD v (128 * t + s) 0 in Joining f v t width (s + 1) (bitOr lo (getD f (2 * x) 0)) (bitOr hi (getD f (2 * x + 1) 0))
-  unfolding named cell
+  unfolding named slot
   joining-step {s} {lo} {hi} l g =
       record {
         from = omega arith;

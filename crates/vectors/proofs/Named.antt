@@ -17,7 +17,7 @@ use Rattle.bits.specs.Bits.{bitOf, isSelf}
 use Rattle.vectors_rules.specs.Latest.{Basics, KnowsOrIs, latest, withOwn}
 use Rattle.vectors_rules.proofs.Latest.{leads-first, leads-second}
 use Rattle.vectors_rules.proofs.Own.{own-is}
-use Rattle.vectors.specs.Vectors.{cell, named}
+use Rattle.vectors.specs.Vectors.{slot, named}
 
 -- y stands before x, or is x, from 1 to before n
 abbrev pub selfOrBefore : ℕ → (ℕ → ℕ → Bool) → ℕ → ℕ → Bool
@@ -118,7 +118,7 @@ module _ {n : ℕ} {m : ℕ → Bool} {ses : ℕ → ℕ} {f : ℕ → ℕ → B
   -- the rows that t's vector names, each with its own number, have what leads to t, of all others than t
   pub named-tells : (s v : List ℕ) (t y : ℕ) → t < n → n ≤ 128 → y < 128 → (y ≡ t → ⊥)
       → ((x z : ℕ) → x < 128 → z < 128 → bitOf s x z ≡ selfOrBefore n f x z)
-      → ((k : ℕ) → k < 128 → cell v t k ≡ withOwn m ses (latest n ses f) t k)
+      → ((k : ℕ) → k < 128 → slot v t k ≡ withOwn m ses (latest n ses f) t k)
       → some 1 width (named s v t y) ≡ via f n y t
   unfolding named
   named-tells s v t y lt few ly d selves vector =
@@ -131,5 +131,5 @@ module _ {n : ℕ} {m : ℕ → Bool} {ses : ℕ → ℕ} {f : ℕ → ℕ → B
       some-of (named s v t y) width 1 (r .at) (r .from) (r .to) (bit (r .at) (omega (arith, r .to, wide)) ∙ r .is))
     where
       -- the bit of a row that is named
-      bit : (k : ℕ) → k < 128 → bitOf s (cell v t k) y ≡ selfOrBefore n f (entry t k) y
+      bit : (k : ℕ) → k < 128 → bitOf s (slot v t k) y ≡ selfOrBefore n f (entry t k) y
       bit k l = ap (λ (x : ℕ). bitOf s x y) (vector k l) ∙ selves (entry t k) y (own-small ses (b .forces) few t k (omega arith)) ly

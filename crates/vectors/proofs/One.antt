@@ -10,11 +10,11 @@ use Rattle.base.proofs.Tests.{ifso}
 use Rattle.bits.proofs.One.{row-one}
 use Rattle.order.specs.declared.Words.{Words}
 use Rattle.order.proofs.One.{MachineSet}
-use Rattle.vectors.specs.Vectors.{cell, Outcome, Joined}
+use Rattle.vectors.specs.Vectors.{slot, VectorsMade, Joined}
 
 -- the cells are all bytes
-pub cells-one : {u v : List ℕ} → length u ≡ 16384 → length v ≡ 16384 → ((t s : ℕ) → t < 128 → s < 128 → cell u t s ≡ cell v t s) → u ≡ v
-unfolding cell
+pub cells-one : {u v : List ℕ} → length u ≡ 16384 → length v ≡ 16384 → ((t s : ℕ) → t < 128 → s < 128 → slot u t s ≡ slot v t s) → u ≡ v
+unfolding slot
 cells-one {u} {v} a b e =
     ext-getD 0 u v (a ∙ sym b)
     (λ i l.
@@ -22,7 +22,7 @@ cells-one {u} {v} a b e =
     ap (λ (n : ℕ). getD u n 0) (sym z) ∙ e (i / 128) (i % 128) (omega (arith, a)) (omega arith) ∙ ap (λ (n : ℕ). getD v n 0) z)
 
 -- of `fill_vectors`: the answer, and every byte
-pub outcome-one : {f c v u x : List ℕ} {n : ℕ} {w : Words} {r q : Bool} → Outcome f n w c v u r → Outcome f n w c v x q → length u ≡ 16384 → length x ≡ 16384
+pub outcome-one : {f c v u x : List ℕ} {n : ℕ} {w : Words} {r q : Bool} → VectorsMade f n w c v u r → VectorsMade f n w c v x q → length u ≡ 16384 → length x ≡ 16384
     → (r ≡ q) × (u ≡ x)
 outcome-one {r = r} o p a b =
     let e = o .is ∙ sym (p .is) in (

@@ -22,10 +22,10 @@ use Rattle.vectors_rules.proofs.Greatest.{greatest-same, greatest-none}
 use Rattle.vectors_rules.proofs.Latest.{leads-second}
 use Rattle.vectors_rules.proofs.Own.{own-one}
 use Rattle.vectors_rules.proofs.Cycles.{cyclic-no, no-cyclic}
-use Rattle.vectors.specs.Vectors.{cell, pairOf, columnOf, anyone, Sequence, Filled, Given, Outcome}
+use Rattle.vectors.specs.Vectors.{slot, pairOf, columnOf, anyone, Sequence, AllFilled, VectorsGiven, VectorsMade}
 use Rattle.vectors.proofs.Taking.{pair-of}
 
-module _ {f : List ℕ} {n : ℕ} {w : Words} {m : ℕ} {c : List ℕ} {width : ℕ} {v : List ℕ} (g : Given f n w m c width v) where
+module _ {f : List ℕ} {n : ℕ} {w : Words} {m : ℕ} {c : List ℕ} {width : ℕ} {v : List ℕ} (g : VectorsGiven f n w m c width v) where
   -- the order by the pairs of the table
   abbrev order : List ℕ
   order = rest n (inWords w) (pairOf f) []
@@ -47,7 +47,7 @@ module _ {f : List ℕ} {n : ℕ} {w : Words} {m : ℕ} {c : List ℕ} {width : 
         ∙ List·getD-append order (drop k o₀) 0 i (omega (arith, long))
 
     -- not all are placed: some member leads to itself
-    pub stuck : (k ≡ m → ⊥) → Outcome f n w c v v false
+    pub stuck : (k ≡ m → ⊥) → VectorsMade f n w c v v false
     stuck d =
         record {
           is =
@@ -86,9 +86,9 @@ module _ {f : List ℕ} {n : ℕ} {w : Words} {m : ℕ} {c : List ℕ} {width : 
             start = λ q hq. is-false _ (λ b. omega (arith, l .first, l .before q 0 (pair-of f q 0 hq (omega arith) ∙ b)));
           }
 
-      module _ {u : List ℕ} (h : Filled f c o k u) where
+      module _ {u : List ℕ} (h : AllFilled f c o k u) where
         -- the vector of a member, and of any other, which nothing leads to
-        vector : (t s : ℕ) → t < 128 → s < 128 → Greatest (KnowsOrIs (inWords w) (columnOf c) (pairOf f) t s) (cell u t s)
+        vector : (t s : ℕ) → t < 128 → s < 128 → Greatest (KnowsOrIs (inWords w) (columnOf c) (pairOf f) t s) (slot u t s)
         unfolding anyone
         vector t s ht hs =
             ⊎-elim
@@ -103,10 +103,10 @@ module _ {f : List ℕ} {n : ℕ} {w : Words} {m : ℕ} {c : List ℕ} {width : 
             (greatest-none (λ a z q. ⊎-elim (λ q. clash (leads-second (g .forces) (q .way) .1) b) (λ q. clash (q .member) b) q)))
             (known (inWords w t))
 
-        pub placed : Outcome f n w c v u true
+        pub placed : VectorsMade f n w c v u true
         placed =
             record {
               is = ap not (sym (no-cyclic (g .forces) free));
-              vectors = λ _ t s ht hs. own-one (g .forces) t s (cell u t s) (vector t s ht hs);
+              vectors = λ _ t s ht hs. own-one (g .forces) t s (slot u t s) (vector t s ht hs);
               kept = λ e. absurd (clash refl e);
             }

@@ -11,11 +11,11 @@ use Rattle.base.proofs.Tests.{split, clash, both, and-left, and-right, and-on}
 use Rattle.theory.specs.Leads.{Leads, step, then}
 use Rattle.theory.proofs.Leads.{leads-on}
 use Rattle.bits.specs.Bits.{bitOf}
-use Rattle.vectors_rules.specs.Latest.{Greatest, Knows, KnowsOrIs}
+use Rattle.vectors_rules.specs.Latest.{Greatest, KnowsOf, KnowsOrIs}
 use Rattle.vectors_rules.proofs.Greatest.{greatest-either}
 use Rattle.vectors_rules.proofs.Latest.{leads-last}
 use Rattle.vectors_rules.proofs.Own.{own-alone}
-use Rattle.vectors.specs.Vectors.{cell, pairOf, columnOf, Columns, Changed, Narrow, notedRow, Sources, Gathered, anyone, HasVector, Prepared, Finished}
+use Rattle.vectors.specs.Vectors.{slot, pairOf, columnOf, Columns, Changed, NarrowRow, notedRow, Sources, RowGathered, anyone, HasVector, RowPrepared, Finished}
 
 -- ── pairs of the table ──
 
@@ -39,22 +39,22 @@ leads-none f {a} {b} none p =
     ⊎-elim (λ e. let i = pair-in f a b e in none a (i .0) (i .2)) (λ r. let i = pair-in f (r .0) b (r .2) in none (r .0) (i .0) (i .2)) (leads-last p)
 
 -- what p knows, or is, is known to q, which p stands before
-handed : {m : ℕ → Bool} {ses : ℕ → ℕ} {f : ℕ → ℕ → Bool} {p q s a : ℕ} → f p q ≡ true → KnowsOrIs m ses f p s a → Knows ses f q s a
+handed : {m : ℕ → Bool} {ses : ℕ → ℕ} {f : ℕ → ℕ → Bool} {p q s a : ℕ} → f p q ≡ true → KnowsOrIs m ses f p s a → KnowsOf ses f q s a
 handed b (inl k) = record { of = k .of; way = leads-on (k .way) (step b) }
 handed b (inr o) = let e = o .is in record { of = rw e (o .of); way = rw e (step b) }
 
 -- ── one row ──
 
 -- a vector has nothing beyond the columns
-vector-narrow : {f c v : List ℕ} {width q : ℕ} → Columns c width → q < 128 → HasVector f c v q → Narrow v q width
+vector-narrow : {f c v : List ℕ} {width q : ℕ} → Columns c width → q < 128 → HasVector f c v q → NarrowRow v q width
 vector-narrow {f} {c} {v} {width} {q} w l h =
-    record { is = λ s m n. ⊎-elim (λ z. let k = of (h .is s n .has z) in absurd (omega arith)) (λ z. omega arith) (split 0 (cell v q s)) }
+    record { is = λ s m n. ⊎-elim (λ z. let k = of (h .is s n .has z) in absurd (omega arith)) (λ z. omega arith) (split 0 (slot v q s)) }
   where
     of : {x s : ℕ} → KnowsOrIs anyone (columnOf c) (pairOf f) q s x → s < width
     of (inl k) = let e = k .of in omega (arith, w .few _ (leads-small f (k .way)))
     of (inr o) = let e = o .of in omega (arith, w .few q l)
 
-module _ {f c : List ℕ} {t width : ℕ} {v : List ℕ} (w : Prepared f c t width v) where
+module _ {f c : List ℕ} {t width : ℕ} {v : List ℕ} (w : RowPrepared f c t width v) where
   pub sources : Sources f t width v
   sources =
       record {
@@ -65,9 +65,9 @@ module _ {f c : List ℕ} {t width : ℕ} {v : List ℕ} (w : Prepared f c t wid
         before = λ q l b. let r = w .before q l b in (r .0, vector-narrow (w .columns) l (r .1));
       }
 
-  module _ {u : List ℕ} (g : Gathered f t v u) where
+  module _ {u : List ℕ} (g : RowGathered f t v u) where
     -- what p, which stands before t, knows, or is, is at most t's entry, by the row that was taken for p
-    held : {p s a : ℕ} → 0 < p → pairOf f p t ≡ true → s < 128 → 0 < a → KnowsOrIs anyone (columnOf c) (pairOf f) p s a → a ≤ cell u t s
+    held : {p s a : ℕ} → 0 < p → pairOf f p t ≡ true → s < 128 → 0 < a → KnowsOrIs anyone (columnOf c) (pairOf f) p s a → a ≤ slot u t s
     held {p} {s} {a} h e l z k =
         let i = pair-in f p t e in
         let r = g .most p h (i .0) (i .2) in
@@ -78,7 +78,7 @@ module _ {f c : List ℕ} {t width : ℕ} {v : List ℕ} (w : Prepared f c t wid
               (⊎-elim (λ q. rw (← q) k) (λ b. inl (handed (pair-of f p (r .by) (i .0) (r .few) ∙ b) k)) (r .is)),
         )
 
-    gathered-is : (s : ℕ) → s < 128 → Greatest (Knows (columnOf c) (pairOf f) t s) (cell u t s)
+    gathered-is : (s : ℕ) → s < 128 → Greatest (KnowsOf (columnOf c) (pairOf f) t s) (slot u t s)
     unfolding anyone
     gathered-is s l =
         record {

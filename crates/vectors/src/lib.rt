@@ -4,7 +4,7 @@ ghost use Prim.Native.Nat.{_<_, _≤_};
 ghost use lib.ListN.{length};
 ghost use Rattle.order.specs.declared.Words.{Words};
 ghost use Rattle.vectors_rules.specs.Latest.{greater};
-ghost use Rattle.vectors.specs.Vectors.{Columns, Changed, Narrow, mergedBlock, mergedRow, notedRow, Sources, Gathered, Prepared, Finished, Sequence, Filled, Zeros, Given, Outcome, Small, Joined};
+ghost use Rattle.vectors.specs.Vectors.{Columns, Changed, NarrowRow, mergedBlock, mergedRow, notedRow, Sources, RowGathered, RowPrepared, Finished, Sequence, AllFilled, Zeros, VectorsGiven, VectorsMade, Small, Joined};
 use order::Words;
 
 // ── one row ──
@@ -32,7 +32,7 @@ fn merge_block(v: &mut [u8; 16384], t: usize, p: usize, j: usize)
 
 // Row t gets what row p knows, which has nothing from column `width` on.
 fn merge_row(v: &mut [u8; 16384], t: usize, p: usize, width: usize)
-    requires { ⌜ (length (now v) ≡ 16384) × (t < 128) × (p < 128) × (width ≤ 128) × Narrow (now v) p width ⌝ }
+    requires { ⌜ (length (now v) ≡ 16384) × (t < 128) × (p < 128) × (width ≤ 128) × NarrowRow (now v) p width ⌝ }
     ensures { λ r. ⌜ Changed (now (v .entry)) t (mergedRow (now (v .entry)) t p) (now (v .exit)) ⌝ }
 {
     let mut j = 0;
@@ -56,7 +56,7 @@ fn note(v: &mut [u8; 16384], t: usize, s: usize, x: usize)
 // so each source is taken once, and of a session the last alone.
 fn gather(v: &mut [u8; 16384], f: &[u64; 256], t: usize, width: usize)
     requires { ⌜ Sources (now f) t width (now v) ⌝ }
-    ensures { λ r. ⌜ Gathered (now (f .entry)) t (now (v .entry)) (now (v .exit)) ⌝ }
+    ensures { λ r. ⌜ RowGathered (now (f .entry)) t (now (v .entry)) (now (v .exit)) ⌝ }
 {
     let mut lo = f[2 * t];
     let mut hi = f[2 * t + 1];
@@ -71,7 +71,7 @@ fn gather(v: &mut [u8; 16384], f: &[u64; 256], t: usize, width: usize)
 
 // .. and itself.
 fn take_row(v: &mut [u8; 16384], f: &[u64; 256], c: &[u8; 128], t: usize, width: usize)
-    requires { ⌜ Prepared (now f) (now c) t width (now v) ⌝ }
+    requires { ⌜ RowPrepared (now f) (now c) t width (now v) ⌝ }
     ensures { λ r. ⌜ Finished (now (f .entry)) (now (c .entry)) t (now (v .entry)) (now (v .exit)) ⌝ }
 {
     gather(v, f, t, width);
@@ -83,7 +83,7 @@ fn take_row(v: &mut [u8; 16384], f: &[u64; 256], c: &[u8; 128], t: usize, width:
 // The rows of the first k of o, in this order.
 fn fill(v: &mut [u8; 16384], f: &[u64; 256], c: &[u8; 128], o: &[u8; 128], k: usize, width: usize)
     requires { ⌜ Zeros (now v) × Columns (now c) width × Sequence (now f) (now o) k ⌝ }
-    ensures { λ r. ⌜ Filled (now (f .entry)) (now (c .entry)) (now (o .entry)) k (now (v .exit)) ⌝ }
+    ensures { λ r. ⌜ AllFilled (now (f .entry)) (now (c .entry)) (now (o .entry)) k (now (v .exit)) ⌝ }
 {
     let mut i = 0;
     while i < k {
@@ -104,8 +104,8 @@ pub fn fill_vectors(
     width: usize,
     v: &mut [u8; 16384],
 ) -> bool
-    requires { ⌜ Given (now f) n w m (now c) width (now v) ⌝ }
-    ensures { λ r. ⌜ Outcome (now (f .entry)) n w (now (c .entry)) (now (v .entry)) (now (v .exit)) r ⌝ }
+    requires { ⌜ VectorsGiven (now f) n w m (now c) width (now v) ⌝ }
+    ensures { λ r. ⌜ VectorsMade (now (f .entry)) n w (now (c .entry)) (now (v .entry)) (now (v .exit)) r ⌝ }
 {
     let mut o = [0u8; 128];
     let k = order::order_all(f, n, w, &mut o);

@@ -18,7 +18,7 @@ use Rattle.demand2.specs.Axiom.{Member}
 use Rattle.demand2.proofs.Pairs.{member, in-members}
 use Rattle.demand3.specs.Forced.{Way, IsBasic}
 use Rattle.demand3.proofs.Forced.{basic-way-iff}
-use Rattle.vectors_rules.specs.Vectors.{sessionOf, vectorOf, basicCycle}
+use Rattle.vectors_rules.specs.Vectors.{sessionNo, vectorOf, basicCycle}
 use Rattle.vectors_rules.proofs.Greatest.{greatest-one}
 use Rattle.vectors_laws.specs.Vectors.{NoBasicCycle}
 use Rattle.vectors_laws.proofs.Vectors.{own-vectors-are, no-cycle-iff}
@@ -45,11 +45,11 @@ module _ {h : History} (ok : LawfulHistory h) where
 
   -- the entry that is computed is the one asked for, and no other is
   entry-is : (t a : ℕ) → EntryOf h t a (entryOf h t a)
-  unfolding entryOf sessionOf
+  unfolding entryOf sessionNo
   entry-is t a =
       record {
         of-session =
-            λ l m. rw (pick-on (ltb 0 a and committed h a) (vectorOf h t (sessionOf h a)) 0 (both _ _ (lt-ltb 0 a l) (in-members ok m))) (own-vectors-are ok .is t (sessionOf h a));
+            λ l m. rw (pick-on (ltb 0 a and committed h a) (vectorOf h t (sessionNo h a)) 0 (both _ _ (lt-ltb 0 a l) (in-members ok m))) (own-vectors-are ok .is t (sessionNo h a));
         of-none =
             λ d. pick-off (ltb 0 a and committed h a) _ _ (is-false _ (λ e. d (ltb-true 0 a (and-left _ _ e)) (member ok (and-right _ _ e))));
       }

@@ -19,7 +19,7 @@ use Rattle.bits.specs.Bits.{Least, rowOf, bitOf}
 use Rattle.pairs.specs.Pairs.{before}
 use Rattle.order.specs.declared.Words.{Words}
 use Rattle.vectors_rules.specs.Latest.{KnowsOrIs}
-use Rattle.vectors_rules.specs.Vectors.{sessionOf, latestOf, vectorOf, basicCycle}
+use Rattle.vectors_rules.specs.Vectors.{sessionNo, latestOf, vectorOf, basicCycle}
 use Rattle.vectors_rules.proofs.Greatest.{greatest-none}
 use Rattle.vectors_rules.proofs.Latest.{leads-first, leads-second}
 use Rattle.vectors_rules.proofs.Own.{own-one}
@@ -27,9 +27,9 @@ use Rattle.vectors_rules.proofs.Cycles.{cyclic-no}
 use Rattle.vectors_rules.proofs.History.{basic-forces}
 use Rattle.columns.specs.Columns.{columnAt, Numbered}
 use Rattle.columns.proofs.Columns.{column-few, column-none, column-0}
-use Rattle.vectors.specs.Vectors.{cell, Small, named, Joined}
+use Rattle.vectors.specs.Vectors.{slot, Small, named, Joined}
 use Rattle.vectors.proofs.Named.{own-small}
-use Rattle.causal.specs.Causal.{entryAt, HoldsVectors, Known}
+use Rattle.causal.specs.Causal.{columnEntry, HoldsVectors, Known}
 use Rattle.causal.proofs.Known.{used-cycle, used-none, vectors-wide, vectors-small, vectors-say}
 use Rattle.causal.proofs.Sessions.{entry-session, entry-none}
 use Rattle.vectors_calls.specs.declared.Said.the-variants as S
@@ -70,30 +70,30 @@ module _ (h : History) where
   -- ── what a vector has ──
 
   -- nothing, past the last transaction
-  past : (t q y : ℕ) → size h ≤ t → KnowsOrIs (committed h) (sessionOf h) (basic h) t q y → ⊥
+  past : (t q y : ℕ) → size h ≤ t → KnowsOrIs (committed h) (sessionNo h) (basic h) t q y → ⊥
   past t q y l (inl k) = omega (arith, leads-second (basic-forces h) (k .way) .0)
   past t q y l (inr o) = omega (arith, committed-below h t (o .member))
 
   none-past : (t q : ℕ) → size h ≤ t → vectorOf h t q ≡ 0
   unfolding vectorOf latestOf
-  none-past t q l = sym (own-one {ses = sessionOf h} (basic-forces h) t q 0 (greatest-none (λ y _ k. past t q y l k)))
+  none-past t q l = sym (own-one {ses = sessionNo h} (basic-forces h) t q 0 (greatest-none (λ y _ k. past t q y l k)))
 
   pub entry-past : {n : ℕ} (t a : ℕ) → n ≡ txCount h → n < t → 0 ≡ entryOf h t a
   unfolding entryOf
   entry-past t a e l =
-      ifso (ltb 0 a and committed h a) (λ c. sym (pick-on _ _ _ c ∙ none-past t (sessionOf h a) (omega arith))) (λ c. sym (pick-off _ _ _ c))
+      ifso (ltb 0 a and committed h a) (λ c. sym (pick-on _ _ _ c ∙ none-past t (sessionNo h a) (omega arith))) (λ c. sym (pick-off _ _ _ c))
 
   pub entry-of-past : {n : ℕ} (t a : ℕ) → n ≡ txCount h → n < a → 0 ≡ entryOf h t a
   unfolding entryOf
   entry-of-past t a e l = sym (pick-off _ _ _ (is-false _ (λ c. omega (arith, e, committed-below h a (and-right _ _ c)))))
 
   -- the column of one that does not count, or is 0, has nothing
-  column-entry : (t a : ℕ) → entryAt h t (columnAt h a) ≡ entryOf h t a
+  column-entry : (t a : ℕ) → columnEntry h t (columnAt h a) ≡ entryOf h t a
   unfolding entryOf
   column-entry t a =
       ifso (ltb 0 a and committed h a)
       (λ c. entry-session h t a (ltb-true 0 a (and-left _ _ c)) (and-right _ _ c) ∙ sym (pick-on _ _ _ c))
-      (λ c. ap (entryAt h t) (column-nil c) ∙ entry-none h t ∙ sym (pick-off _ _ _ c))
+      (λ c. ap (columnEntry h t) (column-nil c) ∙ entry-none h t ∙ sym (pick-off _ _ _ c))
     where
       column-nil : ltb 0 a and committed h a ≡ false → columnAt h a ≡ 0
       column-nil c =
@@ -144,13 +144,13 @@ module _ {g c : List ℕ} (k : Held g) (d : Numbered (historyOf g) c) {n a : ℕ
   column-fits = omega (arith, k .few, column-is, column-few (historyOf g) a)
 
   module _ {x : List ℕ} {t : ℕ} (v : HoldsVectors (historyOf g) x) (m : t ≤ n) where
-    entry-at : getD x (128 * t + getD c a 0) 0 ≡ entryAt (historyOf g) t (getD c a 0)
-    unfolding cell
+    entry-at : getD x (128 * t + getD c a 0) 0 ≡ columnEntry (historyOf g) t (getD c a 0)
+    unfolding slot
     entry-at = v .is t (getD c a 0) (omega (arith, k .few)) column-fits
 
     pub entry-fits : getD x (128 * t + getD c a 0) 0 < 128
-    unfolding entryAt
+    unfolding columnEntry
     entry-fits = rw entry-at (own-small (columnAt (historyOf g)) (basic-forces (historyOf g)) (omega (arith, k .few)) t (getD c a 0) (omega (arith, k .few)))
 
     pub entry-found : getD x (128 * t + getD c a 0) 0 ≡ entryOf (historyOf g) t a
-    entry-found = entry-at ∙ ap (entryAt (historyOf g) t) column-is ∙ column-entry (historyOf g) t a
+    entry-found = entry-at ∙ ap (columnEntry (historyOf g) t) column-is ∙ column-entry (historyOf g) t a

@@ -5,7 +5,7 @@ use Rattle.base.specs.Base.{_and_, pick}
 use Rattle.rules.specs.History.{History, committed}
 use Rattle.rules.specs.Reading.{Reading, refused, read}
 use Rattle.rules.specs.Levels.{leads}
-use Rattle.vectors_rules.specs.Vectors.{sessionOf, vectorOf, basicCycle}
+use Rattle.vectors_rules.specs.Vectors.{sessionNo, vectorOf, basicCycle}
 use Rattle.vectors_calls.specs.declared.Said.{Said}
 use Rattle.vectors_calls.specs.declared.Said.the-variants as S
 use Rattle.vectors_calls.specs.declared.Entry.{Entry}
@@ -21,7 +21,7 @@ saidRead (read h notes) a b = saidOf h a b
 
 -- t's entry for the session of a: the number, and the answer with it
 unfoldable pub entryOf : History → ℕ → ℕ → ℕ
-entryOf h t a = pick (ltb 0 a and committed h a) (vectorOf h t (sessionOf h a)) 0
+entryOf h t a = pick (ltb 0 a and committed h a) (vectorOf h t (sessionNo h a)) 0
 
 unfoldable pub toldOf : History → ℕ → ℕ → Entry
 toldOf h t a = pick (basicCycle h) E.Cycle (E.Latest (entryOf h t a))

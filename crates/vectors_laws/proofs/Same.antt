@@ -14,7 +14,7 @@ use Rattle.demand1.proofs.Lawful.{lawful-history}
 use Rattle.demand2.specs.Axiom.{Member}
 use Rattle.demand2.proofs.Pairs.{member, in-members}
 use Rattle.demand3.specs.Forced.{Way, IsBasic}
-use Rattle.vectors_rules.specs.Vectors.{sessionOf, latestOf, vectorOf, toldBy}
+use Rattle.vectors_rules.specs.Vectors.{sessionNo, latestOf, vectorOf, toldBy}
 use Rattle.vectors_rules.proofs.Greatest.{greatest-same}
 use Rattle.vectors_rules.proofs.Latest.{leads-first, entry-tells, vectors-tell}
 use Rattle.vectors_rules.proofs.Own.{sources-tell}
@@ -25,9 +25,9 @@ use Rattle.vectors_laws.proofs.Vectors.{to-way, from-way, to-known, fro
 module _ {h : History} (ok : LawfulHistory h) where
   -- a leads to b exactly if the vectors say so
   pub say-iff : {v : ℕ → ℕ → ℕ} → VectorsOf h v → (a b : ℕ) → 0 < a → Say h v a b ↔ Way (IsBasic h) a b
-  unfolding sessionOf
+  unfolding sessionNo
   say-iff x a b z =
-      let g = greatest-same (λ c _ k. from-known ok b (sessionOf h a) c k) (λ c _ k. to-known ok b (sessionOf h a) c k) (x .is b (sessionOf h a)) in (
+      let g = greatest-same (λ c _ k. from-known ok b (sessionNo h a) c k) (λ c _ k. to-known ok b (sessionNo h a) c k) (x .is b (sessionNo h a)) in (
         λ y. to-way ok (entry-tells (basics h) a b z (in-members ok (y .member)) g .0 (y .at-most)),
         λ w.
             let p = from-way ok w in

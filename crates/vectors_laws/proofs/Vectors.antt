@@ -10,8 +10,8 @@ use Rattle.demand1.specs.Lawful.{LawfulHistory}
 use Rattle.demand2.proofs.Pairs.{member, in-members}
 use Rattle.demand3.specs.Forced.{Way, IsBasic}
 use Rattle.demand3.proofs.Forced.{basic-pair-iff, leads-way, way-leads}
-use Rattle.vectors_rules.specs.Latest.{Knows, KnowsOrIs}
-use Rattle.vectors_rules.specs.Vectors.{sessionOf, latestOf, vectorOf, basicCycle}
+use Rattle.vectors_rules.specs.Latest.{KnowsOf, KnowsOrIs}
+use Rattle.vectors_rules.specs.Vectors.{sessionNo, latestOf, vectorOf, basicCycle}
 use Rattle.vectors_rules.proofs.Greatest.{greatest-one, greatest-same}
 use Rattle.vectors_rules.proofs.Latest.{latest-is}
 use Rattle.vectors_rules.proofs.Own.{own-is}
@@ -30,21 +30,21 @@ module _ {h : History} (ok : LawfulHistory h) where
   -- ── known ones ──
 
   module _ (t s a : ℕ) where
-    pub to-known : Knows (sessionOf h) (basic h) t s a → KnownOf h t s a
-    unfolding sessionOf
+    pub to-known : KnowsOf (sessionNo h) (basic h) t s a → KnownOf h t s a
+    unfolding sessionNo
     to-known k = record { of = k .of; way = to-way (k .way) }
 
-    pub from-known : KnownOf h t s a → Knows (sessionOf h) (basic h) t s a
-    unfolding sessionOf
+    pub from-known : KnownOf h t s a → KnowsOf (sessionNo h) (basic h) t s a
+    unfolding sessionNo
     from-known k = record { of = k .of; way = from-way (k .way) }
 
-    to-own : KnowsOrIs (committed h) (sessionOf h) (basic h) t s a → KnownOrSelf h t s a
-    unfolding sessionOf
+    to-own : KnowsOrIs (committed h) (sessionNo h) (basic h) t s a → KnownOrSelf h t s a
+    unfolding sessionNo
     to-own (inl k) = known (to-known k)
     to-own (inr o) = itself (o .is) (member ok (o .member)) (o .of)
 
-    from-own : KnownOrSelf h t s a → KnowsOrIs (committed h) (sessionOf h) (basic h) t s a
-    unfolding sessionOf
+    from-own : KnownOrSelf h t s a → KnowsOrIs (committed h) (sessionNo h) (basic h) t s a
+    unfolding sessionNo
     from-own (known k) = inl (from-known k)
     from-own (itself e m o) = inr (record { is = e; member = in-members ok m; of = o })
 
@@ -52,7 +52,7 @@ module _ {h : History} (ok : LawfulHistory h) where
 
   latest-known-is : (t s : ℕ) → LatestKnown h t s (latestOf h t s)
   unfolding latestOf
-  latest-known-is t s = greatest-same (λ a _ k. to-known t s a k) (λ a _ k. from-known t s a k) (latest-is {ses = sessionOf h} (basic-forces h) t s)
+  latest-known-is t s = greatest-same (λ a _ k. to-known t s a k) (λ a _ k. from-known t s a k) (latest-is {ses = sessionNo h} (basic-forces h) t s)
 
   -- "the latest known transaction" is the one that is computed
   pub latest-known : (t s x : ℕ) → LatestKnown h t s x ↔ (x ≡ latestOf h t s)
@@ -68,7 +68,7 @@ module _ {h : History} (ok : LawfulHistory h) where
   pub own-vectors-are : OwnVectorsOf h (vectorOf h)
   unfolding vectorOf latestOf
   own-vectors-are =
-      record { is = λ t s. greatest-same (λ a _ k. to-own t s a k) (λ a _ k. from-own t s a k) (own-is {ses = sessionOf h} (basic-forces h) t s) }
+      record { is = λ t s. greatest-same (λ a _ k. to-own t s a k) (λ a _ k. from-own t s a k) (own-is {ses = sessionNo h} (basic-forces h) t s) }
 
   pub own-vectors-one : {v : ℕ → ℕ → ℕ} → OwnVectorsOf h v → (t s : ℕ) → v t s ≡ vectorOf h t s
   own-vectors-one x t s = greatest-one (x .is t s) (own-vectors-are .is t s)

@@ -61,11 +61,11 @@ pub record SameAsSources (s : List ℕ) : Type 0 where
 -- ── as the sources work them out ──
 
 -- what t is told of session s by a transaction before it in a basic pair: that one itself, or what its vector has
-pub record Told (h : History) (v : ℕ → ℕ → ℕ) (t s a : ℕ) : Type 0 where
+pub record ToldTo (h : History) (v : ℕ → ℕ → ℕ) (t s a : ℕ) : Type 0 where
   pub by : ℕ
   pub pair : IsBasic h by t
   pub is : ((a ≡ by) × (tx h by .session ≡ s)) ⊎ (a ≡ v by s)
 
 -- each vector is merged of those before it: it has the greatest number of each session that it is told
 pub record Merged (h : History) (v : ℕ → ℕ → ℕ) : Type 0 where
-  pub is : (t s : ℕ) → t < size h → Greatest (Told h v t s) (v t s)
+  pub is : (t s : ℕ) → t < size h → Greatest (ToldTo h v t s) (v t s)

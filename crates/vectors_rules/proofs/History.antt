@@ -11,7 +11,7 @@ use Rattle.rules.specs.Levels.{isStart, isSession, basic}
 use Rattle.rules.proofs.Committed.{committed-0, committed-below}
 use Rattle.rules.proofs.Forced.{basic-committed}
 use Rattle.vectors_rules.specs.Latest.{Basics}
-use Rattle.vectors_rules.specs.Vectors.{sessionOf}
+use Rattle.vectors_rules.specs.Vectors.{sessionNo}
 
 module _ (h : History) where
   -- 0 before every other
@@ -20,8 +20,8 @@ module _ (h : History) where
   start-basic b c n = or-left _ _ (or-left _ _ (both _ _ (both _ _ (eq-eqb 0 0 refl) (lt-ltb 0 b (omega (arith, n)))) c))
 
   -- an earlier transaction before each later one of its session
-  session-basic : (a b : ℕ) → 0 < a → a < b → committed h a ≡ true → committed h b ≡ true → sessionOf h a ≡ sessionOf h b → basic h a b ≡ true
-  unfolding basic isSession sessionOf
+  session-basic : (a b : ℕ) → 0 < a → a < b → committed h a ≡ true → committed h b ≡ true → sessionNo h a ≡ sessionNo h b → basic h a b ≡ true
+  unfolding basic isSession sessionNo
   session-basic a b z l ca cb e =
       or-left _ _ (or-right _ _ (both _ _ (both _ _ (both _ _ (both _ _ (lt-ltb 0 a z) (lt-ltb a b l)) ca) cb) (eq-eqb _ _ e)))
 
@@ -35,5 +35,5 @@ module _ (h : History) where
         start = λ b l c n. start-basic b c n;
       }
 
-  pub basics : Basics (size h) (committed h) (sessionOf h) (basic h)
+  pub basics : Basics (size h) (committed h) (sessionNo h) (basic h)
   basics = record { forces = basic-forces; session = λ a b z l _ ca cb e. session-basic a b z l ca cb e }

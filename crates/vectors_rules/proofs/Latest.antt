@@ -9,7 +9,7 @@ use Rattle.base.proofs.Tests.{same-test, both, and-left, and-right, split}
 use Rattle.theory.specs.Leads.{Leads, step, then, via}
 use Rattle.theory.specs.Order.{Forces}
 use Rattle.theory.proofs.Leads.{via-iff}
-use Rattle.vectors_rules.specs.Latest.{Basics, Greatest, Knows, knows, latest, told}
+use Rattle.vectors_rules.specs.Latest.{Basics, Greatest, KnowsOf, knows, latest, told}
 use Rattle.vectors_rules.proofs.Greatest.{greatest-one, greatest-same, greatest-last}
 
 -- what leads is a member
@@ -29,7 +29,7 @@ leads-last (then {b = b} e p) = inr (⊎-elim (λ q. (b, step e, q)) (λ r. (r .
 
 module _ {n : ℕ} {m : ℕ → Bool} {ses : ℕ → ℕ} {f : ℕ → ℕ → Bool} (w : Forces n m f) where
   -- the test is right
-  knows-iff : (t s a : ℕ) → (knows n ses f t s a ≡ true) ↔ Knows ses f t s a
+  knows-iff : (t s a : ℕ) → (knows n ses f t s a ≡ true) ↔ KnowsOf ses f t s a
   unfolding knows
   knows-iff t s a = (
     λ e. record { of = eqb-true _ _ (and-left _ _ e); way = via-iff w a t .0 (and-right _ _ e) },
@@ -37,18 +37,18 @@ module _ {n : ℕ} {m : ℕ → Bool} {ses : ℕ → ℕ} {f : ℕ → ℕ → B
   )
 
   -- so what is computed is the latest that is known, and no other number is
-  pub latest-is : (t s : ℕ) → Greatest (Knows ses f t s) (latest n ses f t s)
+  pub latest-is : (t s : ℕ) → Greatest (KnowsOf ses f t s) (latest n ses f t s)
   unfolding latest
   latest-is t s =
       greatest-same (λ a _ e. knows-iff t s a .0 e) (λ a _ k. knows-iff t s a .1 k)
       (greatest-last (knows n ses f t s) n (λ a e. leads-first w (knows-iff t s a .0 e .way) .0))
 
-  pub latest-one : (t s x : ℕ) → Greatest (Knows ses f t s) x → x ≡ latest n ses f t s
+  pub latest-one : (t s x : ℕ) → Greatest (KnowsOf ses f t s) x → x ≡ latest n ses f t s
   latest-one t s x g = greatest-one g (latest-is t s)
 
 module _ {n : ℕ} {m : ℕ → Bool} {ses : ℕ → ℕ} {f : ℕ → ℕ → Bool} (w : Basics n m ses f) where
   -- one that is known is known with all before it in its session
-  pub entry-tells : {x : ℕ} (a b : ℕ) → 0 < a → m a ≡ true → Greatest (Knows ses f b (ses a)) x → (a ≤ x) ↔ Leads f a b
+  pub entry-tells : {x : ℕ} (a b : ℕ) → 0 < a → m a ≡ true → Greatest (KnowsOf ses f b (ses a)) x → (a ≤ x) ↔ Leads f a b
   entry-tells {x} a b h ma g = (
     λ l.
         let k = g .has (omega arith) in

@@ -11,7 +11,7 @@ use Rattle.rules.specs.Levels.{leads}
 use Rattle.rules.specs.Traces.{opens, r, w, rOf, wOf, closesOf, block, T, U, whole, overlapping}
 use Rattle.rules.specs.Edges.{as-they-should}
 use Rattle.vectors_rules.specs.Latest.{knows, latest, greater, withOwn, told, loops, cyclic}
-use Rattle.vectors_rules.specs.Vectors.{sessionOf, latestOf, vectorOf, toldBy, basicCycle}
+use Rattle.vectors_rules.specs.Vectors.{sessionNo, latestOf, vectorOf, toldBy, basicCycle}
 
 -- of a transaction: its vector at some sessions, without its own entry and with it, and who leads to it besides 0, as the vectors say and by the table
 pub record Line : Type 0 where
@@ -114,5 +114,5 @@ abbrev pub nowKnown : VectorCase → VectorCase
 nowKnown c = vectorCase (c .bytes) (c .sessions) (isCyclic (reading (c .bytes))) (linesOf (c .sessions) (reading (c .bytes)))
 
 pub as-known : map nowKnown vectorTable ≡ vectorTable
-unfolding as-they-should knows latest greater withOwn told loops cyclic sessionOf latestOf vectorOf toldBy basicCycle lineOf isCyclic linesOf
+unfolding as-they-should knows latest greater withOwn told loops cyclic sessionNo latestOf vectorOf toldBy basicCycle lineOf isCyclic linesOf
 as-known = refl

@@ -17,7 +17,7 @@ pub record Greatest (P : ℕ → Type 0) (x : ℕ) : Type 0 where
   pub most : (a : ℕ) → 0 < a → P a → a ≤ x
 
 -- t knows a: a is of session s and leads to t
-pub record Knows (ses : ℕ → ℕ) (f : ℕ → ℕ → Bool) (t s a : ℕ) : Type 0 where
+pub record KnowsOf (ses : ℕ → ℕ) (f : ℕ → ℕ → Bool) (t s a : ℕ) : Type 0 where
   pub of : ses a ≡ s
   pub way : Leads f a t
 
@@ -29,7 +29,7 @@ pub record Own (m : ℕ → Bool) (ses : ℕ → ℕ) (t s a : ℕ) : Type 0 whe
 
 -- t knows a, or is a
 abbrev pub KnowsOrIs : (ℕ → Bool) → (ℕ → ℕ) → (ℕ → ℕ → Bool) → ℕ → ℕ → ℕ → Type 0
-KnowsOrIs m ses f t s a = Knows ses f t s a ⊎ Own m ses t s a
+KnowsOrIs m ses f t s a = KnowsOf ses f t s a ⊎ Own m ses t s a
 
 -- pairs of members: 0 before every other, and within a session each earlier before each later
 pub record Basics (n : ℕ) (m : ℕ → Bool) (ses : ℕ → ℕ) (f : ℕ → ℕ → Bool) : Type 0 where

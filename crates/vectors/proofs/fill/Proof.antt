@@ -1,13 +1,13 @@
 use Prim.Native.Nat.{_-_, _≤_}
 use mathlib.Core.Path.{_≡_}
 use native.Mathlib.Omega.{arith}
-use Rattle.vectors.specs.Vectors.{Filled}
+use Rattle.vectors.specs.Vectors.{AllFilled}
 use Rattle.vectors.proofs.Filling.{filled-start, filled-turn, filled-step}
 use Rattle.vectors.proofs.fill.Statement.{statement}
 use Rattle.vectors.proofs.fill.Tie as tie
 
 abbrev Inv-loop : tie.InvT-loop
-Inv-loop v₀ f c o k width i₀ v i = (i ≤ k) × Filled f c o i v
+Inv-loop v₀ f c o k width i₀ v i = (i ≤ k) × AllFilled f c o i v
 
 abbrev μ-loop : tie.MeasureT-loop
 μ-loop v₀ f c o k width i₀ v i = k - i

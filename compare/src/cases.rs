@@ -1,7 +1,7 @@
 //! Traces whose answers are known: those of the specification, worked there by
 //! hand, its edges, unanswered commits, the writes of unclean reads, those whose
-//! keys share a bucket, those of edition 2 and those with notes, each with what
-//! `judge` has to print.
+//! keys share a bucket, those of edition 2, those in which it matters who knows whom
+//! and those with notes, each with what `judge` has to print.
 
 use crate::bucket_cases;
 use crate::encode::Writer;
@@ -9,6 +9,7 @@ use crate::note_cases;
 use crate::overlap_cases;
 use crate::text;
 use crate::trace::{Status, CLOSE, END, MAX_BYTES, MAX_TRANSACTIONS, NOTE, OPEN, WRITE};
+use crate::vector_cases;
 
 /// A trace with the output that it must have.
 pub struct Case {
@@ -33,6 +34,7 @@ pub fn all() -> Vec<Case> {
     cases.extend(order_of_checks());
     cases.extend(bucket_cases::all());
     cases.extend(overlap_cases::all());
+    cases.extend(vector_cases::all());
     cases.extend(note_cases::all().into_iter().map(|known| known.case));
     cases
 }

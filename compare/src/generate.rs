@@ -3,6 +3,7 @@
 use crate::encode::Writer;
 use crate::random::Random;
 use crate::trace::{self, Edition, Status, MAX_BYTES, MAX_NOTE, MAX_TRANSACTIONS};
+use crate::vector_cases;
 use crate::weave::{self, Access, Whole};
 use crate::writing;
 
@@ -17,12 +18,13 @@ pub enum Origin {
     Large,
     Unclean,
     Unanswered,
+    Knowing,
     Noted,
     Damaged,
 }
 
 impl Origin {
-    pub const ALL: [Origin; 10] = [
+    pub const ALL: [Origin; 11] = [
         Origin::Case,
         Origin::Bytes,
         Origin::Records,
@@ -31,6 +33,7 @@ impl Origin {
         Origin::Large,
         Origin::Unclean,
         Origin::Unanswered,
+        Origin::Knowing,
         Origin::Noted,
         Origin::Damaged,
     ];
@@ -45,6 +48,7 @@ impl Origin {
             Origin::Large => "plausible, large",
             Origin::Unclean => "mostly unclean reads",
             Origin::Unanswered => "unanswered, interwoven",
+            Origin::Knowing => "who knows whom",
             Origin::Noted => "few or many notes",
             Origin::Damaged => "damaged",
         }
@@ -57,7 +61,8 @@ pub fn any(random: &mut Random) -> (Origin, Vec<u8>) {
     match random.below(100) {
         0..=3 => (Origin::Bytes, bytes(random, edition)),
         4..=11 => (Origin::Records, records(random, edition)),
-        12..=37 => (Origin::Small, Shape::small(random, edition).trace(random)),
+        12..=29 => (Origin::Small, Shape::small(random, edition).trace(random)),
+        30..=37 => (Origin::Knowing, vector_cases::drawn(random, edition)),
         38..=43 => (
             Origin::Unclean,
             Shape::unclean(random, edition).trace(random),
@@ -174,7 +179,7 @@ fn any_record(
     }
 }
 
-fn first_serial(random: &mut Random) -> u32 {
+pub(crate) fn first_serial(random: &mut Random) -> u32 {
     match random.below(4) {
         0 => random.draw() as u32,
         // Near the wrap, so that it happens inside the trace.

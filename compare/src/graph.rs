@@ -34,6 +34,13 @@ struct ExternalRead {
     writers: Set,
 }
 
+impl ExternalRead {
+    /// The rivals among those that stand in the level's relation to the read.
+    fn rivals(&self, related: Set) -> Set {
+        self.writers & related & !only(self.source) & !only(self.reader)
+    }
+}
+
 /// What a trace says whatever the level.
 pub struct History {
     /// Transaction 0 and all that count as committed.
@@ -137,9 +144,25 @@ impl History {
 
     pub fn judge(&self, level: Level) -> Verdict {
         let basic = self.basic();
-        let rival_before = self.rivals(level, &basic);
+        let rivals = self.rivals(level, &basic);
+        self.verdict(basic, &rivals)
+    }
+
+    /// The verdict at level 3 as it would be if `leads` told what leads to what
+    /// through basic pairs, of any two besides 0.
+    pub fn judge_causal_by(&self, leads: impl Fn(u8, u8) -> bool) -> Verdict {
+        let mut leading = EMPTY;
+        for t in members(self.counted & !only(0)) {
+            let others = members(self.counted & !only(0)).filter(|&other| leads(other, t));
+            leading[usize::from(t)] = others.fold(only(0), |set, other| set | only(other));
+        }
+        self.verdict(self.basic(), &self.related_rivals(&leading))
+    }
+
+    /// The verdict by the basic pairs and those that a level adds.
+    fn verdict(&self, basic: Rows, rival_before: &Rows) -> Verdict {
         let mut before = basic;
-        for (row, rivals) in before.iter_mut().zip(&rival_before) {
+        for (row, rivals) in before.iter_mut().zip(rival_before) {
             *row |= rivals;
         }
         match smallest_order(&before, self.counted) {
@@ -148,7 +171,7 @@ impl History {
                 findings: self.findings.clone(),
                 pairs: match order {
                     Some(_) => Vec::new(), // nothing leads back
-                    None => self.listed(&before, &rival_before),
+                    None => self.listed(&before, rival_before),
                 },
             },
         }
@@ -163,37 +186,45 @@ impl History {
         before
     }
 
+    /// The basic pairs, and where they lead.
+    pub fn basic_pairs(&self) -> BasicPairs {
+        let before = self.basic();
+        BasicPairs {
+            leading: Paths::new(&before, self.counted).leading,
+            before,
+        }
+    }
+
     /// The pairs that the level adds.
     fn rivals(&self, level: Level, basic: &Rows) -> Rows {
-        let mut before = EMPTY;
-        let mut add = |read: &ExternalRead, related: Set| {
-            let rivals = read.writers & related & !only(read.source) & !only(read.reader);
-            before[usize::from(read.source)] |= rivals;
-        };
         match level {
-            Level::ReadCommitted => {
-                let mut reader = 0;
-                let mut earlier_sources = 0;
-                for read in &self.reads {
-                    if read.reader != reader {
-                        reader = read.reader;
-                        earlier_sources = 0;
-                    }
-                    add(read, earlier_sources);
-                    earlier_sources |= only(read.source);
-                }
+            Level::ReadCommitted => self.earlier_rivals(),
+            Level::ReadAtomicity => self.related_rivals(basic),
+            Level::Causal => self.related_rivals(&Paths::new(basic, self.counted).leading),
+        }
+    }
+
+    /// Those that level 1 adds: the rival is the source of an earlier read.
+    fn earlier_rivals(&self) -> Rows {
+        let mut before = EMPTY;
+        let mut reader = 0;
+        let mut earlier_sources = 0;
+        for read in &self.reads {
+            if read.reader != reader {
+                reader = read.reader;
+                earlier_sources = 0;
             }
-            Level::ReadAtomicity => {
-                for read in &self.reads {
-                    add(read, basic[usize::from(read.reader)]);
-                }
-            }
-            Level::Causal => {
-                let leading = Paths::new(basic, self.counted).leading;
-                for read in &self.reads {
-                    add(read, leading[usize::from(read.reader)]);
-                }
-            }
+            before[usize::from(read.source)] |= read.rivals(earlier_sources);
+            earlier_sources |= only(read.source);
+        }
+        before
+    }
+
+    /// Those that levels 2 and 3 add: the rival is in the reader's row.
+    fn related_rivals(&self, related: &Rows) -> Rows {
+        let mut before = EMPTY;
+        for read in &self.reads {
+            before[usize::from(read.source)] |= read.rivals(related[usize::from(read.reader)]);
         }
         before
     }
@@ -236,6 +267,30 @@ impl History {
             }
         }
         pairs
+    }
+}
+
+/// The basic pairs of a trace, and where they lead. A transaction that does not
+/// count has no part in them.
+pub struct BasicPairs {
+    before: Rows,
+    leading: Rows,
+}
+
+impl BasicPairs {
+    /// Whether the one stands before the other by a basic pair.
+    pub fn has(&self, first: u8, second: u8) -> bool {
+        self.before[usize::from(second)] & only(first) != 0
+    }
+
+    /// Whether the one leads to the other through one or more of them.
+    pub fn leads(&self, first: u8, second: u8) -> bool {
+        self.leading[usize::from(second)] & only(first) != 0
+    }
+
+    /// Whether some transaction leads to itself.
+    pub fn form_cycle(&self) -> bool {
+        (0..=MAX_TRANSACTIONS as u8).any(|t| self.leads(t, t))
     }
 }
 

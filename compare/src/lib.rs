@@ -4,8 +4,8 @@
 //! It is written from the specification alone, `01-scope.md` and the requests
 //! for a writer, for unanswered commits, for the writes of unclean reads, for
 //! overlapping transactions, for moves between the editions, for notes that are
-//! only counted and for the calls of the index, to be compared with the proved
-//! judge, writer, mover and upper library: the two sides share no code, so a
+//! only counted, for the calls of the index and for vectors, to be compared with the
+//! proved judge, writer, mover and upper library: the two sides share no code, so a
 //! mistake would have to be made twice, in the same way, to stay unseen.
 //!
 //! * [`trace`] reads the bytes of a trace, or says why they are refused;
@@ -13,6 +13,9 @@
 //! * [`brute`] decides small traces by trying every order against the
 //!   published axioms, and what counts as committed by trying every choice of
 //!   outcomes; it is meant to be obviously right;
+//! * [`vectors`] tells what leads to what by the latest known transaction of every
+//!   session, as the sources do; no judge needs it, and it must say what [`graph`]
+//!   says;
 //! * [`report`] holds the answers, prints them as the program `judge` does and
 //!   reads what is printed so;
 //! * [`deciding`] decides for the index, at any level and with buffers of any
@@ -20,8 +23,8 @@
 //! * [`writing`] writes traces from steps and turns traces into steps;
 //! * [`moving`] moves traces between the editions;
 //! * [`encode`], [`text`], [`weave`], [`notes`], [`generate`], [`cases`],
-//!   [`bucket_cases`], [`overlap_cases`] and [`note_cases`] make traces,
-//!   [`sequences`] and [`sequence_cases`] sequences of steps;
+//!   [`bucket_cases`], [`overlap_cases`], [`vector_cases`] and [`note_cases`] make
+//!   traces, [`sequences`] and [`sequence_cases`] sequences of steps;
 //! * [`process`], [`workers`], [`scribes`], [`moves`], [`calls`] and [`daemon`]
 //!   compare.
 //!
@@ -54,6 +57,8 @@ pub mod sequence_cases;
 pub mod sequences;
 pub mod text;
 pub mod trace;
+pub mod vector_cases;
+pub mod vectors;
 pub mod weave;
 pub mod workers;
 pub mod writing;

@@ -13,6 +13,7 @@ use ferozhak_compare::random::Random;
 use ferozhak_compare::report::{self, Finding, Level, Verdict};
 use ferozhak_compare::scribes::Way;
 use ferozhak_compare::trace::{Edition, Refusal, Status, Trace};
+use ferozhak_compare::vectors::Vectors;
 use ferozhak_compare::weave::{self, Judged};
 use ferozhak_compare::workers::{self, add_each, Difference, Extent, Tally};
 use ferozhak_compare::{brute, calls, daemon, graph, judge_text, judge_trace, scribes, Answer};
@@ -24,7 +25,8 @@ const USAGE: &str = "Usage:
   compare --stream COMMAND [options]   the same with the program `stream`: many traces a run
   compare --self [options]             compares the Rust judge's two deciders only, also on what counts as committed
                                        and on the writes of unclean reads, and its answers of the same transactions
-                                       in both editions and woven together in another way
+                                       in both editions and woven together in another way, and what leads to what
+                                       with what vectors say
   compare --scribe COMMAND [options]   compares the program `scribe` with the Rust writer and mover: many items a run
   compare --writer COMMAND [options]   the same with the program `writer`: a run for each sequence of steps
   compare --rewrite COMMAND [options]  the same with the program `rewrite`: a run for each trace
@@ -251,7 +253,8 @@ impl Subject {
             let checked = check_counted(trace, summary)
                 .and_then(|()| check_findings(trace, verdicts))
                 .and_then(|()| check_orders(trace, verdicts, summary))
-                .and_then(|()| check_choices(trace, verdicts, summary));
+                .and_then(|()| check_choices(trace, verdicts, summary))
+                .and_then(|()| self.check_vectors(trace, summary));
             if let Err(Deciders {
                 tried,
                 brute,
@@ -263,6 +266,36 @@ impl Subject {
             self.check_relatives(trace, verdicts, judge, summary)?;
         }
         self.check_program(judge, ours)
+    }
+
+    /// Vectors say the same as the graph of what leads to what, in some of the traces.
+    fn check_vectors(&self, trace: &Trace, summary: &mut Summary) -> Result<(), Deciders> {
+        const EACH: usize = 8;
+        if !self.index.is_multiple_of(EACH) {
+            return Ok(());
+        }
+        let pairs = graph::History::new(trace).basic_pairs();
+        let vectors = Vectors::new(trace, &pairs);
+        summary.vectors += 1;
+        summary.vectors_cyclic += usize::from(pairs.form_cycle());
+        let numbers = 1..=trace.transactions.len() as u8;
+        let twos = numbers
+            .clone()
+            .flat_map(|a| numbers.clone().map(move |b| (a, b)));
+        let mut different = twos.filter(|(a, b)| a != b);
+        let other = different.find(|&(a, b)| vectors.says(a, b) != pairs.leads(a, b));
+        let is_merged = match Vectors::merged(trace, &pairs) {
+            Some(merged) => merged == vectors,
+            None => pairs.form_cycle(),
+        };
+        match other.is_none() && is_merged {
+            true => Ok(()),
+            false => Err(Deciders {
+                tried: "the latest known of every session",
+                brute: format!("{vectors:?}\n"),
+                graph: format!("otherwise of {other:?}, merged alike {is_merged}\n"),
+            }),
+        }
     }
 
     /// What the program prints is what the Rust judge prints.
@@ -600,6 +633,10 @@ struct Summary {
     /// and those of which two were open at once then.
     relatives: usize,
     relatives_woven: usize,
+    /// Traces of which vectors were asked what leads to what, and those of them whose
+    /// basic pairs form a cycle.
+    vectors: usize,
+    vectors_cyclic: usize,
 }
 
 /// How many traces are of edition 2, and what there is in each edition.
@@ -721,6 +758,8 @@ impl Tally for Summary {
         self.uncounted += other.uncounted;
         self.relatives += other.relatives;
         self.relatives_woven += other.relatives_woven;
+        self.vectors += other.vectors;
+        self.vectors_cyclic += other.vectors_cyclic;
     }
 }
 
@@ -770,6 +809,10 @@ impl Summary {
             format!(
                 "{} traces also as blocks of both editions and woven anew, {} of these with two open at once",
                 self.relatives, self.relatives_woven
+            ),
+            format!(
+                "what leads to what in {} traces also by vectors, {} of these with a cycle",
+                self.vectors, self.vectors_cyclic
             ),
             "origins:".into(),
         ];

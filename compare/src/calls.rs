@@ -11,7 +11,8 @@
 //! `s` asks for the strongest level, which is the answer.
 
 use crate::cases::{self, Case};
-use crate::deciding::{strongest_of, Buffers, Counts, Decision, Outcome, Rooms, BUFFERS};
+use crate::deciding::{decide, strongest, strongest_of};
+use crate::deciding::{Buffers, Counts, Decision, Outcome, Rooms, BUFFERS};
 use crate::generate;
 use crate::process;
 use crate::random::Random;
@@ -90,14 +91,22 @@ impl Call {
                 let outcome = Outcome::of(answer, *level, rooms);
                 let mut buffers = Buffers::full_of(UNTOUCHED, rooms);
                 outcome.write(&mut buffers);
-                let mut reply = (outcome.decision() as u32).to_le_bytes().to_vec();
-                for buffer in buffers.each() {
-                    reply.extend(buffer);
-                    reply.extend([UNTOUCHED; BEHIND]);
-                }
-                reply
+                decided(outcome.decision(), &buffers)
             }
             Call::Strongest => strongest_of(answer).to_le_bytes().to_vec(),
+        }
+    }
+
+    /// The same of a trace that has not been judged: it is, for a decision at the level
+    /// that is asked for and at no other.
+    fn answer(&self, trace: &[u8]) -> Vec<u8> {
+        match self {
+            Call::Decide { level, rooms } => {
+                let mut buffers = Buffers::full_of(UNTOUCHED, rooms);
+                let decision = decide(trace, *level, &mut buffers);
+                decided(decision, &buffers)
+            }
+            Call::Strongest => strongest(trace).to_le_bytes().to_vec(),
         }
     }
 
@@ -130,6 +139,16 @@ impl Call {
             Call::Strongest => "asked 's'".into(),
         }
     }
+}
+
+/// The reply to a call that asks for a decision.
+fn decided(decision: Decision, buffers: &Buffers) -> Vec<u8> {
+    let mut reply = (decision as u32).to_le_bytes().to_vec();
+    for buffer in buffers.each() {
+        reply.extend(buffer);
+        reply.extend([UNTOUCHED; BEHIND]);
+    }
+    reply
 }
 
 /// The buffers of a reply, each with the bytes behind it.
@@ -165,7 +184,7 @@ pub fn serve(mut input: impl Read, mut output: impl Write) -> io::Result<()> {
     while let Some(call) = Call::read(&mut input)? {
         let mut trace = vec![0; read_number(&mut input)? as usize];
         input.read_exact(&mut trace)?;
-        output.write_all(&call.reply(&judge_all(&trace)))?;
+        output.write_all(&call.answer(&trace))?;
     }
     output.flush()
 }

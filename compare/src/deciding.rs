@@ -7,7 +7,7 @@
 
 use crate::report::{Finding, Level, Pair, Verdict};
 use crate::trace::{Refusal, MAX_OPERATIONS, MAX_TRANSACTIONS};
-use crate::{judge_all, Answer};
+use crate::{judge_all, judge_one, Answer};
 
 const FINDING_SIZE: usize = 6;
 const PAIR_SIZE: usize = 4;
@@ -170,10 +170,15 @@ impl Buffers {
 
 /// The first call: the decision, and what the buffers then hold.
 pub fn decide(trace: &[u8], level: u32, buffers: &mut Buffers) -> Decision {
-    let answer = judge_all(trace);
-    let outcome = Outcome::of(&answer, level, &buffers.rooms());
+    let verdict = judge_at(trace, level);
+    let outcome = Outcome::at(&verdict, &buffers.rooms());
     outcome.write(buffers);
     outcome.decision()
+}
+
+/// The verdict that the first call asks for, and no other.
+fn judge_at(trace: &[u8], level: u32) -> Result<Verdict, Refusal> {
+    judge_one(trace, level_of(level)?)
 }
 
 /// The second call: the number of the strongest level that accepts the trace, 0
@@ -202,7 +207,16 @@ impl<'a> Outcome<'a> {
     /// The outcome for a trace that has been judged already, given the level and
     /// the rooms of the buffers.
     pub fn of(answer: &'a Answer, level: u32, rooms: &Rooms) -> Outcome<'a> {
-        Outcome(verdict_at(answer, level).and_then(|verdict| {
+        Outcome(verdict_at(answer, level)).with_rooms(rooms)
+    }
+
+    /// The same for one that has been judged at the level.
+    fn at(verdict: &'a Result<Verdict, Refusal>, rooms: &Rooms) -> Outcome<'a> {
+        Outcome(verdict.as_ref().map_err(|refusal| *refusal)).with_rooms(rooms)
+    }
+
+    fn with_rooms(self, rooms: &Rooms) -> Outcome<'a> {
+        Outcome(self.0.and_then(|verdict| {
             check_rooms(rooms, &Rooms::needed(verdict))?;
             Ok(verdict)
         }))
@@ -254,12 +268,17 @@ impl<'a> Outcome<'a> {
     }
 }
 
-/// The verdict at this level: row 1 stands before all others.
-fn verdict_at(answer: &Answer, level: u32) -> Result<&Verdict, Refusal> {
-    let level = Level::of_number(level).ok_or(Refusal {
+/// The level of this number, or row 1.
+fn level_of(number: u32) -> Result<Level, Refusal> {
+    Level::of_number(number).ok_or(Refusal {
         number: 1,
         place: 0,
-    })?;
+    })
+}
+
+/// The verdict at this level: row 1 stands before all others.
+fn verdict_at(answer: &Answer, level: u32) -> Result<&Verdict, Refusal> {
+    let level = level_of(level)?;
     let verdicts = answer.as_ref().map_err(|refusal| *refusal)?;
     Ok(&verdicts[level as usize])
 }

@@ -1,7 +1,7 @@
 #!/usr/bin/env bash
-# Measures the proved programs `stream` and `scribe`, and the library's second call from C, against the independent judge and mover, all built for release, on
-# the same full traces in one run: microseconds of processor time a trace, and their ratio. First judging (all three levels, reading and printing included),
-# then a move to the other edition, then the strongest level.
+# Measures the proved programs `stream` and `scribe`, and the library's calls from C, against the independent judge and mover, all built for release, on the
+# same full traces in one run: microseconds of processor time a trace, and their ratio. First judging (all three levels, reading and printing included), then
+# a move to the other edition, then the strongest level, then the decision at level 3 alone, with room for every list.
 # Usage: compare/measure.sh [REPEATS], after rt check stream scribe ferozhak.
 # The toolchain builds programs for x86-64. On another processor a time under its emulator says nothing, so there the program's own bitcode, as the
 # toolchain hands it to its compiler, is compiled for this processor with the same options and linked with the machine's C library.
@@ -99,6 +99,18 @@ for trace in "$work"/traces/*; do
 import sys
 bytes_ = open(sys.argv[1], 'rb').read()
 open(sys.argv[3], 'wb').write((b's' + len(bytes_).to_bytes(4, 'little') + bytes_) * int(sys.argv[2]))
+PY
+    row "$(basename "$trace")" "$calls" 'target/compare/release/rustjudge --calls'
+done
+printf '%-24s %10s %10s %8s\n' 'level 3' 'proved us' 'Rust us' ratio
+for trace in "$work"/traces/*; do
+    python3 - "$trace" "$repeats" "$work/input" <<'PY'
+import sys
+def number(n): return n.to_bytes(4, 'little')
+bytes_ = open(sys.argv[1], 'rb').read()
+# the level, then room for the findings, the pairs, the order and the counts
+asked = b''.join(number(n) for n in (3, 6144, 65024, 128, 20))
+open(sys.argv[3], 'wb').write((b'd' + asked + number(len(bytes_)) + bytes_) * int(sys.argv[2]))
 PY
     row "$(basename "$trace")" "$calls" 'target/compare/release/rustjudge --calls'
 done

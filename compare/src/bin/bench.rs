@@ -145,6 +145,7 @@ fn time(judge: Judge, bytes: &[u8]) -> (u128, u128) {
 fn traces() -> Vec<(String, Vec<u8>)> {
     let mut traces = vec![
         ("typical".into(), typical(MAX_TRANSACTIONS)),
+        ("sessions-each".into(), sessions_each()),
         ("hot-keys".into(), full(|shape| shape.keys = 3)),
         (
             "anomalies".into(),
@@ -226,6 +227,13 @@ fn in_sessions(wholes: &[Whole], session: impl Fn(u16) -> u16) -> Vec<Whole> {
 /// operations a transaction on as many keys as there are transactions.
 fn typical(transactions: usize) -> Vec<u8> {
     shaped(transactions, |_| {})
+}
+
+/// The typical trace with a session for each transaction. Without the sessions' order
+/// the store still answers rightly.
+fn sessions_each() -> Vec<u8> {
+    let typical = wholes_of(&typical(MAX_TRANSACTIONS));
+    weave::blocks(Edition::One, 0, &in_sessions(&typical, |t| t))
 }
 
 fn full(change: impl Fn(&mut Shape)) -> Vec<u8> {

@@ -1,18 +1,47 @@
 -- By what is promised of each call alone: two traces of which one is the other, moved, and two that differ only in their notes.
 use Prim.Native.Nat.{ℕ}
 use mathlib.Core.Path.{_≡_, ap, sym, _∙_}
+use mathlib.Core.Bool.{Bool}
 use mathlib.Core.List.{List}
+use Rattle.rules.specs.History.{History}
+use Rattle.rules.specs.Reading.{Reading, read, reading}
 use Rattle.rules.specs.Outcome.{Outcome, outcome, reported, judged}
 use Rattle.rules.specs.declared.Answer.{Answer}
 use Rattle.rules.proofs.Outcome.{reported-one}
+use Rattle.demand1.specs.Lawful.{LawfulHistory}
+use Rattle.demand1.proofs.Lawful.{lawful-history}
+use Rattle.demand1.proofs.Readings.{reads-iff, read-has}
 use Rattle.demands.specs.Demands.{Demands}
 use Rattle.demands.proofs.Meets.{meets}
 use Rattle.demands.proofs.One.{demands-judged}
+use Rattle.renumbering.specs.Renumbering.{Renumbers}
 use Rattle.noteless.specs.Without.{ButForNotes}
-use Rattle.noteless.proofs.ButFor.{notes-judged}
+use Rattle.noteless.proofs.ButFor.{notes-reading, notes-judged}
+use Rattle.moved.specs.Moved.{Moved}
 use Rattle.moved.proofs.Alike.{moved-alike}
 use Rattle.alike_calls.specs.declared.TwoAnswers.{TwoAnswers}
 use Rattle.alike_calls.specs.Alike.{SameOutcome, JudgedBoth}
+
+-- ── any call ──
+
+-- f, which is made of a reading, hangs on its history alone: neither on the number of notes nor on the numbers of operations
+pub record OfHistory {A : Type 0} (f : Reading → A) : Type 0 where
+  pub any-notes : (h : History) (n m : ℕ) → f (read h n) ≡ f (read h m)
+  pub any-numbers : {to back : ℕ → ℕ} {h g : History} → LawfulHistory h → Renumbers to back h g → (n m : ℕ) → f (read g n) ≡ f (read h m)
+
+-- then answers r and q that are made so of traces that are alike are the same
+module _ {s t : List ℕ} {A : Type 0} {f : Reading → A} (w : OfHistory f) {r q : A} (x : r ≡ f (reading s)) (y : q ≡ f (reading t)) where
+  pub same-moved : {second : Bool} → Moved second s t → q ≡ r
+  same-moved m =
+      let e : f (reading t) ≡ f (reading s) =
+      rw (read-has (m .reads), reads-iff t (m .moved-history) 0 .1 (m .moved-reads))
+      (w .any-numbers (lawful-history (m .reads)) (m .in-blocks .renumbers) 0 (m .reads .notes)) in
+      y ∙ e ∙ sym x
+
+  pub same-noted : ButForNotes s t → q ≡ r
+  same-noted n = y ∙ notes-reading n f (w .any-notes) ∙ sym x
+
+-- ── the judge ──
 
 -- any two answers that meet the demands, whoever gave them, are the same where only notes differ
 pub notes-answers : {s t : List ℕ} → ButForNotes s t → (level : ℕ) (fs ps os : List ℕ) (r q : Answer) (F P O F' P' O' : List ℕ) → Demands s level fs ps os r F P O

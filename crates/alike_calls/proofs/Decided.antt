@@ -8,15 +8,13 @@ use Rattle.theory.proofs.Entries.{number-one}
 use Rattle.rules.specs.Reading.{Reading}
 use Rattle.rules.specs.Outcome.{rejects, reported}
 use Rattle.rules.specs.declared.Answer.{Answer}
-use Rattle.demand1.proofs.Lawful.{lawful-history}
-use Rattle.demand1.proofs.Readings.{reads-iff, read-has, history-one}
+use Rattle.demand1.proofs.Readings.{history-one}
 use Rattle.demand3.specs.Rejected.{FindingCount}
 use Rattle.demands.proofs.SomeJudge.{asDefined, as-defined}
 use Rattle.renumbering.specs.Renumbering.{FindingsBecame, AnswersAlike}
 use Rattle.renumbering.proofs.Lists.{same-accepted}
 use Rattle.moving.specs.Renumbering.{newNumber}
 use Rattle.noteless.specs.Without.{ButForNotes}
-use Rattle.noteless.proofs.ButFor.{notes-reading}
 use Rattle.moved.specs.Moved.{Moved}
 use Rattle.moved.proofs.Alike.{moved-alike}
 use Rattle.deciding.specs.Deciding.{decisionNo, decisionOf, countsPut, decidedAs, decided, strongestNo, acceptedRead, isAcceptedAt, strongest}
@@ -27,7 +25,7 @@ use Rattle.decided.proofs.Decides.{decides-by-demands, decides, decides-one}
 use Rattle.decided.proofs.Strongest.{strongest-is, strongest-one}
 use Rattle.alike_calls.specs.declared.TwoNumbers.{TwoNumbers}
 use Rattle.alike_calls.specs.Alike.{DecidedAlike, SameDecision, DecidedBoth, StrongestBoth}
-use Rattle.alike_calls.proofs.Alike.{notes-answers}
+use Rattle.alike_calls.proofs.Alike.{OfHistory, same-moved, same-noted, notes-answers}
 
 -- ── the decision ──
 
@@ -115,16 +113,20 @@ module _ (s t : List ℕ) (level : ℕ) (r : TwoNumbers) (fs ps os cs fs' ps' os
 
 -- ── the strongest level ──
 
+-- acceptance hangs on the history alone
+accepted-of : (level : ℕ) → OfHistory (λ (x : Reading). acceptedRead x level)
+unfolding acceptedRead
+accepted-of level = record { any-notes = λ h n m. refl; any-numbers = λ ok r n m. same-accepted ok r level }
+
 module _ {s t : List ℕ} where
   -- what accepts the one accepts the other
   moved-accepted : {second : Bool} → Moved second s t → (level : ℕ) → isAcceptedAt t level ≡ isAcceptedAt s level
-  unfolding isAcceptedAt acceptedRead
-  moved-accepted m level =
-      rw (read-has (m .reads), reads-iff t (m .moved-history) 0 .1 (m .moved-reads)) (same-accepted (lawful-history (m .reads)) (m .in-blocks .renumbers) level)
+  unfolding isAcceptedAt
+  moved-accepted m level = same-moved (accepted-of level) refl refl m
 
   notes-accepted : ButForNotes s t → (level : ℕ) → isAcceptedAt t level ≡ isAcceptedAt s level
-  unfolding isAcceptedAt acceptedRead
-  notes-accepted n level = notes-reading n (λ (x : Reading). acceptedRead x level) (λ h n m. refl)
+  unfolding isAcceptedAt
+  notes-accepted n level = same-noted (accepted-of level) refl refl n
 
   -- so the numbers are the same
   same-strongest : ((level : ℕ) → isAcceptedAt t level ≡ isAcceptedAt s level) → {r q : ℕ} → StrongestIs s r → StrongestIs t q → q ≡ r

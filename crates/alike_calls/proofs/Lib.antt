@@ -1,3 +1,4 @@
 pub mod Alike
 pub mod Filled
 pub mod Decided
+pub mod Vectors

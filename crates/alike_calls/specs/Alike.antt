@@ -20,9 +20,12 @@ use Rattle.deciding.specs.Deciding.{decisionNo}
 use Rattle.deciding.specs.declared.Decision.the-variants.{Hold}
 use Rattle.decided.specs.Decides.{Decides}
 use Rattle.decided.specs.Strongest.{StrongestIs}
+use Rattle.vectors_calls.specs.Calls.{SaysLeads, TellsLatest}
 use Rattle.alike_calls.specs.declared.TwoAnswers.{TwoAnswers}
 use Rattle.alike_calls.specs.declared.TwoLengths.{TwoLengths}
 use Rattle.alike_calls.specs.declared.TwoNumbers.{TwoNumbers}
+use Rattle.alike_calls.specs.declared.TwoSaid.{TwoSaid}
+use Rattle.alike_calls.specs.declared.TwoEntries.{TwoEntries}
 use Rattle.alike_calls.specs.declared.TwoFills.{TwoFills}
 use Rattle.alike_calls.specs.declared.TwoTallies.{TwoTallies}
 
@@ -79,6 +82,24 @@ pub record DecidedBoth (s t : List ℕ) (level : ℕ) (r : TwoNumbers) (fs ps os
 pub record StrongestBoth (s t : List ℕ) (r : TwoNumbers) : Type 0 where
   pub one : StrongestIs s (r .one)
   pub other : StrongestIs t (r .other)
+  pub was-moved : (second : Bool) → Moved second s t → r .other ≡ r .one
+  pub but-for-notes : ButForNotes s t → r .other ≡ r .one
+
+-- ── the calls for vectors ──
+
+-- "Numbers still go by opening", moved "transactions become blocks in order of opening", and no note opens one: so a and b are the same transactions in both
+-- traces, and the whole answer is the same. Where only texts differ it may be a refusal, with its number and place; what was moved is read, and so is a trace
+-- without its notes
+pub record LedBoth (s t : List ℕ) (a b : ℕ) (r : TwoSaid) : Type 0 where
+  pub one : SaysLeads s a b (r .one)
+  pub other : SaysLeads t a b (r .other)
+  pub was-moved : (second : Bool) → Moved second s t → r .other ≡ r .one
+  pub but-for-notes : ButForNotes s t → r .other ≡ r .one
+
+-- .. so is what the vector of x has for the session of a
+pub record LatestBoth (s t : List ℕ) (x a : ℕ) (r : TwoEntries) : Type 0 where
+  pub one : TellsLatest s x a (r .one)
+  pub other : TellsLatest t x a (r .other)
   pub was-moved : (second : Bool) → Moved second s t → r .other ≡ r .one
   pub but-for-notes : ButForNotes s t → r .other ≡ r .one
 

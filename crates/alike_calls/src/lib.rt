@@ -1,8 +1,10 @@
 // A call made on two traces that are alike: the one is the other, moved to another edition; or they differ only in their notes. Each function makes one call on
 // both, knows nothing of it but its contract, and promises what document 02 says of it for each trace, whatever they are, and what the two have in common.
-ghost use Rattle.alike_calls.specs.Alike.{JudgedBoth, PrintedBoth, ListedBoth, RewrittenBoth, WholeBoth, MovedBoth, TalliedBoth, DecidedBoth, StrongestBoth};
+ghost use Rattle.alike_calls.specs.Alike.{JudgedBoth, PrintedBoth, ListedBoth, RewrittenBoth, WholeBoth, MovedBoth, TalliedBoth, DecidedBoth, StrongestBoth, LedBoth, LatestBoth};
 use moving::Tallied;
 use rules::Answer;
+use vectors_calls::Entry;
+use vectors_calls::Said;
 use writing::Filled;
 
 // ── the judge ──
@@ -89,6 +91,42 @@ pub fn strongest_both(trace: &[u8], other: &[u8]) -> TwoNumbers
     let one = ferozhak::ferozhak_strongest(trace);
     let other = ferozhak::ferozhak_strongest(other);
     TwoNumbers {
+        one: one,
+        other: other,
+    }
+}
+
+// ── the calls for vectors ──
+
+pub struct TwoSaid {
+    pub one: Said,
+    pub other: Said,
+}
+
+// Two traces, asked whether transaction a leads to b.
+pub fn led_both(trace: &[u8], other: &[u8], a: usize, b: usize) -> TwoSaid
+    ensures { λ r. ⌜ LedBoth (now (trace .entry)) (now (other .entry)) a b r ⌝ }
+{
+    let one = vectors_calls::leads_to(trace, a, b);
+    let other = vectors_calls::leads_to(other, a, b);
+    TwoSaid {
+        one: one,
+        other: other,
+    }
+}
+
+pub struct TwoEntries {
+    pub one: Entry,
+    pub other: Entry,
+}
+
+// Two traces, asked for the latest known transaction of the session of a that t's vector has.
+pub fn latest_both(trace: &[u8], other: &[u8], t: usize, a: usize) -> TwoEntries
+    ensures { λ r. ⌜ LatestBoth (now (trace .entry)) (now (other .entry)) t a r ⌝ }
+{
+    let one = vectors_calls::latest_known(trace, t, a);
+    let other = vectors_calls::latest_known(other, t, a);
+    TwoEntries {
         one: one,
         other: other,
     }

@@ -9,11 +9,11 @@ use Rattle.renumbering.specs.Renumbering.{Renumbers}
 use Rattle.renumbering.proofs.Numbers.{same-tx, same-size}
 use Rattle.renumbering.proofs.Committed.{same-committed}
 use Rattle.renumbering.proofs.Pairs.{same-basic, same-leads}
-use Rattle.vectors_rules.specs.Vectors.{sessionOf, latestOf, vectorOf, basicCycle}
+use Rattle.vectors_rules.specs.Vectors.{sessionNo, latestOf, vectorOf, basicCycle}
 use Rattle.vectors_calls.specs.Calls.{SaysLeads, TellsLatest}
 use Rattle.vectors_calls.specs.Answers.{saidOf, saidRead, entryOf, toldOf, toldRead}
 use Rattle.vectors_calls.proofs.Calls.{says-iff, tells-iff}
-use Rattle.alike_calls.specs.declared.TwoSaid.{TwoSaid}
+use Rattle.alike_calls.specs.declared.TwoLedBy.{TwoLedBy}
 use Rattle.alike_calls.specs.declared.TwoEntries.{TwoEntries}
 use Rattle.alike_calls.specs.Alike.{LedBoth, LatestBoth}
 use Rattle.alike_calls.proofs.Alike.{OfHistory, same-moved, same-noted}
@@ -21,8 +21,8 @@ use Rattle.alike_calls.proofs.Alike.{OfHistory, same-moved, same-noted}
 -- ── histories that differ by the numbers of their operations ──
 
 module _ {to back : ℕ → ℕ} {h g : History} (ok : LawfulHistory h) (r : Renumbers to back h g) where
-  same-sessions : sessionOf g ≡ sessionOf h
-  unfolding sessionOf
+  same-sessions : sessionNo g ≡ sessionNo h
+  unfolding sessionNo
   same-sessions = ap (λ (x : ℕ → Tx). λ (t : ℕ). x t .session) (same-tx r)
 
   -- basic pairs are the same, so they form a cycle in both or in neither, and every vector is the same
@@ -55,7 +55,7 @@ unfolding toldRead
 told-of t a = record { any-notes = λ h n m. refl; any-numbers = λ ok r n m. same-told ok r t a }
 
 -- so any two answers to traces that are alike are the same
-pub led-both : (s t : List ℕ) (a b : ℕ) (r : TwoSaid) → SaysLeads s a b (r .one) → SaysLeads t a b (r .other) → LedBoth s t a b r
+pub led-both : (s t : List ℕ) (a b : ℕ) (r : TwoLedBy) → SaysLeads s a b (r .one) → SaysLeads t a b (r .other) → LedBoth s t a b r
 led-both s t a b r x y =
     let e = says-iff s a b (r .one) .1 x in
     let f = says-iff t a b (r .other) .1 y in

@@ -24,7 +24,7 @@ use Rattle.vectors_calls.specs.Calls.{SaysLeads, TellsLatest}
 use Rattle.alike_calls.specs.declared.TwoAnswers.{TwoAnswers}
 use Rattle.alike_calls.specs.declared.TwoLengths.{TwoLengths}
 use Rattle.alike_calls.specs.declared.TwoNumbers.{TwoNumbers}
-use Rattle.alike_calls.specs.declared.TwoSaid.{TwoSaid}
+use Rattle.alike_calls.specs.declared.TwoLedBy.{TwoLedBy}
 use Rattle.alike_calls.specs.declared.TwoEntries.{TwoEntries}
 use Rattle.alike_calls.specs.declared.TwoFills.{TwoFills}
 use Rattle.alike_calls.specs.declared.TwoTallies.{TwoTallies}
@@ -90,7 +90,7 @@ pub record StrongestBoth (s t : List ℕ) (r : TwoNumbers) : Type 0 where
 -- "Numbers still go by opening", moved "transactions become blocks in order of opening", and no note opens one: so a and b are the same transactions in both
 -- traces, and the whole answer is the same. Where only texts differ it may be a refusal, with its number and place; what was moved is read, and so is a trace
 -- without its notes
-pub record LedBoth (s t : List ℕ) (a b : ℕ) (r : TwoSaid) : Type 0 where
+pub record LedBoth (s t : List ℕ) (a b : ℕ) (r : TwoLedBy) : Type 0 where
   pub one : SaysLeads s a b (r .one)
   pub other : SaysLeads t a b (r .other)
   pub was-moved : (second : Bool) → Moved second s t → r .other ≡ r .one

@@ -4,7 +4,7 @@ ghost use Rattle.alike_calls.specs.Alike.{JudgedBoth, PrintedBoth, Liste
 use moving::Tallied;
 use rules::Answer;
 use vectors_calls::Entry;
-use vectors_calls::Said;
+use vectors_calls::LedBy;
 use writing::Filled;
 
 // ── the judge ──
@@ -98,18 +98,18 @@ pub fn strongest_both(trace: &[u8], other: &[u8]) -> TwoNumbers
 
 // ── the calls for vectors ──
 
-pub struct TwoSaid {
-    pub one: Said,
-    pub other: Said,
+pub struct TwoLedBy {
+    pub one: LedBy,
+    pub other: LedBy,
 }
 
 // Two traces, asked whether transaction a leads to b.
-pub fn led_both(trace: &[u8], other: &[u8], a: usize, b: usize) -> TwoSaid
+pub fn led_both(trace: &[u8], other: &[u8], a: usize, b: usize) -> TwoLedBy
     ensures { λ r. ⌜ LedBoth (now (trace .entry)) (now (other .entry)) a b r ⌝ }
 {
     let one = vectors_calls::leads_to(trace, a, b);
     let other = vectors_calls::leads_to(other, a, b);
-    TwoSaid {
+    TwoLedBy {
         one: one,
         other: other,
     }

@@ -22,8 +22,8 @@ use Rattle.vectors_rules.specs.Vectors.{sessionNo, vectorOf, basicCycle}
 use Rattle.vectors_rules.proofs.Greatest.{greatest-one}
 use Rattle.vectors_laws.specs.Vectors.{NoBasicCycle}
 use Rattle.vectors_laws.proofs.Vectors.{own-vectors-are, no-cycle-iff}
-use Rattle.vectors_calls.specs.declared.Said.{Said}
-use Rattle.vectors_calls.specs.declared.Said.the-variants as S
+use Rattle.vectors_calls.specs.declared.LedBy.{LedBy}
+use Rattle.vectors_calls.specs.declared.LedBy.the-variants as S
 use Rattle.vectors_calls.specs.declared.Entry.{Entry}
 use Rattle.vectors_calls.specs.declared.Entry.the-variants as E
 use Rattle.vectors_calls.specs.Calls.{SaysLeads, on-refusal, by-vectors, by-table, EntryOf, TellsLatest, on-cycle, on-latest}
@@ -73,7 +73,7 @@ module _ (s : List ℕ) where
     pub says-refused : {n p : ℕ} → reading s ≡ refused n p → SaysLeads s a b (S.Refused n p)
     says-refused {n} {p} e = on-refusal (refuses-iff s n p .0 e)
 
-    pub says-read : {h : History} {notes : ℕ} {r : Said} → reading s ≡ read h notes → r ≡ saidOf h a b → SaysLeads s a b r
+    pub says-read : {h : History} {notes : ℕ} {r : LedBy} → reading s ≡ read h notes → r ≡ saidOf h a b → SaysLeads s a b r
     unfolding saidOf
     says-read {h} e i =
         let x = has-read e in
@@ -89,7 +89,7 @@ module _ (s : List ℕ) where
     says-reading (read h notes) e = says-read e refl
 
     -- and nothing else is
-    says-is : {r : Said} → SaysLeads s a b r → r ≡ saidRead (reading s) a b
+    says-is : {r : LedBy} → SaysLeads s a b r → r ≡ saidRead (reading s) a b
     unfolding saidRead saidOf
     says-is (on-refusal {n} {p} x) = rw (refuses-iff s n p .1 x) refl
     says-is (by-vectors x f i) =
@@ -99,11 +99,11 @@ module _ (s : List ℕ) where
         let ok = lawful-history x in
         rw (read-has x) (ap S.ByTable (right ok a b i) ∙ sym (pick-on _ _ _ (to-cycle ok d)))
 
-    pub says-iff : (r : Said) → (r ≡ saidRead (reading s) a b) ↔ SaysLeads s a b r
+    pub says-iff : (r : LedBy) → (r ≡ saidRead (reading s) a b) ↔ SaysLeads s a b r
     says-iff r = (λ e. rw e (says-reading (reading s) refl), says-is)
 
     -- so there is one such answer
-    pub says-one : {r q : Said} → SaysLeads s a b r → SaysLeads s a b q → r ≡ q
+    pub says-one : {r q : LedBy} → SaysLeads s a b r → SaysLeads s a b q → r ≡ q
     says-one x y = says-is x ∙ sym (says-is y)
 
   -- the same of an entry

@@ -32,7 +32,7 @@ use Rattle.vectors.proofs.Named.{own-small}
 use Rattle.causal.specs.Causal.{columnEntry, HoldsVectors, Known}
 use Rattle.causal.proofs.Known.{used-cycle, used-none, vectors-wide, vectors-small, vectors-say}
 use Rattle.causal.proofs.Sessions.{entry-session, entry-none}
-use Rattle.vectors_calls.specs.declared.Said.the-variants as S
+use Rattle.vectors_calls.specs.declared.LedBy.the-variants as S
 use Rattle.vectors_calls.specs.declared.Entry.the-variants as E
 use Rattle.vectors_calls.specs.Answers.{saidOf, entryOf, toldOf}
 

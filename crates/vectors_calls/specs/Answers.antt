@@ -6,16 +6,16 @@ use Rattle.rules.specs.History.{History, committed}
 use Rattle.rules.specs.Reading.{Reading, refused, read}
 use Rattle.rules.specs.Levels.{leads}
 use Rattle.vectors_rules.specs.Vectors.{sessionNo, vectorOf, basicCycle}
-use Rattle.vectors_calls.specs.declared.Said.{Said}
-use Rattle.vectors_calls.specs.declared.Said.the-variants as S
+use Rattle.vectors_calls.specs.declared.LedBy.{LedBy}
+use Rattle.vectors_calls.specs.declared.LedBy.the-variants as S
 use Rattle.vectors_calls.specs.declared.Entry.{Entry}
 use Rattle.vectors_calls.specs.declared.Entry.the-variants as E
 
 -- of a and b: of a history's, and of what was read of a trace
-unfoldable pub saidOf : History → ℕ → ℕ → Said
+unfoldable pub saidOf : History → ℕ → ℕ → LedBy
 saidOf h a b = pick (basicCycle h) (S.ByTable (leads h a b)) (S.ByVectors (leads h a b))
 
-unfoldable pub saidRead : Reading → ℕ → ℕ → Said
+unfoldable pub saidRead : Reading → ℕ → ℕ → LedBy
 saidRead (refused n p) a b = S.Refused n p
 saidRead (read h notes) a b = saidOf h a b
 

@@ -11,13 +11,13 @@ use Rattle.demand2.specs.Axiom.{Member}
 use Rattle.demand3.specs.Forced.{Way, IsBasic}
 use Rattle.vectors_rules.specs.Latest.{Greatest}
 use Rattle.vectors_laws.specs.Vectors.{KnownOrSelf, NoBasicCycle}
-use Rattle.vectors_calls.specs.declared.Said.{Said}
-use Rattle.vectors_calls.specs.declared.Said.the-variants as S
+use Rattle.vectors_calls.specs.declared.LedBy.{LedBy}
+use Rattle.vectors_calls.specs.declared.LedBy.the-variants as S
 use Rattle.vectors_calls.specs.declared.Entry.{Entry}
 use Rattle.vectors_calls.specs.declared.Entry.the-variants as E
 
 -- what is said of a and b, any two numbers, in the trace s: w is whether a leads to b through basic pairs
-pub data SaysLeads (s : List ℕ) (a b : ℕ) : Said → Type 0 where
+pub data SaysLeads (s : List ℕ) (a b : ℕ) : LedBy → Type 0 where
   on-refusal : {n p : ℕ} → Refuses s n p → SaysLeads s a b (S.Refused n p)
   -- by vectors "when basic pairs form no cycle"
   by-vectors : {h : History} {w : Bool} → HasHistory s h → NoBasicCycle h → (w ≡ true) ↔ Way (IsBasic h) a b → SaysLeads s a b (S.ByVectors w)

@@ -60,13 +60,13 @@ fn is_led(h: &[u64], s: &[u64; 256], x: &[u8; 16384], width: usize, a: usize, b:
 }
 
 // What is said of two transactions, and by which of the two; or the trace is refused, with the number of the row and the place.
-pub enum Said {
+pub enum LedBy {
     Refused(u8, usize),
     ByVectors(bool),
     ByTable(bool),
 }
 
-fn leads_in(h: &[u64], k: &[u8], a: usize, b: usize) -> Said
+fn leads_in(h: &[u64], k: &[u8], a: usize, b: usize) -> LedBy
     requires { ⌜ Ready (now h) (now k) ⌝ }
     ensures { λ r. ⌜ r ≡ saidOf (historyOf (now (h .entry))) a b ⌝ }
 {
@@ -76,13 +76,13 @@ fn leads_in(h: &[u64], k: &[u8], a: usize, b: usize) -> Said
     let width = go_by(h, k, &mut p, &mut s, &mut x);
     let led = is_led(h, &s, &x, width, a, b);
     if width == 0 {
-        return Said::ByTable(led);
+        return LedBy::ByTable(led);
     }
-    Said::ByVectors(led)
+    LedBy::ByVectors(led)
 }
 
 // Whether transaction a leads to b through basic pairs: read off b's vector "when basic pairs form no cycle", and else off the closed table.
-pub fn leads_to(trace: &[u8], a: usize, b: usize) -> Said
+pub fn leads_to(trace: &[u8], a: usize, b: usize) -> LedBy
     ensures { λ r. ⌜ SaysLeads (now (trace .entry)) a b r ⌝ }
 {
     // The words of a history's table, and a byte for each number that an operation can have.
@@ -90,7 +90,7 @@ pub fn leads_to(trace: &[u8], a: usize, b: usize) -> Said
     let mut k = [0u8; 1025];
     let read = judging::prepare(trace, &mut h, &mut k);
     match read {
-        Out::Bad(no, place) => Said::Refused(no, place),
+        Out::Bad(no, place) => LedBy::Refused(no, place),
         Out::Good(_) => leads_in(&h, &k, a, b),
     }
 }

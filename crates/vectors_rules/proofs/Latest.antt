@@ -10,7 +10,7 @@ use Rattle.theory.specs.Leads.{Leads, step, then, via}
 use Rattle.theory.specs.Order.{Forces}
 use Rattle.theory.proofs.Leads.{via-iff}
 use Rattle.vectors_rules.specs.Latest.{Basics, Greatest, KnowsOf, knows, latest, told}
-use Rattle.vectors_rules.proofs.Greatest.{greatest-one, greatest-same, greatest-last}
+use Rattle.vectors_rules.proofs.Greatest.{greatest-same, greatest-last}
 
 -- what leads is a member
 pub leads-first : {n : ℕ} {m : ℕ → Bool} {f : ℕ → ℕ → Bool} → Forces n m f → {a b : ℕ} → Leads f a b → (a < n) × (m a ≡ true)
@@ -36,15 +36,12 @@ module _ {n : ℕ} {m : ℕ → Bool} {ses : ℕ → ℕ} {f : ℕ → ℕ → B
     λ k. both _ _ (eq-eqb _ _ (k .of)) (via-iff w a t .1 (k .way)),
   )
 
-  -- so what is computed is the latest that is known, and no other number is
+  -- so what is computed is the latest that is known
   pub latest-is : (t s : ℕ) → Greatest (KnowsOf ses f t s) (latest n ses f t s)
   unfolding latest
   latest-is t s =
       greatest-same (λ a _ e. knows-iff t s a .0 e) (λ a _ k. knows-iff t s a .1 k)
       (greatest-last (knows n ses f t s) n (λ a e. leads-first w (knows-iff t s a .0 e .way) .0))
-
-  pub latest-one : (t s x : ℕ) → Greatest (KnowsOf ses f t s) x → x ≡ latest n ses f t s
-  latest-one t s x g = greatest-one g (latest-is t s)
 
 module _ {n : ℕ} {m : ℕ → Bool} {ses : ℕ → ℕ} {f : ℕ → ℕ → Bool} (w : Basics n m ses f) where
   -- one that is known is known with all before it in its session

@@ -6,7 +6,7 @@ use mathlib.Core.List.{List}
 use mathlib.Core.Logic.{inl, inr}
 use native.Mathlib.Omega.{arith}
 use lib.Dec.{ltb}
-use lib.ListN.{replicate, length-replicate, getD-replicate}
+use lib.ListN.{length, replicate, length-replicate, getD-replicate}
 use borrow.Author.Tests.{ltb-true, lt-ltb}
 use Rattle.base.specs.Base.{_and_, last}
 use Rattle.base.proofs.Tests.{ifso, clash, is-false, both, and-left, and-right, and-on, and-no-left}
@@ -144,12 +144,13 @@ module _ {h p : List ℕ} {m : Words} {n : ℕ} (w : Parties h p m n) where
       cycle-is = let v = pairs-are (w .settled .held) b in rw (e, v) refl
 
       -- the entries are the history's: there is one greatest
-      pub held-vectors : {u : List ℕ}
+      pub held-vectors : {u : List ℕ} → length u ≡ 16384
           → ((t q : ℕ) → t < 128 → q < 128 → slot u t q ≡ withOwn (inWords m) (columnOf c) (latest (r + 1) (columnOf c) (pairOf s)) t q)
           → HoldsVectors (historyOf h) u
       unfolding columnEntry
-      held-vectors {u} is =
+      held-vectors {u} room is =
           record {
+            room = room;
             is =
                 λ t q l y.
                 own-one (basic-forces (historyOf h)) t q (slot u t q)

@@ -3,9 +3,11 @@ use Prim.Native.Nat.{ℕ, _+_, _<_, _≤_}
 use mathlib.Core.Path.{_≡_, refl, sym, ap, _∙_}
 use mathlib.Core.Bool.{Bool, true, false}
 use mathlib.Core.List.{List}
+use mathlib.Core.Logic.{⊎-elim}
 use native.Mathlib.Omega.{arith}
+use lib.ListN.{length}
 use Rattle.base.specs.Base.{_or_, some}
-use Rattle.base.proofs.Tests.{ifso, is-false, is-true, not-true, not-false, or-left, or-right, pick-on, pick-off}
+use Rattle.base.proofs.Tests.{ifso, is-false, is-true, not-true, not-false, or-left, or-right, pick-on, pick-off, split}
 use Rattle.theory.specs.Leads.{via}
 use Rattle.rules.specs.History.{History, txCount, size, committed}
 use Rattle.rules.specs.Levels.{basic, leads, forced}
@@ -16,7 +18,7 @@ use Rattle.bits.proofs.Tables.{holds-same}
 use Rattle.bits.proofs.Selves.{selves-back}
 use Rattle.pairs.specs.Pairs.{Ready, before}
 use Rattle.pairs.proofs.Pairs.{basic-leads}
-use Rattle.rivals.specs.Rivals.{Told, ToldByVectors}
+use Rattle.rivals.specs.Rivals.{Told}
 use Rattle.rivals.proofs.Seen.{goes-by-leads}
 use Rattle.vectors_rules.specs.Latest.{Basics}
 use Rattle.vectors_rules.specs.Vectors.{basicCycle}
@@ -74,16 +76,9 @@ module _ {h : History} {s x : List ℕ} {r : ℕ} (few : size h ≤ 128) (w : Kn
 
 -- ── what the search is told ──
 
-module _ {h k s x : List ℕ} {r : ℕ} (q : Ready h k) (w : Known (historyOf h) s x r) where
-  -- by the table
-  pub by-table : r ≡ 0 → Told h k s 3
-  by-table e = record { ready = q; from = omega arith; to = omega arith; seen = goes-by-leads (historyOf h) 3 refl (w .table e) }
-
-  -- by vectors
-  pub by-vectors : 0 < r → ToldByVectors h k s x r
-  by-vectors l =
-      let few : size (historyOf h) ≤ 128 = omega (arith, q .settled .held .few) in
-      record { ready = q; room = w .rows l .room; wide = vectors-wide few w l; small = vectors-small few w l; seen = vectors-say few w l }
+-- the bytes stay as many as they were
+pub known-long : {h : History} {s x y : List ℕ} {r : ℕ} → Known h s x r × (r ≡ 0 → x ≡ y) → length y ≡ 16384 → length x ≡ 16384
+known-long {r = r} w l = ⊎-elim (λ z. w .0 .vectors z .room) (λ z. ap length (w .1 (omega arith)) ∙ l) (split 0 r)
 
 -- the table that the search leaves is told
 pub left-in : {h : History} {s x : List ℕ} {r : ℕ} → Known h s x r → Holds s (leftIn h)
@@ -93,6 +88,23 @@ left-in {h} {r = r} w =
     (λ c.
     let e : r ≡ widthOf h = w .used ∙ pick-off _ 0 (widthOf h) c in
     rw (pick-off _ (before (leads h)) (plusSelves (size h) (before (basic h))) c) (w .rows (omega (arith, e, column-below h 0))))
+
+-- by the table, or by vectors
+pub search-told : {h k s x : List ℕ} {r : ℕ} → Ready h k → Known (historyOf h) s x r → Told h k s x r 3
+search-told {h} q w =
+    let few : size (historyOf h) ≤ 128 = omega (arith, q .settled .held .few) in
+    record {
+      ready = q;
+      from = omega arith;
+      to = omega arith;
+      room = left-in w .room;
+      table = λ e. goes-by-leads (historyOf h) 3 refl (w .table e);
+      vectors =
+          λ l. (
+            refl,
+            record { long = w .vectors l .room; wide = vectors-wide few w l; small = vectors-small few w l; seen = vectors-say few w l },
+          );
+    }
 
 -- ── what is known ──
 
@@ -109,7 +121,7 @@ module _ {h p : List ℕ} {m : Words} {n : ℕ} (w : Parties h p m n) {s c x : L
           used = k ∙ sym (pick-off _ 0 (widthOf (historyOf h)) free);
           table = λ n. absurd (omega arith);
           rows = λ _. holds-same v (λ i a l f. ap (λ (c : Bool). c or isSelf (size (historyOf h)) i a) (b .is i a l f));
-          vectors = λ _. held-vectors w b d z e k (o .vectors y);
+          vectors = λ _. held-vectors w b d z e k (o .room) (o .vectors y);
         },
         λ n. absurd (omega arith),
       )

@@ -3,6 +3,7 @@ use Prim.Native.Nat.{ℕ, _<_}
 use mathlib.Core.Path.{_≡_}
 use mathlib.Core.Bool.{Bool}
 use mathlib.Core.List.{List}
+use lib.ListN.{length}
 use Rattle.base.specs.Base.{pick, count}
 use Rattle.rules.specs.History.{History, size, committed}
 use Rattle.rules.specs.Levels.{basic, leads, isRival}
@@ -29,6 +30,7 @@ columnEntry h = withOwn (committed h) (columnAt h) (latest (size h) (columnAt h)
 
 -- the bytes x have the vectors, row by row
 pub record HoldsVectors (h : History) (x : List ℕ) : Type 0 where
+  pub room : length x ≡ 16384
   pub is : (t s : ℕ) → t < 128 → s < 128 → slot x t s ≡ columnEntry h t s
 
 -- what level 3 goes by. r is the number of the vectors' columns where these are used, 0 where the table is: they are "when basic pairs form no cycle", and "with a

@@ -3,7 +3,7 @@ ghost use mathlib.Core.Path.{_≡_};
 ghost use Prim.Native.Nat.{_<_};
 ghost use lib.ListN.{length};
 ghost use Rattle.rules.specs.History.{size};
-ghost use Rattle.rules.specs.Levels.{basic, isRival};
+ghost use Rattle.rules.specs.Levels.{basic};
 ghost use Rattle.table.specs.Table.{historyOf};
 ghost use Rattle.bits.specs.Bits.{Holds, plusSelves};
 ghost use Rattle.pairs.specs.Pairs.{Ready, before, Priors};
@@ -37,26 +37,6 @@ pub fn know(
     0
 }
 
-// The pairs that level 3 adds. w is the table of who writes what.
-fn mark(
-    h: &[u64],
-    k: &[u8],
-    s: &[u64; 256],
-    x: &[u8; 16384],
-    width: usize,
-    w: &[u64; 256],
-    v: &mut [u64; 256],
-)
-    requires { ⌜ Ready (now h) (now k) × Known (historyOf (now h)) (now s) (now x) width × Holds (now w) (writers (historyOf (now h))) × (length (now v) ≡ 256) ⌝ }
-    ensures { λ r. ⌜ Holds (now (v .exit)) (before (isRival (historyOf (now (h .entry))) 3)) ⌝ }
-{
-    if width == 0 {
-        rivals::fill_rivals(h, k, s, w, v, 3);
-    } else {
-        rivals::fill_by_vectors(h, k, s, x, width, w, v);
-    }
-}
-
 // f gets the basic pairs, which s has besides each row's own number, but where the table was closed.
 fn put_basic(h: &[u64], k: &[u8], p: &[u8; 128], s: &[u64; 256], width: usize, f: &mut [u64; 256])
     requires { ⌜ Ready (now h) (now k) × Priors (historyOf (now h)) (now p) × (0 < width → Holds (now s) (plusSelves (size (historyOf (now h))) (before (basic (historyOf (now h)))))) × (length (now f) ≡ 256) ⌝ }
@@ -86,6 +66,6 @@ pub fn search(
 {
     let mut x = [0u8; 16384];
     let width = know(h, p, m, n, s, &mut x);
-    mark(h, k, s, &x, width, f, v);
+    rivals::fill_rivals(h, k, s, &x, width, f, v, 3);
     put_basic(h, k, p, s, width, f);
 }

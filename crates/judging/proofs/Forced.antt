@@ -2,6 +2,7 @@
 use Prim.Native.Nat.{ℕ, _+_}
 use mathlib.Core.Path.{_≡_}
 use mathlib.Core.List.{List}
+use native.Mathlib.Omega.{arith}
 use Rattle.theory.specs.Leads.{via}
 use Rattle.rules.specs.History.{txCount, size}
 use Rattle.rules.specs.Levels.{isRead, basic}
@@ -17,9 +18,16 @@ use Rattle.lists.proofs.Levels.{told-listed-pairs}
 use Rattle.judging.specs.Judging.{AtLevel, Forcing}
 
 -- levels 1 and 2 are told by the basic pairs
-pub told-basic : {h k s : List ℕ} {level : ℕ} → AtLevel h k level → (level ≡ 3 → ⊥) → Holds s (before (basic (historyOf h))) → Told h k s level
+pub told-basic : {h k s x : List ℕ} {level : ℕ} → AtLevel h k level → (level ≡ 3 → ⊥) → Holds s (before (basic (historyOf h))) → Told h k s x 0 level
 told-basic {h} {level = level} a n b =
-    record { ready = a .ready; from = a .from; to = a .to; seen = goes-by-basic (historyOf h) level n b }
+    record {
+      ready = a .ready;
+      from = a .from;
+      to = a .to;
+      room = b .room;
+      table = λ _. goes-by-basic (historyOf h) level n b;
+      vectors = λ l. absurd (omega arith);
+    }
 
 -- f: basic pairs b and the rivals v
 pub forcing : {h k b f v : List ℕ} {level : ℕ} → AtLevel h k level → Searched (historyOf h) level b v → Holds f (either (bitOf b) (bitOf v)) → Forcing h k f v level

@@ -229,7 +229,8 @@ fn search_direct(
     requires { ⌜ AtLevel (now h) (now k) level × (level ≡ 3 → ⊥) × Holds (now s) (before (basic (historyOf (now h)))) × Holds (now f) (writers (historyOf (now h))) × (length (now v) ≡ 256) ⌝ }
     ensures { λ r. ⌜ Searched (historyOf (now (h .entry))) level (now (f .exit)) (now (v .exit)) ⌝ }
 {
-    rivals::fill_rivals(h, k, s, f, v, level);
+    // no vectors
+    rivals::fill_rivals(h, k, s, &k[..0], 0, f, v, level);
     bits::copy(s, f);
 }
 

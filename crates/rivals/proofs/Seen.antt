@@ -1,6 +1,6 @@
 -- Which reads of t3 see t2.
 use Prim.Native.Nat.{ℕ, _+_, _*_, _<_, _≤_}
-use mathlib.Core.Path.{_≡_, refl, sym, ap, _∙_}
+use mathlib.Core.Path.{_≡_, sym, ap, _∙_}
 use mathlib.Core.Bool.{Bool, true, false}
 use mathlib.Core.List.{List}
 use lib.ListN.{getD}
@@ -24,7 +24,7 @@ use Rattle.bits.proofs.Tables.{row-own}
 use Rattle.pairs.specs.Pairs.{before}
 use Rattle.order.specs.declared.Words.{Words}
 use Rattle.vectors.specs.Vectors.{Joined}
-use Rattle.rivals.specs.Rivals.{pairsFor, Told, ToldByVectors, Foregoing, firstFrom, seenFrom}
+use Rattle.rivals.specs.Rivals.{pairsFor, Told, Asked, Foregoing, firstFrom, seenFrom}
 
 -- ── the first, found from the top down ──
 
@@ -109,24 +109,28 @@ pairs-first h level t2 t3 e =
 pub pairs-below : (h : History) (level t2 t3 : ℕ) → pairsFor h level t2 t3 ≡ true → t2 ≤ txCount h
 pairs-below h level t2 t3 e = omega (arith, committed-below h t2 (pairs-first h level t2 t3 e))
 
--- a table's row t3 has what the level's pairs have before t3
-pub told-foregoing : {h k s : List ℕ} {level t3 : ℕ} → Told h k s level → HasTx h t3
-    → Foregoing (historyOf h) level t3 (getD s (2 * t3) 0) (getD s (2 * t3 + 1) 0)
-unfolding before
-told-foregoing {s = s} {t3 = t3} p o =
-    record { is = λ t2 l _. row-own s t3 t2 l ∙ p .seen .is t3 t2 (omega (arith, o .to, p .ready .settled .held .few)) l }
+module _ {h k s x : List ℕ} {width level t3 : ℕ} (p : Told h k s x width level) (o : HasTx h t3) where
+  -- a table's row t3 has what the level's pairs have before t3
+  pub told-by-row : width ≡ 0 → Foregoing (historyOf h) level t3 (getD s (2 * t3) 0) (getD s (2 * t3 + 1) 0)
+  unfolding before
+  told-by-row e =
+      record { is = λ t2 l _. row-own s t3 t2 l ∙ p .table e .is t3 t2 (omega (arith, o .to, p .ready .settled .held .few)) l }
 
--- so do the rows that its vector names, at level 3
-pub vector-foregoing : {h k s x : List ℕ} {width t3 : ℕ} {r : Words} → ToldByVectors h k s x width → HasTx h t3 → Joined s x t3 width r
-    → Foregoing (historyOf h) 3 t3 (r .lo) (r .hi)
-unfolding pairsFor
-vector-foregoing {h} {t3 = t3} p o j =
-    record {
-      is =
-          λ t2 l n.
-          j .is t2 l ∙ p .seen t3 t2 (omega (arith, o .to)) l n
-          ∙ sym (ap (λ (f : ℕ → ℕ → Bool). f t2 t3) (pick-on (eqb 3 3) (leads (historyOf h)) (basic (historyOf h)) (eq-eqb 3 3 refl)));
-    }
+  -- so do the rows that its vector names
+  pub told-by-vector : 0 < width → {r : Words} → Joined s x t3 width r → Foregoing (historyOf h) level t3 (r .lo) (r .hi)
+  unfolding pairsFor
+  told-by-vector z j =
+      let v = p .vectors z in
+      record {
+        is =
+            λ t2 l n.
+            j .is t2 l ∙ v .1 .seen t3 t2 (omega (arith, o .to)) l n
+            ∙ sym (ap (λ (f : ℕ → ℕ → Bool). f t2 t3) (pick-on (eqb level 3) (leads (historyOf h)) (basic (historyOf h)) (eq-eqb level 3 (v .0))));
+      }
+
+  -- it can be asked
+  pub told-asked : 0 < width → Asked x width t3
+  told-asked z = let v = p .vectors z .1 in record { long = v .long; wide = v .wide; small = v .small t3 (omega (arith, o .to)) }
 
 module _ (h : History) (t2 t3 : ℕ) where
   -- a read pair is a basic one

@@ -21,20 +21,28 @@ use Rattle.rivals.specs.declared.Left.{Left}
 unfoldable pub pairsFor : History → ℕ → ℕ → ℕ → Bool
 pairsFor h level = pick (eqb level 3) (leads h) (basic h)
 
--- the history's table h, what is to be known of its operations, k, and a table s of what the level has to be told
-pub record Told (h k s : List ℕ) (level : ℕ) : Type 0 where
-  pub ready : Ready h k
-  pub from : 1 ≤ level
-  pub to : level ≤ 3
-  pub seen : Holds s (before (pairsFor (historyOf h) level))
-
--- .. or a table s, vectors x in columns below `width`: the rows of s that the vector of t3 names have, of all others than t3, what leads to t3
-pub record ToldByVectors (h k s x : List ℕ) (width : ℕ) : Type 0 where
-  pub ready : Ready h k
-  pub room : length s ≡ 256
+-- the rows of s that the vector of t3 in x names, in columns below `width`, have, of all others than t3, what leads to t3
+pub record ByVectors (h s x : List ℕ) (width : ℕ) : Type 0 where
+  pub long : length x ≡ 16384
   pub wide : width ≤ 128
   pub small : (t3 : ℕ) → t3 < size (historyOf h) → Small x t3
   pub seen : (t3 t2 : ℕ) → t3 < size (historyOf h) → t2 < 128 → (t2 ≡ t3 → ⊥) → some 1 width (named s x t3 t2) ≡ leads (historyOf h) t2 t3
+
+-- the vector of t3 in x can be asked
+pub record Asked (x : List ℕ) (width t3 : ℕ) : Type 0 where
+  pub long : length x ≡ 16384
+  pub wide : width ≤ 128
+  pub small : Small x t3
+
+-- the history's table h, what is to be known of its operations, k, and a table s of what the level has to be told; or, where `width` is not 0, level 3 is told by
+-- vectors
+pub record Told (h k s x : List ℕ) (width level : ℕ) : Type 0 where
+  pub ready : Ready h k
+  pub from : 1 ≤ level
+  pub to : level ≤ 3
+  pub room : length s ≡ 256
+  pub table : width ≡ 0 → Holds s (before (pairsFor (historyOf h) level))
+  pub vectors : 0 < width → (level ≡ 3) × ByVectors h s x width
 
 -- ── which reads of t3 see t2 ──
 

@@ -2,7 +2,8 @@
 // t2 in the level's own way. A table of pairs is kept by predecessor: row t1 has the bits of the rivals before t1.
 ghost use mathlib.Core.Path.{_≡_};
 ghost use mathlib.Core.Bool.{true};
-ghost use Prim.Native.Nat.{_+_, _≤_, _<_};
+ghost use mathlib.Core.List.{List};
+ghost use Prim.Native.Nat.{ℕ, _+_, _≤_, _<_};
 ghost use lib.ListN.{length, getD};
 ghost use lib.Dec.{eqb};
 ghost use Rattle.base.specs.Base.{pick, last};
@@ -13,7 +14,7 @@ ghost use Rattle.table.proofs.Chain.{OnChain};
 ghost use Rattle.bits.specs.Bits.{bitOf, Holds, either, rowOf};
 ghost use Rattle.pairs.specs.Pairs.{Ready, before};
 ghost use Rattle.keys.specs.Keys.{writers};
-ghost use Rattle.rivals.specs.Rivals.{Told, ToldByVectors, pairsFor, firstFrom, seenFrom, standsFor, writesFor, triesFrom, isHitOf, hitBits, rivalBits, rivalsAmong, rivalsOf, rivals, Foregoing, Chosen, Candidates, isTold, Behind};
+ghost use Rattle.rivals.specs.Rivals.{Told, Asked, pairsFor, firstFrom, seenFrom, standsFor, writesFor, triesFrom, isHitOf, hitBits, rivalBits, rivalsAmong, rivalsOf, rivals, Foregoing, Chosen, Candidates, isTold, Behind};
 
 // ── which reads of t3 see t2 ──
 
@@ -258,24 +259,44 @@ fn mark_read(
     }
 }
 
-// .. that all reads of t3 settle, from the last down, for any rival, 0 among them: only those of the set (lo, hi) are looked at, which has what the level's pairs
-// have before t3. A rival is another than t3.
+// What the level's pairs have before t3, of all others than t3: row t3 of s, or, where `width` is not 0, the rows of s that t3's vector in x names.
+fn foregoing(s: &[u64], x: &[u8], width: usize, t3: usize) -> Left
+    requires { ⌜ (length (now s) ≡ 256) × (t3 < 128) × (0 < width → Asked (now x) width t3) ⌝ }
+    ensures { λ r. ⌜ ((h k : List ℕ) (level : ℕ) → Told h k (now (s .entry)) (now (x .entry)) width level → HasTx h t3 → Foregoing (historyOf h) level t3 (r .lo) (r .hi)) ⌝ }
+{
+    if width == 0 {
+        return Left {
+            lo: s[2 * t3],
+            hi: s[2 * t3 + 1],
+        };
+    }
+    let known = vectors::known(s, x, t3, width);
+    Left {
+        lo: known.lo,
+        hi: known.hi,
+    }
+}
+
+// .. that all reads of t3 settle, from the last down, for any rival, 0 among them: only what the level's pairs have before t3 is looked at. A rival is another
+// than t3.
 fn mark_rivals_of(
     h: &[u64],
     k: &[u8],
+    s: &[u64],
+    x: &[u8],
+    width: usize,
     w: &[u64],
     v: &mut [u64],
     level: u8,
     t3: usize,
-    lo: u64,
-    hi: u64,
 )
-    requires { ⌜ Ready (now h) (now k) × Holds (now w) (writers (historyOf (now h))) × (length (now v) ≡ 256) × (1 ≤ level) × (level ≤ 3) × HasTx (now h) t3 × Foregoing (historyOf (now h)) level t3 lo hi ⌝ }
+    requires { ⌜ Told (now h) (now k) (now s) (now x) width level × Holds (now w) (writers (historyOf (now h))) × (length (now v) ≡ 256) × HasTx (now h) t3 ⌝ }
     ensures { λ r. ⌜ Holds (now (v .exit)) (either (bitOf (now (v .entry))) (rivalsOf (historyOf (now (h .entry))) level t3)) ⌝ }
 {
+    let before = foregoing(s, x, width, t3);
     let mut left = Left {
-        lo: bits::without(lo, bits::own_bit(t3, 0)),
-        hi: bits::without(hi, bits::own_bit(t3, 1)),
+        lo: bits::without(before.lo, bits::own_bit(t3, 0)),
+        hi: bits::without(before.hi, bits::own_bit(t3, 1)),
     };
     let mut i = table::last_op(h, t3);
     while 0 < i {
@@ -284,92 +305,42 @@ fn mark_rivals_of(
     }
 }
 
-// .. by row t3 of the table s.
-fn mark_by_table(h: &[u64], k: &[u8], s: &[u64], w: &[u64], v: &mut [u64], level: u8, t3: usize)
-    requires { ⌜ Told (now h) (now k) (now s) level × Holds (now w) (writers (historyOf (now h))) × (length (now v) ≡ 256) × HasTx (now h) t3 ⌝ }
-    ensures { λ r. ⌜ Holds (now (v .exit)) (either (bitOf (now (v .entry))) (rivalsOf (historyOf (now (h .entry))) level t3)) ⌝ }
-{
-    let lo = s[2 * t3];
-    let hi = s[2 * t3 + 1];
-    mark_rivals_of(h, k, w, v, level, t3, lo, hi);
-}
-
-// .. of all transactions.
-fn mark_rivals(h: &[u64], k: &[u8], s: &[u64], w: &[u64], v: &mut [u64], level: u8)
-    requires { ⌜ Told (now h) (now k) (now s) level × Holds (now w) (writers (historyOf (now h))) × (length (now v) ≡ 256) ⌝ }
+fn mark_rivals(
+    h: &[u64],
+    k: &[u8],
+    s: &[u64],
+    x: &[u8],
+    width: usize,
+    w: &[u64],
+    v: &mut [u64],
+    level: u8,
+)
+    requires { ⌜ Told (now h) (now k) (now s) (now x) width level × Holds (now w) (writers (historyOf (now h))) × (length (now v) ≡ 256) ⌝ }
     ensures { λ r. ⌜ Holds (now (v .exit)) (either (bitOf (now (v .entry))) (rivals (historyOf (now (h .entry))) level)) ⌝ }
 {
     let n = table::txs(h);
     let mut t3 = 1;
     while t3 <= n {
-        mark_by_table(h, k, s, w, v, level, t3);
+        mark_rivals_of(h, k, s, x, width, w, v, level, t3);
         t3 += 1;
     }
 }
 
-// Row t1 has the bits of the rivals that the level puts before t1. The table w is what `keys::fill_writers` makes.
-pub fn fill_rivals(h: &[u64], k: &[u8], s: &[u64], w: &[u64], v: &mut [u64], level: u8)
-    requires { ⌜ Told (now h) (now k) (now s) level × Holds (now w) (writers (historyOf (now h))) × (length (now v) ≡ 256) ⌝ }
+// Row t1 has the bits of the rivals that the level puts before t1. The table w is what `keys::fill_writers` makes. The level is told by the table s alone, where
+// `width` is 0, or else by the vectors x, in columns below `width`, and the rows of s that they name.
+pub fn fill_rivals(
+    h: &[u64],
+    k: &[u8],
+    s: &[u64],
+    x: &[u8],
+    width: usize,
+    w: &[u64],
+    v: &mut [u64],
+    level: u8,
+)
+    requires { ⌜ Told (now h) (now k) (now s) (now x) width level × Holds (now w) (writers (historyOf (now h))) × (length (now v) ≡ 256) ⌝ }
     ensures { λ r. ⌜ Holds (now (v .exit)) (before (isRival (historyOf (now (h .entry))) level)) ⌝ }
 {
     bits::clear(v);
-    mark_rivals(h, k, s, w, v, level);
-}
-
-// ── level 3, by vectors ──
-
-// The pairs that all reads of t3 settle at level 3: what leads to t3 is read off its vector, in x, which names rows of s.
-fn mark_by_vector(
-    h: &[u64],
-    k: &[u8],
-    s: &[u64],
-    x: &[u8; 16384],
-    width: usize,
-    w: &[u64],
-    v: &mut [u64],
-    t3: usize,
-)
-    requires { ⌜ ToldByVectors (now h) (now k) (now s) (now x) width × Holds (now w) (writers (historyOf (now h))) × (length (now v) ≡ 256) × HasTx (now h) t3 ⌝ }
-    ensures { λ r. ⌜ Holds (now (v .exit)) (either (bitOf (now (v .entry))) (rivalsOf (historyOf (now (h .entry))) 3 t3)) ⌝ }
-{
-    let known = vectors::known(s, x, t3, width);
-    mark_rivals_of(h, k, w, v, 3, t3, known.lo, known.hi);
-}
-
-// .. of all transactions.
-fn mark_by_vectors(
-    h: &[u64],
-    k: &[u8],
-    s: &[u64],
-    x: &[u8; 16384],
-    width: usize,
-    w: &[u64],
-    v: &mut [u64],
-)
-    requires { ⌜ ToldByVectors (now h) (now k) (now s) (now x) width × Holds (now w) (writers (historyOf (now h))) × (length (now v) ≡ 256) ⌝ }
-    ensures { λ r. ⌜ Holds (now (v .exit)) (either (bitOf (now (v .entry))) (rivals (historyOf (now (h .entry))) 3)) ⌝ }
-{
-    let n = table::txs(h);
-    let mut t3 = 1;
-    while t3 <= n {
-        mark_by_vector(h, k, s, x, width, w, v, t3);
-        t3 += 1;
-    }
-}
-
-// As `fill_rivals` at level 3.
-pub fn fill_by_vectors(
-    h: &[u64],
-    k: &[u8],
-    s: &[u64],
-    x: &[u8; 16384],
-    width: usize,
-    w: &[u64],
-    v: &mut [u64],
-)
-    requires { ⌜ ToldByVectors (now h) (now k) (now s) (now x) width × Holds (now w) (writers (historyOf (now h))) × (length (now v) ≡ 256) ⌝ }
-    ensures { λ r. ⌜ Holds (now (v .exit)) (before (isRival (historyOf (now (h .entry))) 3)) ⌝ }
-{
-    bits::clear(v);
-    mark_by_vectors(h, k, s, x, width, w, v);
+    mark_rivals(h, k, s, x, width, w, v, level);
 }

@@ -50,6 +50,7 @@ module _ {f : List ℕ} {n : ℕ} {w : Words} {m : ℕ} {c : List ℕ} {width : 
     pub stuck : (k ≡ m → ⊥) → VectorsMade f n w c v v false
     stuck d =
         record {
+          room = g .empty .room;
           is =
               ap not
               (sym
@@ -106,6 +107,7 @@ module _ {f : List ℕ} {n : ℕ} {w : Words} {m : ℕ} {c : List ℕ} {width : 
         pub placed : VectorsMade f n w c v u true
         placed =
             record {
+              room = h .room;
               is = ap not (sym (no-cyclic (g .forces) free));
               vectors = λ _ t s ht hs. own-one (g .forces) t s (slot u t s) (vector t s ht hs);
               kept = λ e. absurd (clash refl e);

@@ -133,6 +133,7 @@ pub record VectorsGiven (f : List ℕ) (n : ℕ) (w : Words) (m : ℕ) (c : List
 
 -- and what it answers: every entry is told
 pub record VectorsMade (f : List ℕ) (n : ℕ) (w : Words) (c v u : List ℕ) (r : Bool) : Type 0 where
+  pub room : length u ≡ 16384
   pub is : r ≡ not (cyclic n (pairOf f))
   pub vectors : r ≡ true → (t s : ℕ) → t < 128 → s < 128 → slot u t s ≡ withOwn (inWords w) (columnOf c) (latest n (columnOf c) (pairOf f)) t s
   pub kept : r ≡ false → u ≡ v

@@ -119,8 +119,8 @@ pub fn fill_vectors(
 // ── asking ──
 
 // The rows of f that row t of v names, joined.
-pub fn known(f: &[u64], v: &[u8; 16384], t: usize, width: usize) -> Words
-    requires { ⌜ (length (now f) ≡ 256) × (t < 128) × (width ≤ 128) × Small (now v) t ⌝ }
+pub fn known(f: &[u64], v: &[u8], t: usize, width: usize) -> Words
+    requires { ⌜ (length (now f) ≡ 256) × (length (now v) ≡ 16384) × (t < 128) × (width ≤ 128) × Small (now v) t ⌝ }
     ensures { λ r. ⌜ Joined (now (f .entry)) (now (v .entry)) t width r ⌝ }
 {
     let mut lo = 0;

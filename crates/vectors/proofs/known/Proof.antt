@@ -11,28 +11,28 @@ abbrev μ-loop : tie.MeasureT-loop
 μ-loop f v t width lo₀ hi₀ s₀ lo hi s = width - s
 
 cast-x : tie.Need-cast-x Inv-loop μ-loop
-cast-x c = let l = c .before .before in omega (arith, entry-small (l .loop .s) (omega arith) (l .before .pre .3))
+cast-x c = let l = c .before .before in omega (arith, entry-small (l .loop .s) (omega arith) (l .before .pre .4))
 
 mul-lo : tie.Need-mul-lo Inv-loop μ-loop
-mul-lo c = let l = c .before .before in omega (arith, entry-small (l .loop .s) (omega arith) (l .before .pre .3))
+mul-lo c = let l = c .before .before in omega (arith, entry-small (l .loop .s) (omega arith) (l .before .pre .4))
 
 mul-lo-2 : tie.Need-mul-lo-2 Inv-loop μ-loop
-mul-lo-2 c = let l = c .before .before in omega (arith, entry-small (l .loop .s) (omega arith) (l .before .pre .3))
+mul-lo-2 c = let l = c .before .before in omega (arith, entry-small (l .loop .s) (omega arith) (l .before .pre .4))
 
 shared-slice-read-lo : tie.Need-shared-slice-read-lo Inv-loop μ-loop
-shared-slice-read-lo c = let l = c .before .before .before in omega (arith, entry-small (l .loop .s) (omega arith) (l .before .pre .3))
+shared-slice-read-lo c = let l = c .before .before .before in omega (arith, entry-small (l .loop .s) (omega arith) (l .before .pre .4))
 
 mul-hi : tie.Need-mul-hi Inv-loop μ-loop
-mul-hi c = let l = c .before .before .before in omega (arith, entry-small (l .loop .s) (omega arith) (l .before .pre .3))
+mul-hi c = let l = c .before .before .before in omega (arith, entry-small (l .loop .s) (omega arith) (l .before .pre .4))
 
 add-hi : tie.Need-add-hi Inv-loop μ-loop
-add-hi c = let l = c .before .before .before in omega (arith, entry-small (l .loop .s) (omega arith) (l .before .pre .3))
+add-hi c = let l = c .before .before .before in omega (arith, entry-small (l .loop .s) (omega arith) (l .before .pre .4))
 
 mul-hi-2 : tie.Need-mul-hi-2 Inv-loop μ-loop
-mul-hi-2 c = let l = c .before .before .before in omega (arith, entry-small (l .loop .s) (omega arith) (l .before .pre .3))
+mul-hi-2 c = let l = c .before .before .before in omega (arith, entry-small (l .loop .s) (omega arith) (l .before .pre .4))
 
 shared-slice-read-hi : tie.Need-shared-slice-read-hi Inv-loop μ-loop
-shared-slice-read-hi c = let l = c .before .before .before .before in omega (arith, entry-small (l .loop .s) (omega arith) (l .before .pre .3))
+shared-slice-read-hi c = let l = c .before .before .before .before in omega (arith, entry-small (l .loop .s) (omega arith) (l .before .pre .4))
 
 pub known-spec : {M : Type 1} → statement M
 known-spec =

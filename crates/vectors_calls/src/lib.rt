@@ -114,7 +114,7 @@ fn entry_for(h: &[u64], p: &[u8; 128], x: &[u8; 16384], t: usize, a: usize) -> u
     x[128 * t + c[a] as usize] as usize
 }
 
-// What a transaction's vector has for a session; where basic pairs form a cycle there are no vectors.
+// What a transaction's vector has for a session; where basic pairs form a cycle no vectors are made.
 pub enum Entry {
     Refused(u8, usize),
     Cycle,

@@ -1,10 +1,10 @@
 //! Vectors: "for each transaction, the latest known transaction of every session".
 //!
 //! The sources keep one for each transaction of the graph that sessions and reads
-//! make. "Intuitively, Vec\[t\] encodes the set of transactions that can reach t", and
-//! "t2 is reachable from t1 if and only if Vec\[t1\] ⊑ Vec\[t2\]", entry by entry. There
-//! a transaction has itself in its own vector; in the request's words a transaction
-//! knows those that lead to it. Both readings are here: see [`Vectors::with_own`].
+//! make, and take its vector for all that leads to it: one leads to another if its
+//! vector is at most the other's, entry by entry, and only then. There a transaction
+//! has itself in its own vector; in the request's words a transaction knows those that
+//! lead to it. Both readings are here: see [`Vectors::with_own`].
 //!
 //! The judge has no use for them. [`crate::graph`] tells in its own way what leads to
 //! what, and vectors must say the same of any two different transactions besides 0.
@@ -141,8 +141,8 @@ impl Vectors {
     }
 
     /// Those that tell a transaction what they know, with their sessions: the one right
-    /// before it in its own session, "its immediate predecessor", and those of other
-    /// sessions that stand before it, its sources.
+    /// before it in its own session, and those of other sessions that stand before it,
+    /// its sources.
     fn tellers(&self, t: u8, pairs: &BasicPairs) -> Vec<(u8, u16)> {
         let own = self.0[&t].session;
         let (of_session, mut tellers): (Vec<_>, Vec<_>) = self

@@ -43,7 +43,7 @@ pub record Say (h : History) (v : ℕ → ℕ → ℕ) (a b : ℕ) : Type 0 wher
   pub member : Member h a
   pub at-most : a ≤ v b (tx h a .session)
 
--- as the sources do: "t2 is reachable from t1 if and only if Vec[t1] ⊑ Vec[t2]", and "Vectors are compared element-wise"
+-- as the sources do: Vec[a] ⊑ Vec[b], no entry of a's vector being above that of b's
 abbrev pub AtMost : (ℕ → ℕ → ℕ) → ℕ → ℕ → Type 0
 AtMost v a b = (s : ℕ) → v a s ≤ v b s
 

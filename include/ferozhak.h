@@ -1,11 +1,12 @@
-/* Ferozhak for C: judges a trace of transactions at one level, and says whether what was recorded may be promoted.
-   `rt staticlib ferozhak` proves the library and writes it to target/staticlib/libferozhak.a, for x86-64; examples/daemon.c
-   shows both calls at work. docs/FORMAT.md has the trace and the refusals, docs/READING.md the kinds and the reasons.
+/* Ferozhak for C: judges a trace of transactions at one level, and says whether what was recorded may be promoted, or
+   whether an order that somebody claims is lawful. `rt staticlib ferozhak` proves the library and writes it to
+   target/staticlib/libferozhak.a, for x86-64; examples/daemon.c shows the first two calls at work. docs/FORMAT.md has the
+   trace and the refusals, docs/READING.md the kinds and the reasons.
 
-   Threads: neither call keeps anything, allocates, or uses global data. Any number of threads may call at once.
-   Overlap: no two of the buffers may overlap, nor may any of them overlap the trace.
-   Stack:   a thread whose stack has FEROZHAK_STACK bytes can make either call.
-   Empty:   for an empty buffer or trace the length is 0 and the pointer is any that is not NULL. */
+   Threads: no call keeps anything, allocates, or uses global data. Any number of threads may call at once.
+   Overlap: no two of the buffers may overlap, nor may any of them overlap the trace or the claim.
+   Stack:   a thread whose stack has FEROZHAK_STACK bytes can make any of the calls.
+   Empty:   for an empty buffer, trace or claim the length is 0 and the pointer is any that is not NULL. */
 #ifndef FEROZHAK_H
 #define FEROZHAK_H
 
@@ -19,7 +20,7 @@ extern "C" {
 /* The version of this header and of the archive that the same sources give. The first number grows where a program that
    keeps to this header would have to be changed, or would get another answer; the second where something is added. */
 #define FEROZHAK_VERSION_MAJOR 1
-#define FEROZHAK_VERSION_MINOR 0
+#define FEROZHAK_VERSION_MINOR 1
 
 /* What ferozhak_decide answers. 0 is none of them, so a variable that was never set promotes nothing. All three are true:
    compare with FEROZHAK_PROMOTE, never test for truth. */
@@ -27,6 +28,16 @@ enum {
     FEROZHAK_PROMOTE = 1, /* the level accepts the trace */
     FEROZHAK_HOLD = 2,    /* the level rejects it */
     FEROZHAK_NO_TRACE = 3 /* the call is refused */
+};
+
+/* What ferozhak_claim answers. 0 is none of them. All five are true: compare with FEROZHAK_CLAIM_YES, never test for
+   truth. */
+enum {
+    FEROZHAK_CLAIM_YES = 1,        /* the claimed order is lawful at the level */
+    FEROZHAK_CLAIM_NO_READ = 2,    /* a read is unclean, so no order is */
+    FEROZHAK_CLAIM_NO_MEMBERS = 3, /* it has not just the committed transactions, each once, or 0 is not first */
+    FEROZHAK_CLAIM_NO_PAIR = 4,    /* a forced pair stands the wrong way round */
+    FEROZHAK_CLAIM_REFUSED = 5     /* the call is refused */
 };
 
 /* The levels, from the weakest to the strongest. */
@@ -43,6 +54,7 @@ enum {
     FEROZHAK_PAIRS_MAX = 65024,
     FEROZHAK_ORDER_MAX = 128,
     FEROZHAK_COUNTS = 20,
+    FEROZHAK_CLAIM_NUMBERS = 20,
     FEROZHAK_TRACE_MAX = 32768,
     FEROZHAK_STACK = 65536
 };
@@ -54,6 +66,15 @@ enum {
     FEROZHAK_COUNT_ORDER = 8,    /* length of the order */
     FEROZHAK_COUNT_REFUSAL = 12, /* number of the refusal, FEROZHAK_REFUSED_.. */
     FEROZHAK_COUNT_PLACE = 16    /* place of the refusal */
+};
+
+/* The numbers that come with the answer to a claim: where each begins. They have 4 bytes each. */
+enum {
+    FEROZHAK_CLAIM_OPERATION = 0, /* operation number of the read */
+    FEROZHAK_CLAIM_FIRST = 4,     /* the pair's first */
+    FEROZHAK_CLAIM_SECOND = 8,    /* the pair's second */
+    FEROZHAK_CLAIM_REFUSAL = 12,  /* number of the refusal, FEROZHAK_REFUSED_.. */
+    FEROZHAK_CLAIM_PLACE = 16     /* place of the refusal */
 };
 
 /* A finding, which is an unclean read: its size, and where its parts begin. */
@@ -130,6 +151,21 @@ uint32_t ferozhak_decide(const uint8_t *trace, size_t trace_length, uint32_t lev
 /* Answers the strongest level that accepts the trace, FEROZHAK_TCC, FEROZHAK_RA or FEROZHAK_RC; 0 if none does, or if the
    bytes are no trace. */
 uint32_t ferozhak_strongest(const uint8_t *trace, size_t trace_length);
+
+/* Says whether a claimed order, a byte for each transaction, is lawful at a level: FEROZHAK_CLAIM_YES exactly if all reads
+   are clean, every committed transaction stands in it once and no other, 0 first, and each forced pair stands the right way
+   round. A no names the first of these that fails, in this order: FEROZHAK_CLAIM_NO_READ with the first unclean read,
+   FEROZHAK_CLAIM_NO_MEMBERS, FEROZHAK_CLAIM_NO_PAIR with the pair that is least by its first and then by its second.
+
+   claim     Any bytes, of any length. The order that ferozhak_decide writes on promote gets a yes at that level.
+   numbers   Always, five numbers, little-endian, 0 where they do not apply. FEROZHAK_CLAIM_NUMBERS bytes; in a shorter
+             buffer those that fit whole. Bytes behind what is written stay as they are.
+
+   FEROZHAK_CLAIM_REFUSED comes before all else: a level that is none of the three, then bytes that are no trace, with
+   refusals up to FEROZHAK_REFUSED_BEHIND_END. */
+uint32_t ferozhak_claim(const uint8_t *trace, size_t trace_length, uint32_t level,
+                        const uint8_t *claim, size_t claim_length,
+                        uint8_t *numbers, size_t numbers_length);
 
 #ifdef __cplusplus
 }

@@ -24,6 +24,13 @@ use Rattle.alike_calls.specs.Alike.{SameOutcome, JudgedBoth}
 
 -- ── any call ──
 
+-- what holds of any two readings whose histories differ by the numbers of operations, whatever the numbers of notes, holds of a trace and of what it was moved to
+pub moved-readings : {s t : List ℕ} {second : Bool} → Moved second s t → (P : Reading → Reading → Type 0)
+    → ((to back : ℕ → ℕ) (h g : History) → LawfulHistory h → Renumbers to back h g → (n k : ℕ) → P (read h n) (read g k)) → P (reading s) (reading t)
+moved-readings {s} {t} m P any =
+    rw (read-has (m .reads), reads-iff t (m .moved-history) 0 .1 (m .moved-reads))
+    (any _ _ (m .history) (m .moved-history) (lawful-history (m .reads)) (m .in-blocks .renumbers) (m .reads .notes) 0)
+
 -- f, which is made of a reading, hangs on its history alone: neither on the number of notes nor on the numbers of operations
 pub record OfHistory {A : Type 0} (f : Reading → A) : Type 0 where
   pub any-notes : (h : History) (n m : ℕ) → f (read h n) ≡ f (read h m)
@@ -32,11 +39,7 @@ pub record OfHistory {A : Type 0} (f : Reading → A) : Type 0 where
 -- then answers r and q that are made so of traces that are alike are the same
 module _ {s t : List ℕ} {A : Type 0} {f : Reading → A} (w : OfHistory f) {r q : A} (x : r ≡ f (reading s)) (y : q ≡ f (reading t)) where
   pub same-moved : {second : Bool} → Moved second s t → q ≡ r
-  same-moved m =
-      let e : f (reading t) ≡ f (reading s) =
-      rw (read-has (m .reads), reads-iff t (m .moved-history) 0 .1 (m .moved-reads))
-      (w .any-numbers (lawful-history (m .reads)) (m .in-blocks .renumbers) 0 (m .reads .notes)) in
-      y ∙ e ∙ sym x
+  same-moved m = y ∙ moved-readings m (λ a b. f b ≡ f a) (λ to back h g ok d n k. w .any-numbers ok d k n) ∙ sym x
 
   pub same-noted : ButForNotes s t → q ≡ r
   same-noted n = y ∙ notes-reading n f (w .any-notes) ∙ sym x

@@ -1,4 +1,5 @@
 pub mod Alike
 pub mod Filled
 pub mod Decided
+pub mod Claimed
 pub mod Vectors

@@ -20,10 +20,15 @@ use Rattle.deciding.specs.Deciding.{decisionNo}
 use Rattle.deciding.specs.declared.Decision.the-variants.{Hold}
 use Rattle.decided.specs.Decides.{Decides}
 use Rattle.decided.specs.Strongest.{StrongestIs}
+use Rattle.claims_rules.specs.Claims.{Reply, no-read, reply}
+use Rattle.claims_rules.specs.Numbers.{replyNo}
+use Rattle.claims_laws.specs.Claims.{Claims}
+use Rattle.claims_laws.specs.Told.{ClaimNumbered}
 use Rattle.vectors_calls.specs.Calls.{SaysLeads, TellsLatest}
 use Rattle.alike_calls.specs.declared.TwoAnswers.{TwoAnswers}
 use Rattle.alike_calls.specs.declared.TwoLengths.{TwoLengths}
 use Rattle.alike_calls.specs.declared.TwoNumbers.{TwoNumbers}
+use Rattle.alike_calls.specs.declared.TwoClaims.{TwoClaims}
 use Rattle.alike_calls.specs.declared.TwoLedBy.{TwoLedBy}
 use Rattle.alike_calls.specs.declared.TwoEntries.{TwoEntries}
 use Rattle.alike_calls.specs.declared.TwoFills.{TwoFills}
@@ -84,6 +89,28 @@ pub record StrongestBoth (s t : List ℕ) (r : TwoNumbers) : Type 0 where
   pub other : StrongestIs t (r .other)
   pub was-moved : (second : Bool) → Moved second s t → r .other ≡ r .one
   pub but-for-notes : ButForNotes s t → r .other ≡ r .one
+
+-- ── orders from elsewhere ──
+-- o is the claim.
+
+-- two replies, of a trace and of what it was moved to: "findings may differ only in operation numbers, so in their order", so the first unclean read may be
+-- another; everything else is the same
+pub data SaidAlike : Reply → Reply → Type 0 where
+  same-reply : {x : Reply} → SaidAlike x x
+  both-reads : {i j : ℕ} → SaidAlike (no-read i) (no-read j)
+
+pub record ClaimedBoth (s t : List ℕ) (level : ℕ) (o : List ℕ) (r : TwoClaims) : Type 0 where
+  pub one : Claims s level o (reply (r .one))
+  pub other : Claims t level o (reply (r .other))
+  pub was-moved : (second : Bool) → Moved second s t → SaidAlike (reply (r .one)) (reply (r .other))
+  pub but-for-notes : ButForNotes s t → r .other ≡ r .one
+
+-- .. for C, where N is what became of the slice ns: only what is put for an unclean read may differ
+pub record NumberedBoth (s t : List ℕ) (level : ℕ) (o ns ns' : List ℕ) (r : TwoNumbers) (N N' : List ℕ) : Type 0 where
+  pub one : ClaimNumbered s level o ns (r .one) N
+  pub other : ClaimNumbered t level o ns' (r .other) N'
+  pub was-moved : ns ≡ ns' → (second : Bool) → Moved second s t → (r .other ≡ r .one) × (((i : ℕ) → r .one ≡ replyNo (no-read i) → ⊥) → N' ≡ N)
+  pub but-for-notes : ns ≡ ns' → ButForNotes s t → (r .other ≡ r .one) × (N' ≡ N)
 
 -- ── the calls for vectors ──
 

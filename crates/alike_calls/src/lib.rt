@@ -1,6 +1,7 @@
 // A call made on two traces that are alike: the one is the other, moved to another edition; or they differ only in their notes. Each function makes one call on
 // both, knows nothing of it but its contract, and promises what document 02 says of it for each trace, whatever they are, and what the two have in common.
-ghost use Rattle.alike_calls.specs.Alike.{JudgedBoth, PrintedBoth, ListedBoth, RewrittenBoth, WholeBoth, MovedBoth, TalliedBoth, DecidedBoth, StrongestBoth, LedBoth, LatestBoth};
+ghost use Rattle.alike_calls.specs.Alike.{JudgedBoth, PrintedBoth, ListedBoth, RewrittenBoth, WholeBoth, MovedBoth, TalliedBoth, DecidedBoth, StrongestBoth, ClaimedBoth, NumberedBoth, LedBoth, LatestBoth};
+use claims_rules::ClaimAnswer;
 use moving::Tallied;
 use rules::Answer;
 use vectors_calls::Entry;
@@ -90,6 +91,44 @@ pub fn strongest_both(trace: &[u8], other: &[u8]) -> TwoNumbers
 {
     let one = ferozhak::ferozhak_strongest(trace);
     let other = ferozhak::ferozhak_strongest(other);
+    TwoNumbers {
+        one: one,
+        other: other,
+    }
+}
+
+// ── orders from elsewhere ──
+
+pub struct TwoClaims {
+    pub one: ClaimAnswer,
+    pub other: ClaimAnswer,
+}
+
+// One order, claimed for two traces at one level.
+pub fn claimed_both(trace: &[u8], other: &[u8], level: u8, order: &[u8]) -> TwoClaims
+    ensures { λ r. ⌜ ClaimedBoth (now (trace .entry)) (now (other .entry)) level (now (order .entry)) r ⌝ }
+{
+    let one = claims::claim(trace, level, order);
+    let other = claims::claim(other, level, order);
+    TwoClaims {
+        one: one,
+        other: other,
+    }
+}
+
+// .. by the call for C.
+pub fn claims_numbered_both(
+    trace: &[u8],
+    other: &[u8],
+    level: u32,
+    claim: &[u8],
+    numbers: &mut [u8],
+    numbers2: &mut [u8],
+) -> TwoNumbers
+    ensures { λ r. ⌜ NumberedBoth (now (trace .entry)) (now (other .entry)) level (now (claim .entry)) (now (numbers .entry)) (now (numbers2 .entry)) r (now (numbers .exit)) (now (numbers2 .exit)) ⌝ }
+{
+    let one = ferozhak::ferozhak_claim(trace, level, claim, numbers);
+    let other = ferozhak::ferozhak_claim(other, level, claim, numbers2);
     TwoNumbers {
         one: one,
         other: other,

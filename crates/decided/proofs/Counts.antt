@@ -1,4 +1,4 @@
--- The counts that are put are those that the document says, and there is one way to put them.
+-- The five numbers that are put are those that the document says, and there is one way to put them.
 use Prim.Native.Nat.{ℕ, _+_, _*_, _/_, _<_, _≤_}
 use mathlib.Core.Path.{_≡_, refl, ap, sym, _∙_}
 use mathlib.Core.List.{List, [], _++_}
@@ -10,9 +10,9 @@ use Rattle.base.proofs.Tests.{split}
 use Rattle.rules.specs.Numbers.{le, bytes, over}
 use Rattle.rules.specs.Outcome.{Report}
 use Rattle.rules.proofs.Numbers.{le-behind, le-bytes, bytes-each, spelt}
-use Rattle.deciding.specs.Deciding.{fiveBytes, countBytes, wholeCounts, countsPut}
-use Rattle.deciding.proofs.Deciding.{counts-long, whole-some, whole-all}
-use Rattle.decided.specs.Decides.{CountsTold}
+use Rattle.deciding.specs.Deciding.{fiveBytes, countBytes, wholeCounts, wholePut, countsPut}
+use Rattle.deciding.proofs.Deciding.{five-long, whole-some, whole-all}
+use Rattle.decided.specs.Decides.{FiveTold, CountsTold}
 
 -- ── what is put ──
 
@@ -77,24 +77,30 @@ whole-most n =
     (λ g. let e = whole-all n g in let q : wholeCounts n / 4 ≡ 5 = omega arith in rw q (omega arith, omega arith, inl refl, omega arith)) (split n 20)
 
 -- what is put is told
+module _ (f p o n at : ℕ) where
+  pub five-told : (cs : List ℕ) → f < 4294967296 → p < 4294967296 → o < 4294967296 → n < 4294967296 → at < 4294967296
+      → FiveTold cs (wholePut (fiveBytes f p o n at) cs) f p o n at
+  unfolding wholePut
+  five-told cs a b c d e =
+      let w = whole-most (length cs) in
+      record {
+        five = fiveBytes f p o n at;
+        long = five-long f p o n at;
+        each-byte = five-each f p o n at;
+        first = five-1 f p o n at a;
+        second = five-2 f p o n at b;
+        third = five-3 f p o n at c;
+        fourth = five-4 f p o n at d;
+        fifth = five-5 f p o n at e;
+        whole = wholes (length cs);
+        fit = w .1;
+        most = (w .2, w .3);
+        is = ap (λ (k : ℕ). over (take k (fiveBytes f p o n at)) cs) (sym (w .0));
+      }
+
 pub counts-told : (r : Report) (cs : List ℕ) → InFourBytes r → CountsTold cs (countsPut r cs) (r .findings) (r .pairs) (r .order) (r .no) (r .place)
 unfolding countsPut countBytes
-counts-told r cs s =
-    let w = whole-most (length cs) in
-    record {
-      five = countBytes r;
-      long = counts-long r;
-      each-byte = five-each (r .findings) (r .pairs) (r .order) (r .no) (r .place);
-      findings = five-1 (r .findings) (r .pairs) (r .order) (r .no) (r .place) (s .findings);
-      pairs = five-2 (r .findings) (r .pairs) (r .order) (r .no) (r .place) (s .pairs);
-      order = five-3 (r .findings) (r .pairs) (r .order) (r .no) (r .place) (s .order);
-      refusal = five-4 (r .findings) (r .pairs) (r .order) (r .no) (r .place) (s .no);
-      place = five-5 (r .findings) (r .pairs) (r .order) (r .no) (r .place) (s .place);
-      whole = wholes (length cs);
-      fit = w .1;
-      most = (w .2, w .3);
-      is = ap (λ (k : ℕ). over (take k (countBytes r)) cs) (sym (w .0));
-    }
+counts-told r cs s = five-told (r .findings) (r .pairs) (r .order) (r .no) (r .place) cs (s .findings) (s .pairs) (s .order) (s .no) (s .place)
 
 -- ── one way ──
 
@@ -113,9 +119,9 @@ five-is s b e =
 one-whole : {l v w : ℕ} → 4 * v ≤ l → 4 * w ≤ l → (v ≡ 5) ⊎ (l < 4 * (v + 1)) → (w ≡ 5) ⊎ (l < 4 * (w + 1)) → v ≤ 5 → w ≤ 5 → v ≡ w
 one-whole a b x y c d = ⊎-elim (λ e. ⊎-elim (λ f. omega arith) (λ f. omega arith) y) (λ e. ⊎-elim (λ f. omega arith) (λ f. omega arith) y) x
 
-pub counts-one : {cs C D : List ℕ} {f p o n at : ℕ} → CountsTold cs C f p o n at → CountsTold cs D f p o n at → C ≡ D
-counts-one {cs} {f = f} {p} {o} {n} {at} x y =
-    let a : x .five ≡ fiveBytes f p o n at = rw (x .findings, x .pairs, x .order, x .refusal, x .place) at (five-is (x .five) (x .each-byte) (x .long)) in
-    let b : y .five ≡ fiveBytes f p o n at = rw (y .findings, y .pairs, y .order, y .refusal, y .place) at (five-is (y .five) (y .each-byte) (y .long)) in
+pub five-one : {cs C D : List ℕ} {f p o n at : ℕ} → FiveTold cs C f p o n at → FiveTold cs D f p o n at → C ≡ D
+five-one {cs} {f = f} {p} {o} {n} {at} x y =
+    let a : x .five ≡ fiveBytes f p o n at = rw (x .first, x .second, x .third, x .fourth, x .fifth) at (five-is (x .five) (x .each-byte) (x .long)) in
+    let b : y .five ≡ fiveBytes f p o n at = rw (y .first, y .second, y .third, y .fourth, y .fifth) at (five-is (y .five) (y .each-byte) (y .long)) in
     let w : x .whole ≡ y .whole = one-whole (x .fit) (y .fit) (x .most .0) (y .most .0) (x .most .1) (y .most .1) in
     x .is ∙ ap (λ (k : ℕ). over (take (4 * k) (x .five)) cs) w ∙ ap (λ (l : List ℕ). over (take (4 * y .whole) l) cs) (a ∙ sym b) ∙ sym (y .is)

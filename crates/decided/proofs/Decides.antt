@@ -20,7 +20,7 @@ use Rattle.demands.proofs.SomeJudge.{asDefined, as-defined}
 use Rattle.deciding.specs.Deciding.{decisionNo, decisionOf, countsPut, Decided, decidedAs, decidedBy, decided}
 use Rattle.deciding.specs.declared.Decision.the-variants.{Promote, Hold, NoTrace}
 use Rattle.decided.specs.Decides.{CountsTold, Decides}
-use Rattle.decided.proofs.Counts.{InFourBytes, counts-told, counts-one}
+use Rattle.decided.proofs.Counts.{InFourBytes, counts-told, five-one}
 use Rattle.decided.proofs.Room.{findings-most, pairs-most, order-most}
 
 module _ (s : List ℕ) (level : ℕ) (fs ps os : List ℕ) where
@@ -139,14 +139,14 @@ module _ (s : List ℕ) (level : ℕ) (fs ps os : List ℕ) where
       of : {R : Report} → Demanded R → (r ≡ q) × (F ≡ F') × (P ≡ P') × (O ≡ O') × (C ≡ C')
       of (accepted {n} a) =
           let w = order-written-one (x .on-promote a .0) (y .on-promote a .0) in
-          (x .promoted .1 (n, a) ∙ sym (y .promoted .1 (n, a)), w .0, w .1, w .2, counts-one (x .on-promote a .1) (y .on-promote a .1))
+          (x .promoted .1 (n, a) ∙ sym (y .promoted .1 (n, a)), w .0, w .1, w .2, five-one (x .on-promote a .1) (y .on-promote a .1))
       of (rejected {f} {p} a) =
           let w = lists-written-one (x .on-hold a .0) (y .on-hold a .0) in
-          (x .held .1 (f, p, a) ∙ sym (y .held .1 (f, p, a)), w .0, w .1, w .2, counts-one (x .on-hold a .1) (y .on-hold a .1))
+          (x .held .1 (f, p, a) ∙ sym (y .held .1 (f, p, a)), w .0, w .1, w .2, five-one (x .on-hold a .1) (y .on-hold a .1))
       of (refused {n} {p} a) =
           let v = x .on-refusal a in
           let w = y .on-refusal a in
-          (x .no-trace .1 (n, p, a) ∙ sym (y .no-trace .1 (n, p, a)), v .0 ∙ sym (w .0), v .1 ∙ sym (w .1), v .2 ∙ sym (w .2), counts-one (v .3) (w .3))
+          (x .no-trace .1 (n, p, a) ∙ sym (y .no-trace .1 (n, p, a)), v .0 ∙ sym (w .0), v .1 ∙ sym (w .1), v .2 ∙ sym (w .2), five-one (v .3) (w .3))
 
   -- two answers of one call that meet the demands give one decision
   pub demands-decide-one : (cs : List ℕ) (a b : Answer) (F P O F' P' O' : List ℕ) → Demands s level fs ps os a F P O → Demands s level fs ps os b F' P' O'

@@ -18,23 +18,26 @@ use Rattle.decided.specs.Strongest.{LevelAccepts}
 
 -- ── the counts ──
 
--- the slice that held cs holds C: findings, pairs, the order's length, the refusal's number and its place, in four bytes each, little-endian; as many as fit
--- whole, and behind them nothing changes
-pub record CountsTold (cs C : List ℕ) (f p o n at : ℕ) : Type 0 where
+-- the slice that held cs holds C: five numbers in four bytes each, little-endian; as many as fit whole, and behind them nothing changes
+pub record FiveTold (cs C : List ℕ) (a b c d e : ℕ) : Type 0 where
   -- all five, one behind the other
   pub five : List ℕ
   pub long : length five ≡ 20
   pub each-byte : (i : ℕ) → getD five i 0 < 256
-  pub findings : le 4 five 0 ≡ f
-  pub pairs : le 4 five 4 ≡ p
-  pub order : le 4 five 8 ≡ o
-  pub refusal : le 4 five 12 ≡ n
-  pub place : le 4 five 16 ≡ at
+  pub first : le 4 five 0 ≡ a
+  pub second : le 4 five 4 ≡ b
+  pub third : le 4 five 8 ≡ c
+  pub fourth : le 4 five 12 ≡ d
+  pub fifth : le 4 five 16 ≡ e
   -- how many fit: one more would not, or there is none
   pub whole : ℕ
   pub fit : 4 * whole ≤ length cs
   pub most : ((whole ≡ 5) ⊎ (length cs < 4 * (whole + 1))) × (whole ≤ 5)
   pub is : C ≡ over (take (4 * whole) five) cs
+
+-- findings, pairs, the order's length, the refusal's number and its place
+abbrev pub CountsTold : List ℕ → List ℕ → ℕ → ℕ → ℕ → ℕ → ℕ → Type 0
+CountsTold cs C f p o n at = FiveTold cs C f p o n at
 
 -- ── the call ──
 

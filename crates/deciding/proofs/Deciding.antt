@@ -11,9 +11,13 @@ use Rattle.deciding.specs.Deciding.{fiveBytes, countBytes, wholeCounts}
 -- ── the counts ──
 
 -- five numbers of four bytes
+pub five-long : (f p o n at : ℕ) → length (fiveBytes f p o n at) ≡ 20
+unfolding fiveBytes bytes
+five-long f p o n at = refl
+
 pub counts-long : (r : Report) → length (countBytes r) ≡ 20
-unfolding countBytes fiveBytes bytes
-counts-long r = refl
+unfolding countBytes
+counts-long r = five-long (r .findings) (r .pairs) (r .order) (r .no) (r .place)
 
 pub whole-some : (n : ℕ) → n < 20 → wholeCounts n ≡ 4 * (n / 4)
 unfolding wholeCounts

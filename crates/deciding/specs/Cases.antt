@@ -7,7 +7,7 @@ use lib.ListN.{length}
 use Rattle.rules.specs.Traces.{trace, opens, r, w, rOf, wOf, closesOf, note, whole, overlapping, T, U, read, pair, room}
 use Rattle.rules.specs.Edges.{as-they-should}
 use Rattle.rules.specs.Cases.{swapped}
-use Rattle.deciding.specs.Deciding.{decisionNo, decisionOf, fiveBytes, countBytes, wholeCounts, countsPut, Decided, decidedAs, decidedBy, decided, strongestNo, acceptedRead, isAcceptedAt, strongest}
+use Rattle.deciding.specs.Deciding.{decisionNo, decisionOf, fiveBytes, countBytes, wholeCounts, wholePut, countsPut, Decided, decidedAs, decidedBy, decided, strongestNo, acceptedRead, isAcceptedAt, strongest}
 
 -- ── traces ──
 
@@ -122,7 +122,7 @@ nowDecided x =
 
 -- this statement carries along what it unfolds
 unfoldable pub as-decided : map nowDecided decideTable ≡ decideTable
-unfolding as-they-should decisionNo decisionOf fiveBytes countBytes wholeCounts countsPut decidedBy decided strongestNo acceptedRead isAcceptedAt strongest
+unfolding as-they-should decisionNo decisionOf fiveBytes countBytes wholeCounts wholePut countsPut decidedBy decided strongestNo acceptedRead isAcceptedAt strongest
 as-decided = refl
 
 -- ── the strongest level ──

@@ -39,9 +39,13 @@ countBytes r = fiveBytes (r .findings) (r .pairs) (r .order) (r .no) (r .place)
 unfoldable pub wholeCounts : ℕ → ℕ
 wholeCounts n = pick (ltb n 20) (4 * (n / 4)) 20
 
--- what the slice then holds: bytes behind those counts do not change
+-- what the slice then holds, where b are five numbers: bytes behind those that fit whole do not change
+unfoldable pub wholePut : List ℕ → List ℕ → List ℕ
+wholePut b cs = over (take (wholeCounts (length cs)) b) cs
+
+-- .. of the counts
 unfoldable pub countsPut : Report → List ℕ → List ℕ
-countsPut r cs = over (take (wholeCounts (length cs)) (countBytes r)) cs
+countsPut r cs = wholePut (countBytes r) cs
 
 -- the number that is answered, and what each of the four buffers then holds
 pub record Decided : Type 0 where

@@ -7,10 +7,9 @@ use lib.ListN.{length, take}
 use lib.Seq.{take-take}
 use Rattle.base.proofs.Fill.{Appended, appended-then, appended-front}
 use Rattle.rules.specs.Numbers.{bytes, over}
-use Rattle.rules.specs.Outcome.{Report}
 use Rattle.rules.proofs.Numbers.{bytes-length, appended-over}
-use Rattle.deciding.specs.Deciding.{fiveBytes, countBytes, wholeCounts, countsPut}
-use Rattle.deciding.proofs.Deciding.{counts-long, whole-some, whole-all}
+use Rattle.deciding.specs.Deciding.{fiveBytes, wholeCounts, wholePut}
+use Rattle.deciding.proofs.Deciding.{whole-some, whole-all}
 
 -- a number that was put ends four bytes further on
 pub four-on : (n : ℕ) {o b : List ℕ} {at r : ℕ} → Appended o at b r (bytes 4 n) → r ≡ at + 4
@@ -30,10 +29,10 @@ pub whole-from : (n : ℕ) → 20 ≤ n → (20 ≡ wholeCounts n) × (20 ≤ 20
 whole-from n l = (omega (arith, whole-all n l), omega arith, l)
 
 -- all were put at the front of z, and the first n bytes of that at the front of cs
-pub counts-put : (r : Report) {z a cs C : List ℕ} {e n : ℕ} → Appended z 0 a e (countBytes r) → n ≡ wholeCounts (length cs) → n ≤ 20 → Appended cs 0 C n (take n a)
-    → C ≡ countsPut r cs
-unfolding countsPut
-counts-put r {z} {a} {cs} {C} {e} {n} x w l y =
-    let f : n ≤ e = omega (arith, x .end, counts-long r) in
-    let t : take n a ≡ take n (countBytes r) = sym (take-take n e a f) ∙ ap (take n) (appended-front x) in
-    appended-over y ∙ ap (λ (q : List ℕ). over q cs) (t ∙ ap (λ (k : ℕ). take k (countBytes r)) w)
+pub whole-put : {q : List ℕ} → length q ≡ 20 → {z a cs C : List ℕ} {e n : ℕ} → Appended z 0 a e q → n ≡ wholeCounts (length cs) → n ≤ 20
+    → Appended cs 0 C n (take n a) → C ≡ wholePut q cs
+unfolding wholePut
+whole-put {q} long {z} {a} {cs} {C} {e} {n} x w l y =
+    let f : n ≤ e = omega (arith, x .end, long) in
+    let t : take n a ≡ take n q = sym (take-take n e a f) ∙ ap (take n) (appended-front x) in
+    appended-over y ∙ ap (λ (v : List ℕ). over v cs) (t ∙ ap (λ (k : ℕ). take k q) w)

@@ -1,4 +1,4 @@
--- The level as a byte: the judge says the same of it.
+-- The level as a byte: the judge, and whoever judges a claim, says the same of it.
 use Prim.Native.Nat.{ℕ, _<_, _≤_}
 use mathlib.Core.Path.{_≡_, ap, sym, _∙_}
 use mathlib.Core.List.{List}
@@ -9,8 +9,12 @@ use Rattle.base.proofs.Tests.{split, pick-on, pick-off}
 use Rattle.rules.specs.Outcome.{Outcome, outcome, reported, judged}
 use Rattle.rules.specs.declared.Answer.{Answer}
 use Rattle.rules.proofs.Outcome.{judged-no-level}
-use Rattle.deciding.specs.Deciding.{decisionNo, decisionOf, countsPut, decidedAs, decidedBy, decided}
+use Rattle.deciding.specs.Deciding.{decisionNo, decisionOf, wholePut, countsPut, decidedAs, decidedBy, decided}
 use Rattle.deciding.specs.declared.Decision.{Decision}
+use Rattle.claims_rules.specs.Claims.{Reply, reply, claimed}
+use Rattle.claims_rules.specs.Numbers.{replyNo, replyBytes, numberedAs, numbered}
+use Rattle.claims_rules.specs.declared.ClaimAnswer.{ClaimAnswer}
+use Rattle.claims_rules.proofs.Claims.{claimed-no-level}
 use Rattle.ferozhak.specs.Calls.{levelByte}
 
 pub byte-on : (n : ℕ) → n < 4 → levelByte n ≡ n
@@ -37,3 +41,19 @@ pub decided-at : (s : List ℕ) (n : ℕ) (fs ps os cs : List ℕ) (a : Answer) 
 unfolding decided decidedBy
 decided-at s n fs ps os cs a e x c d r =
     rw (r, d, c) (ap (λ (o : Outcome). decidedBy o cs) (rw e at x ∙ same-level s n fs ps os))
+
+-- ── a claim ──
+
+same-claim : (s : List ℕ) (n : ℕ) (o : List ℕ) → claimed s (levelByte n) o ≡ claimed s n o
+same-claim s n o =
+    ⊎-elim (λ l. ap (λ (k : ℕ). claimed s k o) (byte-on n l))
+    (λ g.
+    ap (λ (k : ℕ). claimed s k o) (byte-off n g) ∙ claimed-no-level s 0 o (λ x. omega (arith, x .0)) ∙ sym (claimed-no-level s n o (λ x. omega (arith, x .1))))
+    (split n 4)
+
+-- so what is said is said at the level that was asked for
+pub claimed-at : (s : List ℕ) (n : ℕ) (o ns : List ℕ) (a : ClaimAnswer) {b : ℕ} {N : List ℕ} {r : ℕ} → b ≡ levelByte n → reply a ≡ claimed s b o
+    → N ≡ wholePut (replyBytes (reply a)) ns → r ≡ replyNo (reply a) → numberedAs r N ≡ numbered s n o ns
+unfolding numbered
+claimed-at s n o ns a e x c r =
+    rw (r, c) (ap (λ (q : Reply). numberedAs (replyNo q) (wholePut (replyBytes q) ns)) (rw e at x ∙ same-claim s n o))

@@ -1,4 +1,4 @@
-// The calls for the index daemon, a C program: numbers and byte slices in, a number out. They know nothing of the judge but its contracts.
+// The calls for C programs, the index daemon first: numbers and byte slices in, a number out. They know nothing of the judge and of claims but their contracts.
 // include/ferozhak.h has them as C sees them.
 ghost use mathlib.Core.Path.{_≡_};
 ghost use Prim.Native.Nat.{ℕ, _≤_};
@@ -6,10 +6,13 @@ ghost use mathlib.Core.List.{List};
 ghost use lib.ListN.{length};
 ghost use Rattle.base.proofs.Fill.{Appended};
 ghost use Rattle.rules.specs.Outcome.{reported};
-ghost use Rattle.deciding.specs.Deciding.{decisionNo, decisionOf, wholeCounts, fiveBytes, countBytes, countsPut, decidedAs, decided, strongestNo, isAcceptedAt, strongest};
+ghost use Rattle.deciding.specs.Deciding.{decisionNo, decisionOf, wholeCounts, wholePut, fiveBytes, countBytes, countsPut, decidedAs, decided, strongestNo, isAcceptedAt, strongest};
+ghost use Rattle.claims_rules.specs.Claims.{reply};
+ghost use Rattle.claims_rules.specs.Numbers.{replyNo, replyBytes, numberedAs, numbered};
 ghost use Rattle.pairs.specs.Pairs.{Ready};
-ghost use Rattle.judging.specs.Judging.{ReadInto, AtLevel};
+ghost use Rattle.forcing.specs.Forcing.{ReadInto, AtLevel};
 ghost use Rattle.ferozhak.specs.Calls.{levelByte, seenAt, withoutLists, belowCausal};
+use claims_rules::ClaimAnswer;
 use deciding::Decision;
 use deciding::Strongest;
 use rules::Answer;
@@ -99,7 +102,7 @@ fn spell_counts(answer: Answer, out: &mut [u8]) -> usize
     }
 }
 
-// How many of n bytes get a count.
+// How many of n bytes get a number.
 fn whole_counts(n: usize) -> usize
     ensures { λ r. ⌜ (r ≡ wholeCounts n) × (r ≤ 20) × (r ≤ n) ⌝ }
 {
@@ -146,7 +149,7 @@ fn strongest_of(trace: &[u8]) -> Strongest
     // The words of a history's table, and a byte for each number that an operation can have.
     let mut h = [0u64; 2306];
     let mut k = [0u8; 1025];
-    let read = judging::prepare(trace, &mut h, &mut k);
+    let read = forcing::prepare(trace, &mut h, &mut k);
     match read {
         Out::Bad(_, _) => Strongest::NoLevel,
         Out::Good(_) => strongest_of_history(&h, &k),
@@ -225,4 +228,52 @@ fn without_lists(no: u8) -> Seen
         return Seen::Nowhere;
     }
     Seen::NotHere
+}
+
+// ── the third call ──
+
+// Says of an order that is claimed for the trace at a level, one byte a transaction, 1 yes, 2 no for a read, 3 no for its members, 4 no for a pair, or 5 refused.
+// The slice gets five numbers of four bytes, little-endian, as many as fit whole: the read's operation number, the pair's first and second, the refusal's number
+// and its place.
+#[no_mangle]
+pub extern "C" fn ferozhak_claim(trace: &[u8], level: u32, claim: &[u8], numbers: &mut [u8]) -> u32
+    ensures { λ r. ⌜ numberedAs r (now (numbers .exit)) ≡ numbered (now (trace .entry)) level (now (claim .entry)) (now (numbers .entry)) ⌝ }
+{
+    let answer = claims::claim(trace, level_byte(level), claim);
+    put_numbers(answer, numbers);
+    answer_number(answer)
+}
+
+fn answer_number(answer: ClaimAnswer) -> u32
+    ensures { λ r. ⌜ r ≡ replyNo (reply answer) ⌝ }
+{
+    match answer {
+        ClaimAnswer::Yes => 1,
+        ClaimAnswer::NoRead(_) => 2,
+        ClaimAnswer::NoMembers => 3,
+        ClaimAnswer::NoPair(_, _) => 4,
+        ClaimAnswer::Refused(_, _) => 5,
+    }
+}
+
+// "0 where they do not apply"
+fn spell_numbers(answer: ClaimAnswer, out: &mut [u8]) -> usize
+    requires { ⌜ 20 ≤ length (now out) ⌝ }
+    ensures { λ r. ⌜ Appended (now (out .entry)) 0 (now (out .exit)) r (replyBytes (reply answer)) ⌝ }
+{
+    match answer {
+        ClaimAnswer::Yes => spell(out, 0, 0, 0, 0, 0),
+        ClaimAnswer::NoRead(operation) => spell(out, operation, 0, 0, 0, 0),
+        ClaimAnswer::NoMembers => spell(out, 0, 0, 0, 0, 0),
+        ClaimAnswer::NoPair(first, second) => spell(out, 0, first, second, 0, 0),
+        ClaimAnswer::Refused(no, place) => spell(out, 0, 0, 0, no as usize, place),
+    }
+}
+
+fn put_numbers(answer: ClaimAnswer, numbers: &mut [u8])
+    ensures { λ r. ⌜ now (numbers .exit) ≡ wholePut (replyBytes (reply answer)) (now (numbers .entry)) ⌝ }
+{
+    let mut all = [0u8; 20];
+    spell_numbers(answer, &mut all);
+    copying::copy(&all, whole_counts(numbers.len()), numbers);
 }

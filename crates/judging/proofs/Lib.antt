@@ -2,4 +2,3 @@ pub mod Order
 pub mod Lists
 pub mod Forced
 pub mod Call
-pub mod One

@@ -3,9 +3,10 @@ ghost use mathlib.Core.Path.{_≡_};
 ghost use mathlib.Core.List.{List, _∷_, []};
 ghost use Prim.Native.Nat.{ℕ, _+_, _*_, _/_, _%_, _≤_, _<_};
 ghost use lib.ListN.{length};
-ghost use Rattle.base.specs.Base.{pick};
+ghost use Rattle.base.specs.Base.{pick, first};
 ghost use Rattle.base.proofs.Fill.{Appended};
-ghost use Rattle.rules.specs.History.{size};
+ghost use Rattle.rules.specs.History.{opCount, size};
+ghost use Rattle.rules.specs.Reads.{isFinding};
 ghost use Rattle.rules.specs.Outcome.{findings, findingList};
 ghost use Rattle.table.specs.Table.{historyOf, HasOp, Settled};
 ghost use Rattle.bits.specs.Bits.{Holds, Under};
@@ -62,6 +63,22 @@ pub fn count_findings(h: &[u64], k: &[u8]) -> usize
         i += 1;
     }
     found
+}
+
+// The number of the first one; 0 where there is none.
+pub fn first_finding(h: &[u64], k: &[u8]) -> usize
+    requires { ⌜ Ready (now h) (now k) ⌝ }
+    ensures { λ r. ⌜ r ≡ first 0 1 (opCount (historyOf (now (h .entry))) + 1) (isFinding (historyOf (now (h .entry)))) ⌝ }
+{
+    let n = table::ops(h);
+    let mut i = 1;
+    while i <= n {
+        if is_kind(k[i]) {
+            return i;
+        }
+        i += 1;
+    }
+    0
 }
 
 // Operation i's finding, where it is one: "transaction, kind, operation number (2 bytes little-endian)". Document 02: the search for a write answers "its

@@ -2,24 +2,15 @@
 use Prim.Native.Nat.{ℕ, _^_, _<_}
 use mathlib.Core.Path.{_≡_, sym, _∙_}
 use mathlib.Core.Bool.{Bool}
-use mathlib.Core.Logic.{⊎-elim}
-use Rattle.base.proofs.Tests.{split}
-use Rattle.bits.specs.Bits.{rowOf}
-use Rattle.bits.proofs.Smallest.{row-in-low, row-in-high}
 use Rattle.bits.proofs.One.{row-one}
 use Rattle.order.specs.declared.Words.{Words}
 use Rattle.order.specs.Sets.{inWords, Plus, Gathered}
-use Rattle.order.proofs.Sets.{in-low, in-high}
+use Rattle.order.proofs.Sets.{row-set}
 
 -- both words of a set
 pub record MachineSet (w : Words) : Type 0 where
   pub lo : w .lo < 2 ^ 64
   pub hi : w .hi < 2 ^ 64
-
--- a set's words are those of a row
-row-set : (w : Words) (y : ℕ) → y < 128 → rowOf (w .lo) (w .hi) y ≡ inWords w y
-row-set w y l =
-    ⊎-elim (λ h. row-in-low (w .lo) (w .hi) y h ∙ sym (in-low w y h)) (λ h. row-in-high (w .lo) (w .hi) y h l ∙ sym (in-high w y h)) (split y 64)
 
 -- two sets with the same numbers
 set-one : {u v : Words} → ((x : ℕ) → x < 128 → inWords u x ≡ inWords v x) → MachineSet u → MachineSet v → u ≡ v

@@ -2,7 +2,7 @@
 use Prim.Native.Nat.{ℕ, _+_, _-_, _*_, _/_, _%_, _^_, _<_, _≤_}
 use mathlib.Core.Path.{_≡_, sym, ap, _∙_}
 use mathlib.Core.Bool.{Bool, true, false, not}
-use mathlib.Core.List.{List}
+use mathlib.Core.List.{List, [], _∷_}
 use mathlib.Core.Logic.{_⊎_, ⊎-elim}
 use native.Mathlib.Omega.{arith}
 use lib.Bits.{bitOr, or-lt}
@@ -11,11 +11,12 @@ use lib.ListN.{getD}
 use borrow.Author.Tests.{eq-eqb, ne-eqb, lt-ltb, le-ltb}
 use Rattle.base.specs.Base.{_and_, _or_, some}
 use Rattle.base.proofs.Tests.{known, ifso, clash, is-false, not-true, not-false, both, and-left, and-right, and-on, and-no-left, and-no-right, or-cases, or-left, or-right, or-on, or-off, pick-on, pick-off, and-true, same-eqb, same-test, split, below-more}
-use Rattle.base.proofs.Searches.{some-at, some-of, none-at}
-use Rattle.bits.specs.Bits.{testBit, lacks, bitOf}
+use Rattle.base.proofs.Searches.{some-at, some-of, some-same, none-at}
+use Rattle.bits.specs.Bits.{testBit, lacks, bitOf, rowOf}
 use Rattle.bits.proofs.Words.{testBit-zero, testBit-or, testBit-one, word-one}
+use Rattle.bits.proofs.Smallest.{row-in-low, row-in-high}
 use Rattle.order.specs.declared.Words.{Words}
-use Rattle.order.specs.Sets.{words, inWords, Plus, Given, Gathered}
+use Rattle.order.specs.Sets.{words, inWords, isLeft, Plus, Given, Gathered}
 use Rattle.order.specs.Ordering.{waits}
 
 -- ── a set's words ──
@@ -116,42 +117,43 @@ module _ (u v : ℕ) where
 
 -- ── a row within a set ──
 
+-- what row a waits for, in its low word and in its high one
 module _ (f : List ℕ) (p : Words) (a : ℕ) where
-  low : (k : ℕ) → k < 64 → waits f p a k ≡ lacks (getD f (2 * a) 0) (p .lo) k
+  pub waits-low : (k : ℕ) → k < 64 → waits f p a k ≡ lacks (getD f (2 * a) 0) (p .lo) k
   unfolding waits lacks bitOf
-  low k l =
+  waits-low k l =
       let e : 2 * a + k / 64 ≡ 2 * a = omega arith in
       let m : k % 64 ≡ k = omega arith in
       rw (e, m, in-low p k l)
 
-  high : (k : ℕ) → k < 64 → waits f p a (k + 64) ≡ lacks (getD f (2 * a + 1) 0) (p .hi) k
+  pub waits-high : (k : ℕ) → k < 64 → waits f p a (k + 64) ≡ lacks (getD f (2 * a + 1) 0) (p .hi) k
   unfolding waits lacks bitOf
-  high k l =
+  waits-high k l =
       let e : 2 * a + (k + 64) / 64 ≡ 2 * a + 1 = omega arith in
       let m : (k + 64) % 64 ≡ k = omega arith in
       let d : k + 64 - 64 ≡ k = omega arith in
       rw (e, m, in-high p (k + 64) (omega arith), d)
 
-  -- what row a waits for, word by word
+  -- .. in both
   waits-words : some 0 128 (waits f p a) ≡ some 0 64 (lacks (getD f (2 * a) 0) (p .lo)) or some 0 64 (lacks (getD f (2 * a + 1) 0) (p .hi))
   waits-words =
       same-test _ _
       (λ s.
       let r = some-at (waits f p a) 128 0 s in
-      ⊎-elim (λ l. or-left _ _ (some-of _ 64 0 (r .at) (omega arith) l (sym (low (r .at) l) ∙ r .passes)))
+      ⊎-elim (λ l. or-left _ _ (some-of _ 64 0 (r .at) (omega arith) l (sym (waits-low (r .at) l) ∙ r .passes)))
       (λ g.
       let e : r .at - 64 + 64 ≡ r .at = omega arith in
       let h : r .at - 64 < 64 = omega (arith, r .to) in
-      or-right _ _ (some-of _ 64 0 (r .at - 64) (omega arith) h (sym (high (r .at - 64) h) ∙ rw e (r .passes))))
+      or-right _ _ (some-of _ 64 0 (r .at - 64) (omega arith) h (sym (waits-high (r .at - 64) h) ∙ rw e (r .passes))))
       (split (r .at) 64))
       (λ s.
       ⊎-elim
       (λ t.
       let r = some-at (lacks (getD f (2 * a) 0) (p .lo)) 64 0 t in
-      some-of (waits f p a) 128 0 (r .at) (omega arith) (omega (arith, r .to)) (low (r .at) (r .to) ∙ r .passes))
+      some-of (waits f p a) 128 0 (r .at) (omega arith) (omega (arith, r .to)) (waits-low (r .at) (r .to) ∙ r .passes))
       (λ t.
       let r = some-at (lacks (getD f (2 * a + 1) 0) (p .hi)) 64 0 t in
-      some-of (waits f p a) 128 0 (r .at + 64) (omega arith) (omega (arith, r .to)) (high (r .at) (r .to) ∙ r .passes))
+      some-of (waits f p a) 128 0 (r .at + 64) (omega arith) (omega (arith, r .to)) (waits-high (r .at) (r .to) ∙ r .passes))
       (or-cases _ _ s))
 
   -- both words are tested, the second where the first is within
@@ -161,3 +163,23 @@ module _ (f : List ℕ) (p : Words) (a : ℕ) where
   pub follows-is : {b r : Bool} → b ≡ not (some 0 64 (lacks (getD f (2 * a) 0) (p .lo))) → not b ≡ false → r ≡ not (some 0 64 (lacks (getD f (2 * a + 1) 0) (p .hi)))
       → r ≡ not (some 0 128 (waits f p a))
   follows-is e q h = h ∙ ap not (sym (waits-words ∙ or-on _ _ (not-true _ (sym e ∙ not-false _ q))))
+
+-- ── a set within a set ──
+
+-- a set's words are those of a row
+pub row-set : (w : Words) (y : ℕ) → y < 128 → rowOf (w .lo) (w .hi) y ≡ inWords w y
+row-set w y l =
+    ⊎-elim (λ h. row-in-low (w .lo) (w .hi) y h ∙ sym (in-low w y h)) (λ h. row-in-high (w .lo) (w .hi) y h l ∙ sym (in-high w y h)) (split y 64)
+
+module _ (m p : Words) where
+  -- so it is tested as a row is
+  left-words : some 0 128 (waits (m .lo ∷ m .hi ∷ []) p 0) ≡ some 0 128 (isLeft m p)
+  unfolding waits isLeft rowOf
+  left-words = some-same _ _ 128 0 (λ i a l. ap (λ (b : Bool). b and not (inWords p i)) (row-set m i l))
+
+  pub within-not : {b : Bool} → b ≡ not (some 0 64 (lacks (m .lo) (p .lo))) → not b ≡ true → false ≡ not (some 0 128 (isLeft m p))
+  within-not e q = follows-not (m .lo ∷ m .hi ∷ []) p 0 e q ∙ ap not left-words
+
+  pub within-is : {b r : Bool} → b ≡ not (some 0 64 (lacks (m .lo) (p .lo))) → not b ≡ false → r ≡ not (some 0 64 (lacks (m .hi) (p .hi)))
+      → r ≡ not (some 0 128 (isLeft m p))
+  within-is e q h = follows-is (m .lo ∷ m .hi ∷ []) p 0 e q h ∙ ap not left-words

@@ -1,7 +1,7 @@
 -- Sets of numbers below 128, held in two words.
 use Prim.Native.Nat.{ℕ, _+_, _-_, _<_}
 use mathlib.Core.Path.{_≡_}
-use mathlib.Core.Bool.{Bool}
+use mathlib.Core.Bool.{Bool, not}
 use lib.Dec.{ltb, eqb}
 use Rattle.base.specs.Base.{_and_, _or_, pick}
 use Rattle.bits.specs.Bits.{testBit}
@@ -14,6 +14,10 @@ words l h = record { lo = l; hi = h }
 -- the number a is in w
 unfoldable pub inWords : Words → ℕ → Bool
 inWords w a = pick (ltb a 64) (testBit (w .lo) a) (testBit (w .hi) (a - 64))
+
+-- the number a is in m, and not in p
+unfoldable pub isLeft : Words → Words → ℕ → Bool
+isLeft m p a = inWords m a and not (inWords p a)
 
 -- v is w and the number a
 pub record Plus (w : Words) (a : ℕ) (v : Words) : Type 0 where

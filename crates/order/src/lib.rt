@@ -8,7 +8,7 @@ ghost use Rattle.base.specs.Base.{some, first};
 ghost use Rattle.base.proofs.Fill.{Appended};
 ghost use Rattle.theory.specs.Order.{rest};
 ghost use Rattle.bits.specs.Bits.{Least, lacks, Under};
-ghost use Rattle.order.specs.Sets.{words, inWords, Plus, Given};
+ghost use Rattle.order.specs.Sets.{words, inWords, isLeft, Plus, Given};
 ghost use Rattle.order.specs.Ordering.{standsBefore, waits, isNext, isFree, Orderable};
 
 // A set of numbers below 128.
@@ -52,11 +52,32 @@ pub fn with(w: Words, a: usize) -> Words
     }
 }
 
+// Whether a is in the set w.
+pub fn has(w: Words, a: usize) -> bool
+    requires { ⌜ a < 128 ⌝ }
+    ensures { λ r. ⌜ r ≡ inWords w a ⌝ }
+{
+    if a < 64 {
+        return (w.lo >> a) % 2 == 1;
+    }
+    (w.hi >> (a - 64)) % 2 == 1
+}
+
 // Whether v has every bit of u.
 fn covers(u: u64, v: u64) -> bool
     ensures { λ r. ⌜ r ≡ not (some 0 64 (lacks u v)) ⌝ }
 {
     u | v == v
+}
+
+// Whether p has every number of m.
+pub fn within(m: Words, p: Words) -> bool
+    ensures { λ r. ⌜ r ≡ not (some 0 128 (isLeft m p)) ⌝ }
+{
+    if !covers(m.lo, p.lo) {
+        return false;
+    }
+    covers(m.hi, p.hi)
 }
 
 // Whether no number of row a is missing among those placed.

@@ -18,7 +18,7 @@ use Rattle.text.specs.Answer.{blockText, readingText, answerText}
 use Rattle.table.specs.Table.{historyOf}
 use Rattle.show.specs.Laid.{Put, Short}
 use Rattle.show.proofs.Laws.{laid-over}
-use Rattle.judging.specs.Judging.{ReadInto}
+use Rattle.forcing.specs.Forcing.{ReadInto}
 use Rattle.printing.specs.Printing.{Written, Taken, blocksText, rejectedText}
 use Rattle.printing.proofs.Lengths.{answer-short}
 use Rattle.printing.proofs.Entries.{over-most, findings-lines, pairs-lines}

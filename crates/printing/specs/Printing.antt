@@ -8,7 +8,7 @@ use Rattle.rules.specs.Numbers.{le, over}
 use Rattle.rules.specs.History.{History}
 use Rattle.text.specs.Lines.{rejectedLine, readLine, pairLine}
 use Rattle.text.specs.Answer.{blockText, answerText}
-use Rattle.judging.specs.Judging.{ReadInto}
+use Rattle.forcing.specs.Forcing.{ReadInto}
 use Rattle.printing.specs.declared.Lines.{Lines}
 use Rattle.printing.specs.declared.Lines.the-variants.{ReadLines, PairLines}
 

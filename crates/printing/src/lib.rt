@@ -18,7 +18,7 @@ pub fn put_answer(trace: &[u8], out: &mut [u8]) -> usize
     // The words of a history's table, and a byte for each number that an operation can have.
     let mut h = [0u64; 2306];
     let mut k = [0u8; 1025];
-    let read = judging::prepare(trace, &mut h, &mut k);
+    let read = forcing::prepare(trace, &mut h, &mut k);
     match read {
         Out::Bad(no, place) => show::put_refused(out, 0, no as usize, place),
         Out::Good(_) => put_blocks(&h, &k, out),

@@ -132,7 +132,7 @@ module _ (level : ℕ) (fs ps os : List ℕ) where
 
 -- ── row 1 ──
 
-level-test : (level : ℕ) → (isLevel level ≡ true) ↔ ((1 ≤ level) × (level ≤ 3))
+pub level-test : (level : ℕ) → (isLevel level ≡ true) ↔ ((1 ≤ level) × (level ≤ 3))
 unfolding isLevel
 level-test level = (
   λ t. let a = ltb-true 0 level (and-left _ _ t) in let b = ltb-true level 4 (and-right _ _ t) in (omega arith, omega arith),

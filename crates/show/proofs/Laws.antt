@@ -7,6 +7,7 @@ use native.Mathlib.Numerals.{add-one}
 use lib.ListN.{length, getD, set, take, drop, length-append, length-set}
 use lib.Seq.{drop-cons, drop-length, take-nil, set-out, set-append-seam, append-snoc}
 use Rattle.rules.specs.Numbers.{over}
+use Rattle.rules.proofs.Numbers.{over-whole}
 use Rattle.text.specs.Lines.{text, field, fields}
 use Rattle.show.specs.Laid.{laid, Put, Short}
 
@@ -71,6 +72,15 @@ module _ {o b : List ℕ} {at n : ℕ} {xs : List ℕ} (x : Put o at b n xs) whe
         end = omega (arith, x .end, y .end, length-append xs ys);
         is = y .is ∙ rw (x .is, x .end) (sym (laid-append o at xs ys));
       }
+
+-- ── at the front of a buffer that reaches so far, the part up to the text's end is just the text ──
+
+module _ {o b : List ℕ} {n : ℕ} {xs : List ℕ} (x : Put o 0 b n xs) (room : n ≤ length o) where
+  pub front-is : take n b ≡ xs
+  front-is = let e : n ≡ length xs = omega (arith, x .end) in rw (x .is, laid-over o xs, e) (over-whole xs o (omega arith))
+
+  pub front-long : n ≡ length (take n b)
+  front-long = omega (arith, x .end, ap length front-is)
 
 -- ── a loop that puts xs into o and has made b of it: what is left to put, from `to` on, makes the whole ──
 

@@ -2,7 +2,7 @@
 // ends. Every other byte stays as it was.
 ghost use mathlib.Core.List.{[], _∷_, _++_};
 ghost use Prim.Native.Nat.{_+_, _<_};
-ghost use Rattle.text.specs.Lines.{decimal, field, fields, levelWord, refusedLine, rejectedLine, acceptedLine, readLine, pairLine, notesLine};
+ghost use Rattle.text.specs.Lines.{decimal, field, fields, line, levelWord, refusedLine, rejectedLine, acceptedLine, readLine, pairLine, notesLine};
 ghost use Rattle.show.specs.Laid.{Put, Short};
 
 fn put_byte(out: &mut [u8], at: usize, b: u8) -> usize
@@ -118,13 +118,37 @@ fn put_verdict(out: &mut [u8], at: usize, level: u8, word: &[u8]) -> usize
     put_word(out, to, word)
 }
 
+// A line of a word alone; of a word and one number; of a word and two.
+pub fn put_plain(out: &mut [u8], at: usize, word: &[u8]) -> usize
+    requires { ⌜ Short at (line (now word) []) ⌝ }
+    ensures { λ r. ⌜ Put (now (out .entry)) at (now (out .exit)) r (line (now (word .entry)) []) ⌝ }
+{
+    let to = put_word(out, at, word);
+    put_byte(out, to, b'\n')
+}
+
+pub fn put_one_number(out: &mut [u8], at: usize, word: &[u8], a: usize) -> usize
+    requires { ⌜ Short at (line (now word) (a ∷ [])) ⌝ }
+    ensures { λ r. ⌜ Put (now (out .entry)) at (now (out .exit)) r (line (now (word .entry)) (a ∷ [])) ⌝ }
+{
+    let to = put_word(out, at, word);
+    put_one(out, to, a)
+}
+
+pub fn put_two_numbers(out: &mut [u8], at: usize, word: &[u8], a: usize, b: usize) -> usize
+    requires { ⌜ Short at (line (now word) (a ∷ b ∷ [])) ⌝ }
+    ensures { λ r. ⌜ Put (now (out .entry)) at (now (out .exit)) r (line (now (word .entry)) (a ∷ b ∷ [])) ⌝ }
+{
+    let to = put_word(out, at, word);
+    put_two(out, to, a, b)
+}
+
 // `refused NO PLACE`
 pub fn put_refused(out: &mut [u8], at: usize, no: usize, place: usize) -> usize
     requires { ⌜ Short at (refusedLine no place) ⌝ }
     ensures { λ r. ⌜ Put (now (out .entry)) at (now (out .exit)) r (refusedLine no place) ⌝ }
 {
-    let to = put_word(out, at, b"refused");
-    put_two(out, to, no, place)
+    put_two_numbers(out, at, b"refused", no, place)
 }
 
 // A level's first line.
@@ -168,6 +192,5 @@ pub fn put_notes(out: &mut [u8], at: usize, notes: usize) -> usize
     requires { ⌜ Short at (notesLine notes) ⌝ }
     ensures { λ r. ⌜ Put (now (out .entry)) at (now (out .exit)) r (notesLine notes) ⌝ }
 {
-    let to = put_word(out, at, b"notes");
-    put_one(out, to, notes)
+    put_one_number(out, at, b"notes", notes)
 }

@@ -1,5 +1,5 @@
 -- Members of a list, and their places.
-use Prim.Native.Nat.{ℕ, suc, _+_, _<_}
+use Prim.Native.Nat.{ℕ, zero, suc, _+_, _<_, _≤_}
 use mathlib.Core.Path.{_≡_, refl, ap, sym, _∙_}
 use mathlib.Core.Bool.{true, false}
 use mathlib.Core.Logic.{_⊎_, inl, inr, ⊎-elim}
@@ -63,6 +63,15 @@ place-at a (x ∷ xs) l =
 -- two members with one place are equal
 pub place-same : (a b : ℕ) (xs : List ℕ) → place a xs < length xs → place b xs < length xs → place a xs ≡ place b xs → a ≡ b
 place-same a b xs p q e = sym (place-at a xs p) ∙ ap (λ (i : ℕ). getD xs i 0) e ∙ place-at b xs q
+
+-- an entry's place is no later than where it stands
+pub place-most : (xs : List ℕ) (i : ℕ) → i < length xs → place (getD xs i 0) xs ≤ i
+unfolding place pick
+place-most [] i l = absurd (omega arith)
+place-most (x ∷ xs) zero l = rw (eq-eqb x x refl) (omega arith)
+place-most (x ∷ xs) (suc i) l =
+    let k = place-most xs i (omega arith) in
+    ⊎-elim (λ (t : eqb (getD xs i 0) x ≡ true). rw t (omega arith)) (λ (t : eqb (getD xs i 0) x ≡ false). rw t (omega arith)) (known (eqb (getD xs i 0) x))
 
 -- the place of one that is in the first part; of one that is not
 pub place-front : (a : ℕ) (xs ys : List ℕ) → mem a xs ≡ true → place a (xs ++ ys) ≡ place a xs

@@ -22,8 +22,8 @@ fn go_by(h: &[u64], k: &[u8], p: &mut [u8; 128], s: &mut [u64; 256], x: &mut [u8
 {
     pairs::fill_priors(h, p);
     pairs::fill_basic(h, k, p, s);
-    let m = judging::members(h);
-    let n = judging::count_members(h);
+    let m = forcing::members(h);
+    let n = forcing::count_members(h);
     causal::know(h, p, m, n, s, x)
 }
 
@@ -88,7 +88,7 @@ pub fn leads_to(trace: &[u8], a: usize, b: usize) -> LedBy
     // The words of a history's table, and a byte for each number that an operation can have.
     let mut h = [0u64; 2306];
     let mut k = [0u8; 1025];
-    let read = judging::prepare(trace, &mut h, &mut k);
+    let read = forcing::prepare(trace, &mut h, &mut k);
     match read {
         Out::Bad(no, place) => LedBy::Refused(no, place),
         Out::Good(_) => leads_in(&h, &k, a, b),
@@ -143,7 +143,7 @@ pub fn latest_known(trace: &[u8], t: usize, a: usize) -> Entry
     // as in `leads_to`
     let mut h = [0u64; 2306];
     let mut k = [0u8; 1025];
-    let read = judging::prepare(trace, &mut h, &mut k);
+    let read = forcing::prepare(trace, &mut h, &mut k);
     match read {
         Out::Bad(no, place) => Entry::Refused(no, place),
         Out::Good(_) => latest_in(&h, &k, t, a),

@@ -1,4 +1,4 @@
-use Rattle.judging.proofs.Call.{prepared-bad, prepared-good}
+use Rattle.forcing.proofs.Prepared.{prepared-bad, prepared-good}
 use Rattle.ferozhak.proofs.Verdicts.{at-none, strongest-none}
 use borrow.Author.Needs.{needs}
 use Rattle.ferozhak.proofs.strongest_of.Statement.{statement}

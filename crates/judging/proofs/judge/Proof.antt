@@ -2,7 +2,8 @@ use mathlib.Core.Path.{sym}
 use native.Mathlib.Omega.{arith}
 use Rattle.rules.specs.Outcome.{reported}
 use Rattle.rules.proofs.Outcome.{judged-no-level}
-use Rattle.judging.proofs.Call.{prepared-bad, prepared-good, at-level, call-refused, call-read}
+use Rattle.forcing.proofs.Prepared.{prepared-bad, prepared-good, at-level}
+use Rattle.judging.proofs.Call.{call-refused, call-read}
 use borrow.Author.Needs.{needs}
 use Rattle.judging.proofs.judge.Statement.{statement}
 use Rattle.judging.proofs.judge.Tie as tie

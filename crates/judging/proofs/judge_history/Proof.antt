@@ -4,7 +4,8 @@ use Rattle.rules.proofs.Forced.{placed-iff}
 use Rattle.causal.proofs.Given.{fresh}
 use Rattle.lists.proofs.Sifted.{listed-under}
 use Rattle.lists.proofs.Levels.{told-listing}
-use Rattle.judging.proofs.Forced.{forced-below, forced-under, judging}
+use Rattle.forcing.proofs.Forced.{forced-below}
+use Rattle.judging.proofs.Forced.{forced-under, judging}
 use Rattle.judging.proofs.Lists.{listed-rejects}
 use Rattle.judging.proofs.judge_history.Statement.{statement}
 use Rattle.judging.proofs.judge_history.Tie as tie

@@ -1,4 +1,4 @@
-use Rattle.judging.proofs.Call.{prepared-bad, prepared-good}
+use Rattle.forcing.proofs.Prepared.{prepared-bad, prepared-good}
 use Rattle.printing.proofs.Blocks.{refused-text, read-text, text-fits, text-written}
 use borrow.Author.Needs.{needs}
 use Rattle.printing.proofs.put_answer.Statement.{statement}

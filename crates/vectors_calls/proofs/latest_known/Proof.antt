@@ -1,5 +1,5 @@
 use borrow.Author.Needs.{needs}
-use Rattle.judging.proofs.Call.{prepared-bad, prepared-good}
+use Rattle.forcing.proofs.Prepared.{prepared-bad, prepared-good}
 use Rattle.vectors_calls.proofs.Calls.{tells-refused, tells-read}
 use Rattle.vectors_calls.proofs.latest_known.Statement.{statement}
 use Rattle.vectors_calls.proofs.latest_known.Tie as tie

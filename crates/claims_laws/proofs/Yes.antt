@@ -1,0 +1,30 @@
+-- A yes, about any bytes: the trace is read, its reads are clean, and the claim is a commit order of the level by the published axioms.
+use Prim.Native.Nat.{ℕ}
+use mathlib.Core.Path.{_≡_, ap}
+use mathlib.Core.List.{List}
+use mathlib.Core.Logic.{_↔_}
+use native.Mathlib.Omega.{arith}
+use Rattle.rules.specs.History.{History}
+use Rattle.demand2.specs.Kinds.{AllClean}
+use Rattle.demand2.specs.Axiom.{Shows}
+use Rattle.claims_rules.specs.Claims.{Reply, holds, claimed}
+use Rattle.claims_rules.proofs.Claims.{replyCase}
+use Rattle.claims_laws.specs.Claims.{Says, right, wrong-read, wrong-members, wrong-pair, Claims, no-level, reading-refused, of-history, RightClaim}
+use Rattle.claims_laws.proofs.Claims.{claims, claims-is}
+
+module _ (s : List ℕ) (level : ℕ) (o : List ℕ) where
+  said-right : {h : History} {x : Reply} → Says h level o x → x ≡ holds → AllClean h × Shows h level o
+  said-right (right c y) e = (c, y)
+  said-right (wrong-read f) e = absurd (omega (arith, ap replyCase e))
+  said-right (wrong-members c w) e = absurd (omega (arith, ap replyCase e))
+  said-right (wrong-pair c l x) e = absurd (omega (arith, ap replyCase e))
+
+  is-right : {x : Reply} → Claims s level o x → x ≡ holds → RightClaim s level o
+  is-right (no-level d) e = absurd (omega (arith, ap replyCase e))
+  is-right (reading-refused a b r) e = absurd (omega (arith, ap replyCase e))
+  is-right (of-history {h} a b i x) e =
+      let y = said-right x e in record { low = a; high = b; history = h; reads = i; clean = y .0; shows = y .1 }
+
+  -- "Yes exactly if"
+  pub yes-iff : (claimed s level o ≡ holds) ↔ RightClaim s level o
+  yes-iff = (λ e. is-right (claims s level o) e, λ r. claims-is s level o (of-history (r .low) (r .high) (r .reads) (right (r .clean) (r .shows))))

@@ -1,0 +1,4 @@
+pub mod Prepared
+pub mod Counting
+pub mod Forced
+pub mod One

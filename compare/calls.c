@@ -13,11 +13,14 @@
        buffers as they are after it, each with the 16 bytes behind it, which are not lent and were 0xA5 too.
    s LENGTH TRACE
        ferozhak_strongest. Answers what the call answers.
+   c LEVEL NUMBERS LENGTH CLAIM LENGTH TRACE
+       ferozhak_claim, with a buffer of just so many bytes for the numbers, all of them 0xA5. Answers what the call answers,
+       then the buffer as it is after it, with the 16 bytes behind it, which are not lent and were 0xA5 too.
    n
        no call. Answers how much of the stack the thread has taken where its call would begin.
 
-   An item that is too long (a buffer of more than 70,000 bytes, a trace of more than 40,000), or cut off, or of another
-   kind, and a stack that cannot be had: a message, and exit status 2. */
+   An item that is too long (a buffer or a claim of more than 70,000 bytes, a trace of more than 40,000), or cut off, or of
+   another kind, and a stack that cannot be had: a message, and exit status 2. */
 #define _DEFAULT_SOURCE /* C99 alone has neither maps nor stacks of one's own */
 #include <pthread.h>
 #include <stdint.h>
@@ -37,8 +40,8 @@ enum { GUARD = 1 << 20 };
 enum { STACK_LEAST = 16384 };
 
 /* The one item that is at hand, in its place for both threads. */
-static uint32_t level, length, answer;
-static uint8_t trace[LENGTH_MAX];
+static uint32_t level, length, claim_length, answer;
+static uint8_t trace[LENGTH_MAX], claim[ROOM_MAX];
 static struct { uint32_t room; uint8_t bytes[ROOM_MAX + BEHIND]; } lent[4];
 static uint8_t *top;
 
@@ -52,6 +55,12 @@ static void *decide(void *unused)
 static void *strongest(void *unused)
 {
     answer = ferozhak_strongest(trace, length);
+    return unused;
+}
+
+static void *check_claim(void *unused)
+{
+    answer = ferozhak_claim(trace, length, level, claim, claim_length, lent[0].bytes, lent[0].room);
     return unused;
 }
 
@@ -81,7 +90,7 @@ static uint32_t take_number(uint32_t most)
     take(b, 4);
     number = b[0] | (uint32_t)b[1] << 8 | (uint32_t)b[2] << 16 | (uint32_t)b[3] << 24;
     if (number > most)
-        stop("a buffer or a trace is too long");
+        stop("a buffer, a claim or a trace is too long");
     return number;
 }
 
@@ -121,19 +130,42 @@ static void take_trace(void)
     take(trace, length);
 }
 
-static void take_decide(const pthread_attr_t *attributes)
+/* What an item begins with: a level, and the rooms of so many buffers. */
+static void take_level_and_rooms(int buffers)
 {
     int i;
 
     level = take_number(UINT32_MAX);
-    for (i = 0; i < 4; i++) {
+    for (i = 0; i < buffers; i++) {
         lent[i].room = take_number(ROOM_MAX);
         memset(lent[i].bytes, FILL, lent[i].room + BEHIND);
     }
+}
+
+static void put_buffers(int buffers)
+{
+    int i;
+
+    for (i = 0; i < buffers; i++)
+        fwrite(lent[i].bytes, 1, lent[i].room + BEHIND, stdout);
+}
+
+static void take_decide(const pthread_attr_t *attributes)
+{
+    take_level_and_rooms(4);
     take_trace();
     call(attributes, decide);
-    for (i = 0; i < 4; i++)
-        fwrite(lent[i].bytes, 1, lent[i].room + BEHIND, stdout);
+    put_buffers(4);
+}
+
+static void take_claim(const pthread_attr_t *attributes)
+{
+    take_level_and_rooms(1);
+    claim_length = take_number(ROOM_MAX);
+    take(claim, claim_length);
+    take_trace();
+    call(attributes, check_claim);
+    put_buffers(1);
 }
 
 int main(int argc, char **argv)
@@ -152,10 +184,12 @@ int main(int argc, char **argv)
         } else if (kind == 's') {
             take_trace();
             call(&attributes, strongest);
+        } else if (kind == 'c') {
+            take_claim(&attributes);
         } else if (kind == 'n') {
             call(&attributes, nothing);
         } else {
-            stop("an item is none of d, s and n");
+            stop("an item is none of d, s, c and n");
         }
     }
     if (ferror(stdin) || fflush(stdout) || ferror(stdout))

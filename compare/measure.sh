@@ -1,7 +1,8 @@
 #!/usr/bin/env bash
 # Measures the proved programs `stream` and `scribe`, and the library's calls from C, against the independent judge and mover, all built for release, on the
 # same full traces in one run: microseconds of processor time a trace, and their ratio. First judging (all three levels, reading and printing included), then
-# a move to the other edition, then the strongest level, then the decision at level 3 alone, with room for every list.
+# a move to the other edition, then the strongest level, then the decision at level 3 alone, with room for every list; then a claim at each level, of the order
+# that is shown there or else of the members by number, beside the decision at that level with just enough room.
 # Usage: compare/measure.sh [REPEATS], after rt check stream scribe ferozhak.
 # The toolchain builds programs for x86-64. On another processor a time under its emulator says nothing, so there the program's own bitcode, as the
 # toolchain hands it to its compiler, is compiled for this processor with the same options and linked with the machine's C library.
@@ -113,4 +114,23 @@ asked = b''.join(number(n) for n in (3, 6144, 65024, 128, 20))
 open(sys.argv[3], 'wb').write((b'd' + asked + number(len(bytes_)) + bytes_) * int(sys.argv[2]))
 PY
     row "$(basename "$trace")" "$calls" 'target/compare/release/rustjudge --calls'
+done
+# the input: what bench writes, as often as is measured
+items() {
+    target/compare/release/bench "$@" >"$work/item"
+    python3 -c 'import sys; sys.stdout.buffer.write(sys.stdin.buffer.read() * int(sys.argv[1]))' "$repeats" <"$work/item" >"$work/input"
+}
+for level in 1 2 3; do
+    printf '%-24s %10s %10s %8s %10s %8s\n' "claim, level $level" 'proved us' 'decide us' ratio 'Rust us' ratio
+    for trace in "$work"/traces/*; do
+        items --decide "$level" "$trace"
+        # shellcheck disable=SC2086
+        decide=$(seconds $calls)
+        items --claim "$level" "$trace"
+        # shellcheck disable=SC2086
+        claim=$(seconds $calls); mv "$work/output" "$work/ours"
+        rust=$(seconds target/compare/release/rustjudge --calls); cmp -s "$work/ours" "$work/output" || echo "the answers differ" >&2
+        awk -v n="$(basename "$trace")" -v c="$claim" -v d="$decide" -v t="$rust" -v r="$repeats" \
+            'BEGIN { printf "%-24s %10.1f %10.1f %8.2f %10.1f %8.2f\n", n, c * 1e6 / r, d * 1e6 / r, (d > 0 ? c / d : 0), t * 1e6 / r, (t > 0 ? c / t : 0) }'
+    done
 done

@@ -20,7 +20,10 @@
 //! search, that for a read's write through all operations; nothing is shared
 //! with [`crate::graph`]. A transaction's own operations are those that have its
 //! number, wherever they stand, so that transactions may overlap.
+//!
+//! An order that is claimed is tested in the same way, and each no by what it says.
 
+use crate::claiming::Claimed;
 use crate::report::{Finding, Level, Pair, Verdict, READ, RIVAL, SESSION, START};
 use crate::trace::{Operation, Status, Trace, MAX_TRANSACTIONS};
 
@@ -151,6 +154,61 @@ pub fn lists(trace: &Trace, counted: &[u8], level: Level) -> (Vec<Finding>, Vec<
 /// transactions, given those that count; nothing if some are never placed.
 pub fn order(trace: &Trace, counted: &[u8], level: Level) -> Option<Vec<u8>> {
     Small::new(trace, counted.to_vec()).order(level)
+}
+
+/// A second look at claimed orders on a trace, given the transactions that count; for
+/// any number of them, slowly, if there are many.
+pub struct Claims<'a>(Small<'a>);
+
+impl<'a> Claims<'a> {
+    pub fn new(trace: &'a Trace, counted: &[u8]) -> Claims<'a> {
+        Claims(Small::new(trace, counted.to_vec()))
+    }
+
+    /// Whether this is what has to be said of the order, each answer by its own
+    /// definition: yes exactly if all reads are clean and the order as CO meets the
+    /// axioms of the level.
+    pub fn is_right(&self, level: Level, order: &[u8], claimed: &Claimed) -> bool {
+        let Claims(small) = self;
+        let is_clean = small.findings.is_empty();
+        let is_yes = is_clean && self.has_members(order) && small.passes(level, order);
+        match *claimed {
+            Claimed::Yes => is_yes,
+            _ if is_yes => false,
+            Claimed::NoRead(operation) => {
+                let unclean = small.findings.iter().map(|finding| finding.operation);
+                unclean.min() == Some(operation)
+            }
+            Claimed::NoMembers => is_clean && !self.has_members(order),
+            Claimed::NoPair(first, second) => {
+                let forced = small.forced(level).into_iter();
+                let pairs = forced.map(|pair| (pair.first, pair.second));
+                let mut reversed = pairs.filter(|&(a, b)| is_reversed(order, a, b));
+                let is_least = reversed.all(|pair| (first, second) <= pair);
+                is_clean
+                    && self.has_members(order)
+                    && small.reasons(level, first, second) != 0
+                    && is_reversed(order, first, second)
+                    && is_least
+            }
+            // The trace is read.
+            Claimed::Refused(_) => false,
+        }
+    }
+
+    /// Whether 0 is first, each that counts stands once, and none that does not count.
+    fn has_members(&self, order: &[u8]) -> bool {
+        let Claims(small) = self;
+        let times = |t: u8| order.iter().filter(|&&other| other == t).count();
+        order.first() == Some(&0)
+            && (0..=u8::MAX).all(|t| times(t) == usize::from(small.counted.contains(&t)))
+    }
+}
+
+/// Whether the first of two that an order has stands behind the second.
+fn is_reversed(order: &[u8], first: u8, second: u8) -> bool {
+    let place = |t: u8| order.iter().position(|&other| other == t);
+    place(first) > place(second)
 }
 
 /// The outcomes that a trace leaves open.

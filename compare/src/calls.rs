@@ -1,40 +1,29 @@
 //! Compares a program that makes the calls of the upper library with the
 //! independent decisions, byte for byte.
 //!
-//! The program reads items until its input ends, and answers each. An item is a
-//! letter, the numbers that the call takes, and the trace behind its length; each
-//! number has 4 bytes, little-endian. The letter `d` asks for a decision: its
-//! numbers are the level and the rooms of the findings, the pairs, the order and
-//! the counts. The answer is what the call answers, then the four buffers as they
-//! are after it. Before the call every byte of them is the same one, and so are
-//! some bytes behind each, which are not lent and are answered with it. The letter
-//! `s` asks for the strongest level, which is the answer.
+//! [`crate::items`] says how the program is asked. The letter `d` asks for a decision:
+//! its numbers are the level and the rooms of the findings, the pairs, the order and
+//! the counts, and the trace follows. The letter `s` asks for the strongest level, and
+//! the trace follows at once; no buffer is lent. The letter `c`, for a claimed order,
+//! is that of [`crate::claims`].
 
 use crate::cases::{self, Case};
+use crate::claims::Claim;
 use crate::deciding::{decide, strongest, strongest_of};
 use crate::deciding::{Buffers, Counts, Decision, Outcome, Rooms, BUFFERS};
 use crate::generate;
-use crate::process;
+use crate::items::{check_run, Item, LONGEST, NO_LEVELS, NUMBERS_ROOMS, UNTOUCHED};
+use crate::items::{drawn_level, drawn_numbers_room, head, number, put_bytes, replied};
+use crate::items::{read_bytes, read_letter, read_number};
 use crate::random::Random;
 use crate::report::Level;
 use crate::trace::Refusal;
-use crate::workers::{self, add_each, alike, show_bytes, Difference, Extent, Tally};
+use crate::workers::{self, add_each, Difference, Extent, Tally};
 use crate::{judge_all, Answer};
 use std::io::{self, Read, Write};
 
-/// What every byte is before the call.
-const UNTOUCHED: u8 = 0xA5;
-/// So many bytes behind each buffer are not lent.
-const BEHIND: usize = 16;
-/// The longest trace that the program takes.
-const LONGEST: usize = 40_000;
-/// Bytes of a number.
-const NUMBER_SIZE: usize = size_of::<u32>();
 /// How many traces go through one run of the program.
 const TOGETHER: usize = 100;
-
-/// Numbers that are no levels, though some have one as their low byte or half.
-const NO_LEVELS: [u32; 9] = [0, 4, 255, 256, 257, 258, 65_537, 0x8000_0001, 0xFFFF_FFFF];
 
 /// What is asked about a trace.
 pub enum Call {
@@ -45,39 +34,31 @@ pub enum Call {
 impl Call {
     /// The item as the program reads it.
     pub fn item(&self, trace: &[u8]) -> Vec<u8> {
-        let (letter, mut numbers) = match self {
+        let mut item = match self {
             Call::Decide { level, rooms } => {
                 let rooms = rooms.each().map(number);
-                (b'd', [[*level].as_slice(), &rooms].concat())
+                head(b'd', &[[*level].as_slice(), &rooms].concat())
             }
-            Call::Strongest => (b's', vec![]),
+            Call::Strongest => head(b's', &[]),
         };
-        numbers.push(number(trace.len()));
-        let mut item = vec![letter];
-        item.extend(numbers.into_iter().flat_map(u32::to_le_bytes));
-        item.extend(trace);
+        put_bytes(&mut item, trace);
         item
     }
 
-    /// Reads an item up to the trace's length; nothing where the input ends.
-    fn read(input: &mut impl Read) -> io::Result<Option<Call>> {
-        let mut letter = [0];
-        match input.read_exact(&mut letter) {
-            Err(error) if error.kind() == io::ErrorKind::UnexpectedEof => return Ok(None),
-            other => other?,
-        }
+    /// Reads an item that begins with this letter, up to the trace's length.
+    fn read(letter: u8, input: &mut impl Read) -> io::Result<Call> {
         match letter {
-            [b'd'] => {
+            b'd' => {
                 let level = read_number(input)?;
                 let mut rooms = [0; BUFFERS.len()];
                 for room in &mut rooms {
                     *room = read_number(input)? as usize;
                 }
                 let rooms = Rooms::of_each(rooms);
-                Ok(Some(Call::Decide { level, rooms }))
+                Ok(Call::Decide { level, rooms })
             }
-            [b's'] => Ok(Some(Call::Strongest)),
-            [other] => {
+            b's' => Ok(Call::Strongest),
+            other => {
                 let message = format!("nothing is asked by byte {other}");
                 Err(io::Error::other(message))
             }
@@ -91,9 +72,9 @@ impl Call {
                 let outcome = Outcome::of(answer, *level, rooms);
                 let mut buffers = Buffers::full_of(UNTOUCHED, rooms);
                 outcome.write(&mut buffers);
-                decided(outcome.decision(), &buffers)
+                replied(outcome.decision() as u32, &buffers.each())
             }
-            Call::Strongest => strongest_of(answer).to_le_bytes().to_vec(),
+            Call::Strongest => replied(strongest_of(answer), &[]),
         }
     }
 
@@ -104,30 +85,10 @@ impl Call {
             Call::Decide { level, rooms } => {
                 let mut buffers = Buffers::full_of(UNTOUCHED, rooms);
                 let decision = decide(trace, *level, &mut buffers);
-                decided(decision, &buffers)
+                replied(decision as u32, &buffers.each())
             }
-            Call::Strongest => strongest(trace).to_le_bytes().to_vec(),
+            Call::Strongest => replied(strongest(trace), &[]),
         }
-    }
-
-    /// A whole reply in print: what the call answers, the counts that are whole,
-    /// and the buffers that are not alike in another reply.
-    fn show(&self, reply: &[u8], other: &[u8]) -> String {
-        let (answered, buffers) = reply.split_at(NUMBER_SIZE);
-        let mut out = format!("answer{}", numbers_in(answered));
-        let Call::Decide { rooms, .. } = self else {
-            return out + "\n";
-        };
-        let (ours, others) = (split(buffers, rooms), split(&other[NUMBER_SIZE..], rooms));
-        let counts = &ours[3][..rooms.counts.min(Counts::SIZE)];
-        out += &format!(", counts{}\n", numbers_in(counts));
-        for (name, (one, other)) in BUFFERS.iter().zip(ours.into_iter().zip(others)) {
-            if one != other {
-                let bytes = show_bytes(one, alike(one, other));
-                out += &format!("{name} and the {BEHIND} bytes behind: {bytes}");
-            }
-        }
-        out
     }
 
     fn describe(&self) -> String {
@@ -141,50 +102,14 @@ impl Call {
     }
 }
 
-/// The reply to a call that asks for a decision.
-fn decided(decision: Decision, buffers: &Buffers) -> Vec<u8> {
-    let mut reply = (decision as u32).to_le_bytes().to_vec();
-    for buffer in buffers.each() {
-        reply.extend(buffer);
-        reply.extend([UNTOUCHED; BEHIND]);
-    }
-    reply
-}
-
-/// The buffers of a reply, each with the bytes behind it.
-fn split<'a>(mut bytes: &'a [u8], rooms: &Rooms) -> [&'a [u8]; 4] {
-    rooms.each().map(|room| {
-        let (buffer, rest) = bytes.split_at(room + BEHIND);
-        bytes = rest;
-        buffer
-    })
-}
-
-fn number(length: usize) -> u32 {
-    u32::try_from(length).expect("traces and buffers are short")
-}
-
-fn read_number(input: &mut impl Read) -> io::Result<u32> {
-    let mut bytes = [0; NUMBER_SIZE];
-    input.read_exact(&mut bytes)?;
-    Ok(u32::from_le_bytes(bytes))
-}
-
-/// The whole numbers that bytes begin with, each behind a space.
-fn numbers_in(bytes: &[u8]) -> String {
-    let (numbers, _) = bytes.as_chunks();
-    numbers
-        .iter()
-        .map(|number| format!(" {}", u32::from_le_bytes(*number)))
-        .collect()
-}
-
 /// Answers items as the program has to, by the independent judge.
 pub fn serve(mut input: impl Read, mut output: impl Write) -> io::Result<()> {
-    while let Some(call) = Call::read(&mut input)? {
-        let mut trace = vec![0; read_number(&mut input)? as usize];
-        input.read_exact(&mut trace)?;
-        output.write_all(&call.answer(&trace))?;
+    while let Some(letter) = read_letter(&mut input)? {
+        let reply = match letter {
+            b'c' => Claim::read(&mut input)?.answer(&read_bytes(&mut input)?),
+            _ => Call::read(letter, &mut input)?.answer(&read_bytes(&mut input)?),
+        };
+        output.write_all(&reply)?;
     }
     output.flush()
 }
@@ -201,7 +126,10 @@ pub fn compare(command: &str, extent: &Extent) -> (String, Option<Box<Difference
             None => Subject::random(number, extent.seed),
         };
         let subjects: Vec<Subject> = numbers.map(subject).collect();
-        check_run(command, &subjects, tally)
+        let items: Vec<Asked> = subjects.iter().flat_map(Subject::items).collect();
+        check_run(command, &items, |item| tally.count(item))?;
+        tally.traces += subjects.len();
+        Ok(())
     };
     let runs = total.div_ceil(TOGETHER);
     let (tally, difference) = workers::share(runs, extent.threads, || (), check);
@@ -242,8 +170,8 @@ impl Subject {
         }
     }
 
-    fn items(&self) -> impl Iterator<Item = Item<'_>> {
-        let item = |call| Item {
+    fn items(&self) -> impl Iterator<Item = Asked<'_>> {
+        let item = |call| Asked {
             subject: self,
             call,
         };
@@ -251,13 +179,13 @@ impl Subject {
     }
 }
 
-/// One thing asked of the program.
-struct Item<'a> {
+/// One call on one trace.
+struct Asked<'a> {
     subject: &'a Subject,
     call: &'a Call,
 }
 
-impl Item<'_> {
+impl Item for Asked<'_> {
     fn name(&self) -> String {
         format!("{}, {}", self.subject.name, self.call.describe())
     }
@@ -270,18 +198,11 @@ impl Item<'_> {
         self.call.reply(&self.subject.answer)
     }
 
-    /// The program's reply is not the expected one. What is kept is the input for
-    /// another run, with this item alone.
-    fn differs(&self, theirs: &[u8], ours: &[u8]) -> Box<Difference> {
-        Box::new(Difference {
-            name: self.name(),
-            bytes: self.to_bytes(),
-            file: "item".into(),
-            answers: [
-                ("the program", self.call.show(theirs, ours)),
-                ("the Rust side", self.call.show(ours, theirs)),
-            ],
-        })
+    fn buffers(&self) -> Vec<(&'static str, usize)> {
+        match self.call {
+            Call::Decide { rooms, .. } => BUFFERS.into_iter().zip(rooms.each()).collect(),
+            Call::Strongest => vec![],
+        }
     }
 }
 
@@ -298,7 +219,7 @@ fn telling_calls(answer: &Answer) -> Vec<Call> {
         let rooms = enough(answer, level);
         calls.push(Call::Decide { level, rooms });
     }
-    for (counts, level) in (0..=Counts::SIZE + NUMBER_SIZE).zip((1..=3).cycle()) {
+    for (counts, level) in NUMBERS_ROOMS.zip((1..=3).cycle()) {
         let rooms = enough(answer, level);
         let rooms = Rooms { counts, ..rooms };
         calls.push(Call::Decide { level, rooms });
@@ -361,19 +282,13 @@ fn telling_rooms(needed: Rooms) -> Vec<Rooms> {
 
 /// A decision at a random level, mostly one of the three, with rooms of all sorts.
 fn drawn_call(random: &mut Random, answer: &Answer) -> Call {
-    let level = match random.percent(4) {
-        true => *random.pick(&NO_LEVELS),
-        false => random.from_to(1, 3) as u32,
-    };
+    let level = drawn_level(random);
     let needed = enough(answer, level);
     let rooms = Rooms {
         findings: drawn_room(random, needed.findings, Rooms::AMPLE.findings),
         pairs: drawn_room(random, needed.pairs, Rooms::AMPLE.pairs),
         order: drawn_room(random, needed.order, Rooms::AMPLE.order),
-        counts: match random.percent(60) {
-            true => Counts::SIZE,
-            false => random.below(Counts::SIZE + NUMBER_SIZE + 1),
-        },
+        counts: drawn_numbers_room(random),
     };
     Call::Decide { level, rooms }
 }
@@ -388,61 +303,6 @@ fn drawn_room(random: &mut Random, needed: usize, ample: usize) -> usize {
         65..=84 => needed + random.from_to(1, 24),
         _ => ample,
     }
-}
-
-/// Puts the items through one run of the program, and compares. Whether it answers
-/// each at once or all at the end does not matter.
-fn check_run(
-    command: &str,
-    subjects: &[Subject],
-    tally: &mut Outcomes,
-) -> Result<(), Box<Difference>> {
-    let items: Vec<Item> = subjects.iter().flat_map(Subject::items).collect();
-    let input: Vec<u8> = items.iter().flat_map(Item::to_bytes).collect();
-    let (output, failure) = match process::run_to_end(command, &input) {
-        Ok(ended) => (ended.output, ended.failure),
-        Err(message) => (vec![], Some(message)),
-    };
-    let mut left = output.as_slice();
-    for (index, item) in items.iter().enumerate() {
-        let ours = item.reply();
-        let Some((theirs, rest)) = left.split_at_checked(ours.len()) else {
-            let message = failure.unwrap_or("ended before its answer did".into());
-            return Err(run_differs(
-                &items[index..],
-                format!("no answer: {message}"),
-            ));
-        };
-        if theirs != ours {
-            return Err(item.differs(theirs, &ours));
-        }
-        tally.count(item);
-        left = rest;
-    }
-    tally.traces += subjects.len();
-    match (failure, left.len()) {
-        (Some(message), _) => Err(run_differs(&items, format!("each answer, then {message}"))),
-        (None, 0) => Ok(()),
-        (None, more) => Err(run_differs(
-            &items,
-            format!("{more} bytes behind the last answer"),
-        )),
-    }
-}
-
-/// The program did not come to a right end with these items. It may have been any
-/// of them, since its last answers may be lost, so that all of them are kept.
-fn run_differs(items: &[Item], message: String) -> Box<Difference> {
-    let first = items.first().map(Item::name).unwrap_or_default();
-    Box::new(Difference {
-        name: format!("a run of items, {first}, or one behind it"),
-        bytes: items.iter().flat_map(Item::to_bytes).collect(),
-        file: "items".into(),
-        answers: [
-            ("the program", message + "\n"),
-            ("what was asked", format!("{} items\n", items.len())),
-        ],
-    })
 }
 
 /// How often each thing occurred.
@@ -466,7 +326,7 @@ impl Tally for Outcomes {
 }
 
 impl Outcomes {
-    fn count(&mut self, item: &Item) {
+    fn count(&mut self, item: &Asked) {
         let answer = &item.subject.answer;
         let Call::Decide { level, rooms } = item.call else {
             self.decisions.count_strongest(answer);

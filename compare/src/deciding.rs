@@ -1,4 +1,4 @@
-//! What the index decides about a replica, by the independent judge: the two
+//! What the index decides about a replica, by the independent judge: the first two
 //! calls of the upper library, on numbers and bytes.
 //!
 //! The first call has a level that may be any number, and buffers that may be too
@@ -48,27 +48,17 @@ pub struct Counts {
 
 impl Counts {
     /// Bytes of all five.
-    pub const SIZE: usize = 5 * Counts::EACH;
-    /// Bytes of one.
-    const EACH: usize = size_of::<u32>();
+    pub const SIZE: usize = size_of::<[u32; 5]>();
 
-    /// Their form in a buffer.
-    fn bytes(&self) -> Vec<u8> {
-        let all = [
+    /// In the order in which they are written.
+    fn each(&self) -> [u32; 5] {
+        [
             self.findings,
             self.pairs,
             self.order,
             self.refusal,
             self.place,
-        ];
-        all.into_iter().flat_map(u32::to_le_bytes).collect()
-    }
-
-    /// What a buffer of this size gets: those of them that fit whole.
-    fn fitting(&self, room: usize) -> Vec<u8> {
-        let mut bytes = self.bytes();
-        bytes.truncate(room - room % Counts::EACH);
-        bytes
+        ]
     }
 }
 
@@ -263,13 +253,12 @@ impl<'a> Outcome<'a> {
             }
             Err(_) => {}
         }
-        let counts = self.counts().fitting(buffers.counts.len());
-        begin(&mut buffers.counts, &counts);
+        put_numbers(&mut buffers.counts, &self.counts().each());
     }
 }
 
 /// The level of this number, or row 1.
-fn level_of(number: u32) -> Result<Level, Refusal> {
+pub fn level_of(number: u32) -> Result<Level, Refusal> {
     Level::of_number(number).ok_or(Refusal {
         number: 1,
         place: 0,
@@ -298,8 +287,17 @@ fn check_rooms(rooms: &Rooms, needed: &Rooms) -> Result<(), Refusal> {
     Ok(())
 }
 
-fn count(number: usize) -> u32 {
+/// A number of things in a trace, or a place in it, as a call answers it.
+pub fn count(number: usize) -> u32 {
     u32::try_from(number).expect("a trace is short")
+}
+
+/// Puts numbers at the beginning of a buffer, little-endian: those that fit whole.
+pub fn put_numbers(buffer: &mut [u8], numbers: &[u32]) {
+    let (places, _) = buffer.as_chunks_mut();
+    for (place, number) in places.iter_mut().zip(numbers) {
+        *place = number.to_le_bytes();
+    }
 }
 
 /// Puts the bytes at the beginning of a buffer that has room for them.

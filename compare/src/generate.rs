@@ -78,6 +78,24 @@ pub fn any(random: &mut Random) -> (Origin, Vec<u8>) {
     }
 }
 
+/// A random trace of a store that answers rightly or nearly so: most are accepted, and
+/// there is much to be ordered in them.
+pub fn sound(random: &mut Random) -> (Origin, Vec<u8>) {
+    let edition = *random.pick(&[Edition::One, Edition::Two]);
+    let (origin, shape) = match random.below(10) {
+        0 => (Origin::Large, Shape::large(random, edition)),
+        1..=4 => (Origin::Medium, Shape::medium(random, edition)),
+        _ => (Origin::Small, Shape::small(random, edition)),
+    };
+    let shape = Shape {
+        stale: *random.pick(&[0, 0, 2, 10]),
+        ahead: false,
+        wild: 0,
+        ..shape
+    };
+    (origin, shape.trace(random))
+}
+
 /// Random bytes, behind the record that the edition begins with; from a small
 /// alphabet they get further before they fail.
 fn bytes(random: &mut Random, edition: Edition) -> Vec<u8> {

@@ -26,6 +26,14 @@ fn members(mut set: Set) -> impl Iterator<Item = u8> {
     })
 }
 
+/// The pairs of either of two relations.
+fn either(mut one: Rows, other: &Rows) -> Rows {
+    for (row, more) in one.iter_mut().zip(other) {
+        *row |= more;
+    }
+    one
+}
+
 /// A clean external read.
 struct ExternalRead {
     reader: u8,
@@ -148,6 +156,25 @@ impl History {
         self.verdict(basic, &rivals)
     }
 
+    /// The unclean reads, by operation number.
+    pub fn findings(&self) -> &[Finding] {
+        &self.findings
+    }
+
+    /// The transactions that count as committed, 0 among them, ascending.
+    pub fn counted(&self) -> Vec<u8> {
+        members(self.counted).collect()
+    }
+
+    /// All pairs that the level forces.
+    pub fn forced_pairs(&self, level: Level) -> ForcedPairs {
+        let basic = self.basic();
+        let rivals = self.rivals(level, &basic);
+        ForcedPairs {
+            before: either(basic, &rivals),
+        }
+    }
+
     /// The verdict at level 3 as it would be if `leads` told what leads to what
     /// through basic pairs, of any two besides 0.
     pub fn judge_causal_by(&self, leads: impl Fn(u8, u8) -> bool) -> Verdict {
@@ -161,10 +188,7 @@ impl History {
 
     /// The verdict by the basic pairs and those that a level adds.
     fn verdict(&self, basic: Rows, rival_before: &Rows) -> Verdict {
-        let mut before = basic;
-        for (row, rivals) in before.iter_mut().zip(rival_before) {
-            *row |= rivals;
-        }
+        let before = either(basic, rival_before);
         match smallest_order(&before, self.counted) {
             Some(order) if self.findings.is_empty() => Verdict::Accepted(order),
             order => Verdict::Rejected {
@@ -291,6 +315,30 @@ impl BasicPairs {
     /// Whether some transaction leads to itself.
     pub fn form_cycle(&self) -> bool {
         (0..=MAX_TRANSACTIONS as u8).any(|t| self.leads(t, t))
+    }
+}
+
+/// The pairs that a level forces.
+pub struct ForcedPairs {
+    before: Rows,
+}
+
+impl ForcedPairs {
+    /// Whether the one has to stand before the other.
+    pub fn has(&self, first: u8, second: u8) -> bool {
+        self.before[usize::from(second)] & only(first) != 0
+    }
+
+    /// Of those that stand the wrong way round in an order of transactions that
+    /// count, the least by first and then second.
+    pub fn least_reversed(&self, order: &[u8]) -> Option<(u8, u8)> {
+        let mut behind: Set = 0;
+        let reversed = order.iter().rev().filter_map(|&second| {
+            let firsts = self.before[usize::from(second)] & behind;
+            behind |= only(second);
+            Some((members(firsts).next()?, second))
+        });
+        reversed.min()
     }
 }
 

@@ -1,12 +1,13 @@
 //! An independent judge, writer and mover of transaction traces, with the
-//! decisions of the index.
+//! decisions of the index and the answers to claimed orders.
 //!
 //! It is written from the specification alone, `01-scope.md` and the requests
 //! for a writer, for unanswered commits, for the writes of unclean reads, for
 //! overlapping transactions, for moves between the editions, for notes that are
-//! only counted, for the calls of the index and for vectors, to be compared with the
-//! proved judge, writer, mover and upper library: the two sides share no code, so a
-//! mistake would have to be made twice, in the same way, to stay unseen.
+//! only counted, for the calls of the index, for vectors and for orders from elsewhere,
+//! to be compared with the proved judge, writer, mover and upper library: the two sides
+//! share no code, so a mistake would have to be made twice, in the same way, to stay
+//! unseen.
 //!
 //! * [`trace`] reads the bytes of a trace, or says why they are refused;
 //! * [`graph`] decides by forced pairs, for any trace, and is meant to be fast;
@@ -20,13 +21,16 @@
 //!   reads what is printed so;
 //! * [`deciding`] decides for the index, at any level and with buffers of any
 //!   size, and finds the strongest level;
+//! * [`claiming`] says yes or no to an order that is claimed;
 //! * [`writing`] writes traces from steps and turns traces into steps;
 //! * [`moving`] moves traces between the editions;
 //! * [`encode`], [`text`], [`weave`], [`notes`], [`generate`], [`cases`],
 //!   [`bucket_cases`], [`overlap_cases`], [`vector_cases`] and [`note_cases`] make
-//!   traces, [`sequences`] and [`sequence_cases`] sequences of steps;
-//! * [`process`], [`workers`], [`scribes`], [`moves`], [`calls`] and [`daemon`]
-//!   compare.
+//!   traces, [`sequences`] and [`sequence_cases`] sequences of steps, [`orders`] orders
+//!   to be claimed;
+//! * [`laws`] sees that what has to hold of all claims does;
+//! * [`process`], [`workers`], [`items`], [`scribes`], [`moves`], [`calls`], [`claims`]
+//!   and [`daemon`] compare.
 //!
 //! [`believe`], with [`declarations`] and [`mentions`], judges nothing: it prints
 //! what a reader of the proved side has to believe, and sees that it is closed.
@@ -36,6 +40,8 @@ pub mod brute;
 pub mod bucket_cases;
 pub mod calls;
 pub mod cases;
+pub mod claiming;
+pub mod claims;
 pub mod daemon;
 pub mod deciding;
 pub mod declarations;
@@ -43,11 +49,14 @@ pub mod encode;
 pub mod generate;
 pub mod graph;
 pub mod hash;
+pub mod items;
+pub mod laws;
 pub mod mentions;
 pub mod moves;
 pub mod moving;
 pub mod note_cases;
 pub mod notes;
+pub mod orders;
 pub mod overlap_cases;
 pub mod process;
 pub mod random;

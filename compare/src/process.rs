@@ -76,10 +76,12 @@ pub fn run_to_end(command: &str, input: &[u8]) -> Result<Ended, String> {
     feed(spawn(command)?, input)
 }
 
-/// The same, with its standard error kept as a part of what it answers.
-pub fn run_keeping_error(command: &str, input: &[u8]) -> Result<Ended, String> {
-    let child = start(command, piped(command).stderr(Stdio::piped()))?;
-    feed(child, input)
+/// The same, with these arguments behind its own, and with its standard error kept as
+/// a part of what it answers.
+pub fn run_keeping_error(command: &str, arguments: &[&str], input: &[u8]) -> Result<Ended, String> {
+    let mut piped = piped(command);
+    piped.args(arguments).stderr(Stdio::piped());
+    feed(start(command, &mut piped)?, input)
 }
 
 /// One run of the program `stream` over so many traces. Whether it answers each

@@ -116,7 +116,7 @@ impl Said {
 /// of the answer where it tells the number of notes, and passed through elsewhere.
 fn once_answer(way: Way, command: &str, input: &[u8]) -> Result<Said, String> {
     let ended = match way.tells_notes() {
-        true => process::run_keeping_error(command, input)?,
+        true => process::run_keeping_error(command, &[], input)?,
         false => process::run_to_end(command, input)?,
     };
     match ended.failure {

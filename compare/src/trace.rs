@@ -1,9 +1,9 @@
 //! Reading a trace of either edition: rows 2 to 11 of the table of refusals.
 //!
 //! Row 1 (the level) and rows 12 to 14 (the buffers) are given in
-//! [`crate::deciding`]: elsewhere [`crate::report::Level`] cannot be wrong, and
-//! there are no buffers. Number 16 is given in [`crate::writing`] and
-//! [`crate::moving`].
+//! [`crate::deciding`], and row 1 also in [`crate::claiming`]: elsewhere
+//! [`crate::report::Level`] cannot be wrong, and there are no buffers. Number 16 is
+//! given in [`crate::writing`] and [`crate::moving`].
 
 use crate::hash::FastMap;
 

@@ -3,6 +3,7 @@
 
 use ferozhak_compare::calls::{self, Call};
 use ferozhak_compare::deciding::{decide, strongest, Buffers, Decision, Rooms};
+use ferozhak_compare::items::NUMBERS_SIZE;
 use ferozhak_compare::random::Random;
 use ferozhak_compare::report::Level;
 use ferozhak_compare::trace::{Trace, MAX_BYTES};
@@ -120,6 +121,11 @@ fn the_header_has_the_numbers_of_the_documents() {
     assert_eq!(named("", ["TRACE_MAX"]), [MAX_BYTES]);
     let counts = ["FINDINGS", "PAIRS", "ORDER", "REFUSAL", "PLACE"];
     assert_eq!(named("COUNT_", counts), [0, 4, 8, 12, 16]);
+    let claimed = ["YES", "NO_READ", "NO_MEMBERS", "NO_PAIR", "REFUSED"];
+    assert_eq!(named("CLAIM_", claimed), [1, 2, 3, 4, 5]);
+    assert_eq!(named("CLAIM_", ["NUMBERS"]), [NUMBERS_SIZE]);
+    let numbers = ["OPERATION", "FIRST", "SECOND", "REFUSAL", "PLACE"];
+    assert_eq!(named("CLAIM_", numbers), [0, 4, 8, 12, 16]);
     let finding = ["SIZE", "TRANSACTION", "KIND", "OPERATION", "WRITE"];
     assert_eq!(named("FINDING_", finding), [6, 0, 1, 2, 4]);
     let pair = ["SIZE", "FIRST", "SECOND", "REASONS"];

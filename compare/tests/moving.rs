@@ -528,7 +528,7 @@ fn a_run_of_each_program_moves() {
     let two = encode("edition 2; T1 w1=5");
     let run = |option: &str, input: &[u8]| {
         let command = format!("{SCRIBE} {option}");
-        let ended = process::run_keeping_error(&command, input).unwrap();
+        let ended = process::run_keeping_error(&command, &[], input).unwrap();
         assert_eq!(ended.failure, None);
         [ended.output, ended.error].map(|bytes| String::from_utf8(bytes).unwrap())
     };

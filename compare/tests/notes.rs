@@ -443,7 +443,7 @@ fn a_run_of_each_program_tells_the_number() {
     let long = encode(&format!("note \"a\"; note \"{}\"", "n".repeat(65)));
     let moved = encode("edition 2; T1 s1 w1=5");
     let run = |input: &[u8]| {
-        let ended = process::run_keeping_error(&format!("{SCRIBE} --to-2"), input).unwrap();
+        let ended = process::run_keeping_error(&format!("{SCRIBE} --to-2"), &[], input).unwrap();
         assert_eq!(ended.failure, None);
         (ended.output, ended.error)
     };

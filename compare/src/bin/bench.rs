@@ -1,12 +1,16 @@
 //! Makes full traces for measuring, and measures judges on traces.
 
+use ferozhak_compare::calls::Call;
+use ferozhak_compare::claims::Claim;
+use ferozhak_compare::deciding::Rooms;
 use ferozhak_compare::encode::Writer;
 use ferozhak_compare::generate::Shape;
+use ferozhak_compare::items::NUMBERS_SIZE;
 use ferozhak_compare::random::Random;
 use ferozhak_compare::report::{Level, Verdict};
 use ferozhak_compare::trace::{Edition, Status, Trace, MAX_OPERATIONS, MAX_TRANSACTIONS};
 use ferozhak_compare::weave::{self, Whole};
-use ferozhak_compare::{judge_all, judge_one, Answer};
+use ferozhak_compare::{graph, judge_all, judge_one, Answer};
 use std::hint::black_box;
 use std::io::{self, Write as _};
 use std::path::Path;
@@ -16,6 +20,11 @@ use std::time::{Duration, Instant};
 const USAGE: &str = "Usage:
   bench --write DIR     writes the traces for measuring into DIR
   bench --time FILE..   prints the time of one call of each judge on each file
+  bench --claim LEVEL FILE
+                        writes an item to standard output, for a program that makes the calls: the claim of the order
+                        that is shown at the level, 1 to 3, or else of the members by number
+  bench --decide LEVEL FILE
+                        the same for the decision at the level, with just enough room
 ";
 
 /// Reads and judges a trace at all three levels, and answers a number made
@@ -57,6 +66,8 @@ fn main() -> ExitCode {
     let done = match words[..] {
         ["--write", folder] => write_traces(Path::new(folder)),
         ["--time", ref files @ ..] if !files.is_empty() => time_files(files),
+        ["--claim", level, file] => write_item(level, file, claim_item),
+        ["--decide", level, file] => write_item(level, file, decide_item),
         _ => {
             eprint!("{USAGE}");
             return ExitCode::from(2);
@@ -79,10 +90,48 @@ fn write_traces(folder: &Path) -> io::Result<()> {
     Ok(())
 }
 
+fn read_file(file: &str) -> io::Result<Vec<u8>> {
+    std::fs::read(file).map_err(|error| io::Error::new(error.kind(), format!("{file}: {error}")))
+}
+
+/// Writes what is asked about a trace that is not refused, given its verdict.
+fn write_item(
+    level: &str,
+    file: &str,
+    item: fn(&[u8], Level, &Verdict) -> Vec<u8>,
+) -> io::Result<()> {
+    let level = level.parse().ok().and_then(Level::of_number);
+    let level = level.ok_or(io::Error::other("no such level"))?;
+    let bytes = read_file(file)?;
+    let verdict = judge_one(&bytes, level)
+        .map_err(|refusal| io::Error::other(format!("{file}: {}", refusal.meaning())))?;
+    io::stdout().write_all(&item(&bytes, level, &verdict))
+}
+
+fn claim_item(bytes: &[u8], level: Level, verdict: &Verdict) -> Vec<u8> {
+    let order = match verdict {
+        Verdict::Accepted(order) => order.clone(),
+        Verdict::Rejected { .. } => graph::counted(&Trace::parse(bytes).expect("it was judged")),
+    };
+    let claim = Claim {
+        level: level.number(),
+        order,
+        room: NUMBERS_SIZE,
+    };
+    claim.item(bytes)
+}
+
+fn decide_item(bytes: &[u8], level: Level, verdict: &Verdict) -> Vec<u8> {
+    let call = Call::Decide {
+        level: level.number(),
+        rooms: Rooms::needed(verdict),
+    };
+    call.item(bytes)
+}
+
 fn time_files(files: &[&str]) -> io::Result<()> {
     for file in files {
-        let bytes = std::fs::read(file)
-            .map_err(|error| io::Error::new(error.kind(), format!("{file}: {error}")))?;
+        let bytes = read_file(file)?;
         let mut lines = format!("{file}: {}\n", describe(&bytes));
         for (name, judge) in judges() {
             let (median, least) = time(judge, &bytes);

@@ -1,8 +1,9 @@
 //! Compares a program `judge` with the independent judge on many traces, the
 //! independent judge's two deciders with each other, the programs that write and
 //! move traces with the independent writer and mover, the verdicts of traces with
-//! those of the moved ones, and the programs that decide about traces, by the
-//! calls of the upper library, with the independent decisions.
+//! those of the moved ones, the programs that decide about traces, by the calls of
+//! the upper library, with the independent decisions, and what is said of claimed
+//! orders with the independent answers.
 
 use ferozhak_compare::cases::{self, Case};
 use ferozhak_compare::encode::Writer;
@@ -16,7 +17,8 @@ use ferozhak_compare::trace::{Edition, Refusal, Status, Trace};
 use ferozhak_compare::vectors::Vectors;
 use ferozhak_compare::weave::{self, Judged};
 use ferozhak_compare::workers::{self, add_each, Difference, Extent, Tally};
-use ferozhak_compare::{brute, calls, daemon, graph, judge_text, judge_trace, scribes, Answer};
+use ferozhak_compare::{brute, calls, claims, daemon, graph, laws, scribes};
+use ferozhak_compare::{judge_text, judge_trace, Answer};
 use std::io::{self, BufRead, BufReader, Write};
 use std::process::{Child, ChildStdin, ChildStdout, ExitCode};
 
@@ -26,7 +28,7 @@ const USAGE: &str = "Usage:
   compare --self [options]             compares the Rust judge's two deciders only, also on what counts as committed
                                        and on the writes of unclean reads, and its answers of the same transactions
                                        in both editions and woven together in another way, and what leads to what
-                                       with what vectors say
+                                       with what vectors say, and what is said of claimed orders
   compare --scribe COMMAND [options]   compares the program `scribe` with the Rust writer and mover: many items a run
   compare --writer COMMAND [options]   the same with the program `writer`: a run for each sequence of steps
   compare --rewrite COMMAND [options]  the same with the program `rewrite`: a run for each trace
@@ -43,13 +45,17 @@ const USAGE: &str = "Usage:
                                        compares what the program `daemon` prints of a directory of traces, at each
                                        level, with the decisions of the Rust judge and with what the program `stream`
                                        says of each trace: a run a level
+  compare --claims COMMAND [options]   compares what a program that makes the calls says of claimed orders with the
+                                       answers of the Rust judge, with all that the buffer holds: many items a run
+  compare --claim COMMAND [options]    the same with the program `claim`: a run for each claim, and some with arguments
+                                       that say none
 A COMMAND is a program and its arguments, parted by spaces.
 Half of the random traces are of edition 2, with transactions that overlap.
 Options:
   --traces N    at least this many traces (default 100000); with --scribe, --writer, --rewrite, --to-1 and
                 --to-2 this many random sequences and as many random traces, besides the known cases
-                (default 300 for all of these but --scribe); with --calls and --daemon this many random
-                traces, besides the known cases (default 2000 for --daemon)
+                (default 300 for all of these but --scribe); with --calls, --claims, --claim and --daemon this
+                many random traces, besides the known cases (default 120 for --claim, 2000 for --daemon)
   --seed S      the seed of the random traces (default 1)
   --threads K   how many threads, each running one program at a time (default 1); not with --daemon, which
                 has its own
@@ -62,6 +68,10 @@ enum Compared {
     Moves(moves::Programs),
     /// The command of a program that makes the calls.
     Calls(String),
+    /// The same, for claimed orders.
+    Claims(String),
+    /// The command of the program `claim`.
+    Claim(String),
     Daemon(daemon::Programs),
 }
 
@@ -116,6 +126,8 @@ fn main() -> ExitCode {
         Compared::Writers(program) => scribes::compare(program, extent),
         Compared::Moves(programs) => moves::compare(programs, extent),
         Compared::Calls(command) => calls::compare(command, extent),
+        Compared::Claims(command) => claims::compare_calls(command, extent),
+        Compared::Claim(command) => claims::compare_program(command, extent),
         Compared::Daemon(programs) => daemon::compare(programs, extent),
     };
     if let Some(difference) = &difference {
@@ -147,6 +159,8 @@ fn parse_options(mut words: impl Iterator<Item = String>) -> Result<Options, Str
             "--stream" => compared = judges(Program::Stream(value)),
             "--scribe" => compared = writers(scribes::Program::Scribe(value)),
             "--calls" => compared = Some(Compared::Calls(value)),
+            "--claims" => compared = Some(Compared::Claims(value)),
+            "--claim" => compared = Some(Compared::Claim(value)),
             "--moves" => beside_stream = Some(BesideStream::Moves(value)),
             "--daemon" => beside_stream = Some(BesideStream::Daemon(value)),
             "--traces" => traces = Some(value.parse().map_err(wrong)?),
@@ -167,15 +181,16 @@ fn parse_options(mut words: impl Iterator<Item = String>) -> Result<Options, Str
         _ => {
             return Err("give one of --judge COMMAND, --stream COMMAND, --self, \
                         --scribe COMMAND, --writer COMMAND, --rewrite COMMAND, \
-                        --to-1 COMMAND, --to-2 COMMAND and --calls COMMAND, or \
-                        --stream COMMAND and one of --moves COMMAND and \
-                        --daemon COMMAND"
+                        --to-1 COMMAND, --to-2 COMMAND, --calls COMMAND, \
+                        --claims COMMAND and --claim COMMAND, or --stream COMMAND \
+                        and one of --moves COMMAND and --daemon COMMAND"
                 .into())
         }
     };
     // A run for each item takes its time.
     let usual = match compared {
         Compared::Writers(scribes::Program::Once(..)) => 300,
+        Compared::Claim(_) => 120,
         // So does a file for each trace.
         Compared::Daemon(_) => 2_000,
         _ => 100_000,
@@ -254,7 +269,8 @@ impl Subject {
                 .and_then(|()| check_findings(trace, verdicts))
                 .and_then(|()| check_orders(trace, verdicts, summary))
                 .and_then(|()| check_choices(trace, verdicts, summary))
-                .and_then(|()| self.check_vectors(trace, summary));
+                .and_then(|()| self.check_vectors(trace, summary))
+                .and_then(|()| self.check_claims(trace, verdicts, summary));
             if let Err(Deciders {
                 tried,
                 brute,
@@ -296,6 +312,24 @@ impl Subject {
                 graph: format!("otherwise of {other:?}, merged alike {is_merged}\n"),
             }),
         }
+    }
+
+    /// Claimed orders are answered as they have to be.
+    fn check_claims(
+        &self,
+        trace: &Trace,
+        verdicts: &[Verdict; 3],
+        summary: &mut Summary,
+    ) -> Result<(), Deciders> {
+        let mut random = Random::new(3, self.index as u64);
+        let checked = laws::check(&self.bytes, trace, verdicts, &mut random);
+        let tried = checked.map_err(|message| Deciders {
+            tried: "what has to hold of claimed orders",
+            brute: message,
+            graph: format!("{verdicts:?}\n"),
+        })?;
+        summary.claims.add(&tried);
+        Ok(())
     }
 
     /// What the program prints is what the Rust judge prints.
@@ -637,6 +671,7 @@ struct Summary {
     /// basic pairs form a cycle.
     vectors: usize,
     vectors_cyclic: usize,
+    claims: laws::Tried,
 }
 
 /// How many traces are of edition 2, and what there is in each edition.
@@ -760,6 +795,7 @@ impl Tally for Summary {
         self.relatives_woven += other.relatives_woven;
         self.vectors += other.vectors;
         self.vectors_cyclic += other.vectors_cyclic;
+        self.claims.add(&other.claims);
     }
 }
 
@@ -813,6 +849,10 @@ impl Summary {
             format!(
                 "what leads to what in {} traces also by vectors, {} of these with a cycle",
                 self.vectors, self.vectors_cyclic
+            ),
+            format!(
+                "{} claims tried, {} with a yes, {} of all also by the axioms",
+                self.claims.claims, self.claims.yes, self.claims.by_axioms
             ),
             "origins:".into(),
         ];

@@ -4,37 +4,44 @@
 //! `--`. If the last trace of a stream is cut, what there is of it is judged.
 //!
 //! With `--calls` it answers items as a program that makes the calls of the upper
-//! library, and with `--daemon` it decides about the files of a directory as the
-//! program `daemon`.
+//! library, with `--daemon` it decides about the files of a directory as the program
+//! `daemon`, and with `--claim` it says what the program `claim` does of a claimed order
+//! on the trace.
 
+use ferozhak_compare::claiming::{self, claim};
 use ferozhak_compare::report::Level;
 use ferozhak_compare::{calls, daemon};
 use std::io::{self, BufReader, BufWriter, Read, Write};
 use std::path::Path;
 use std::process::ExitCode;
 
-const USAGE: &str = "usage: rustjudge [--stream | --calls | --daemon LEVEL DIRECTORY]";
+const USAGE: &str =
+    "usage: rustjudge [--stream | --calls | --daemon LEVEL DIRECTORY | --claim rc|ra|tcc T..]";
 
 fn main() -> ExitCode {
     let words: Vec<String> = std::env::args().skip(1).collect();
     let words: Vec<&str> = words.iter().map(String::as_str).collect();
     let done = match words[..] {
-        [] => run(),
-        ["--stream"] => stream(),
-        ["--calls"] => calls::serve(
+        [] => Some(run()),
+        ["--stream"] => Some(stream()),
+        ["--calls"] => Some(calls::serve(
             BufReader::new(io::stdin().lock()),
             BufWriter::new(io::stdout().lock()),
-        ),
-        ["--daemon", level, directory] => decide(level, Path::new(directory)),
-        _ => {
-            eprintln!("{USAGE}");
-            return ExitCode::from(2);
+        )),
+        ["--daemon", level, directory] => Some(decide(level, Path::new(directory))),
+        ["--claim", ref words @ ..] => {
+            claiming::arguments(words).map(|(level, order)| answer(level, &order))
         }
+        _ => None,
     };
     match done {
-        Ok(()) => ExitCode::SUCCESS,
-        Err(error) => {
+        Some(Ok(())) => ExitCode::SUCCESS,
+        Some(Err(error)) => {
             eprintln!("rustjudge: {error}");
+            ExitCode::from(2)
+        }
+        None => {
+            eprintln!("{USAGE}");
             ExitCode::from(2)
         }
     }
@@ -72,4 +79,10 @@ fn decide(level: &str, directory: &Path) -> io::Result<()> {
     let level = Level::of_number(number).ok_or(io::Error::other("no such level"))?;
     let output = BufWriter::new(io::stdout().lock());
     daemon::print_directory(level, directory, output)
+}
+
+fn answer(level: Level, order: &[u8]) -> io::Result<()> {
+    let bytes = ferozhak_compare::read_bounded(io::stdin().lock())?;
+    let claimed = claim(&bytes, level.number(), order);
+    io::stdout().write_all(claimed.line().as_bytes())
 }

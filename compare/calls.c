@@ -1,10 +1,10 @@
 /* Makes the library's C calls for items that it reads, so that their answers can be compared and the stack that they need
    can be measured.
 
-       calls [STACK] < items > answers
+       calls [STACK [REPEATS]] < items > answers
 
    Each item is done in a thread of its own whose stack has STACK bytes (FEROZHAK_STACK if it is not given); that thread
-   does nothing but the call. Reading and writing are the main thread's, and all buffers are static, so what runs out of
+   does nothing but the call, REPEATS times where that is given, so that a call can be timed without its thread. Reading and writing are the main thread's, and all buffers are static, so what runs out of
    stack is the call. Then the processor stops the program, as it does with any thread that leaves its stack. Numbers are 4
    bytes, little-endian.
 
@@ -44,6 +44,10 @@ static uint32_t level, length, claim_length, answer;
 static uint8_t trace[LENGTH_MAX], claim[ROOM_MAX];
 static struct { uint32_t room; uint8_t bytes[ROOM_MAX + BEHIND]; } lent[4];
 static uint8_t *top;
+
+/* What a thread does, and how often. */
+static void *(*repeated)(void *);
+static unsigned long repeats = 1;
 
 static void *decide(void *unused)
 {
@@ -115,11 +119,22 @@ static void lend_stack(pthread_attr_t *attributes, size_t size)
         stop("the C library refuses the stack");
 }
 
+static void *repeat(void *unused)
+{
+    unsigned long i;
+
+    for (i = 0; i < repeats; i++)
+        repeated(unused);
+    return unused;
+}
+
+/* A call that is made once is the thread's own function, so that nothing else is on its stack. */
 static void call(const pthread_attr_t *attributes, void *(*what)(void *))
 {
     pthread_t thread;
 
-    if (pthread_create(&thread, attributes, what, NULL) || pthread_join(thread, NULL))
+    repeated = what;
+    if (pthread_create(&thread, attributes, repeats > 1 ? repeat : what, NULL) || pthread_join(thread, NULL))
         stop("the C library refuses the thread");
     put_number(answer);
 }
@@ -171,12 +186,14 @@ static void take_claim(const pthread_attr_t *attributes)
 int main(int argc, char **argv)
 {
     pthread_attr_t attributes;
-    char *end = "";
+    char *end = "", *last = "";
     unsigned long stack = argc > 1 ? strtoul(argv[1], &end, 10) : FEROZHAK_STACK;
     int kind;
 
-    if (argc > 2 || *end || stack == 0 || stack > 1 << 30)
-        stop("usage: calls [STACK]");
+    if (argc > 2)
+        repeats = strtoul(argv[2], &last, 10);
+    if (argc > 3 || *end || *last || stack == 0 || stack > 1 << 30 || repeats == 0)
+        stop("usage: calls [STACK [REPEATS]]");
     lend_stack(&attributes, stack);
     while ((kind = getchar()) != EOF) {
         if (kind == 'd') {

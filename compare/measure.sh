@@ -115,21 +115,22 @@ open(sys.argv[3], 'wb').write((b'd' + asked + number(len(bytes_)) + bytes_) * in
 PY
     row "$(basename "$trace")" "$calls" 'target/compare/release/rustjudge --calls'
 done
-# the input: what bench writes, as often as is measured
-items() {
-    target/compare/release/bench "$@" >"$work/item"
-    python3 -c 'import sys; sys.stdout.buffer.write(sys.stdin.buffer.read() * int(sys.argv[1]))' "$repeats" <"$work/item" >"$work/input"
+# the processor seconds of a call that is made so often in one thread: what bench writes is asked
+called() {
+    target/compare/release/bench "$1" "$2" "$3" >"$work/input"
+    # shellcheck disable=SC2086
+    seconds $calls 65536 "$repeats"
 }
 for level in 1 2 3; do
     printf '%-24s %10s %10s %8s %10s %8s\n' "claim, level $level" 'proved us' 'decide us' ratio 'Rust us' ratio
     for trace in "$work"/traces/*; do
-        items --decide "$level" "$trace"
-        # shellcheck disable=SC2086
-        decide=$(seconds $calls)
-        items --claim "$level" "$trace"
-        # shellcheck disable=SC2086
-        claim=$(seconds $calls); mv "$work/output" "$work/ours"
-        rust=$(seconds target/compare/release/rustjudge --calls); cmp -s "$work/ours" "$work/output" || echo "the answers differ" >&2
+        decide=$(called --decide "$level" "$trace")
+        claim=$(called --claim "$level" "$trace"); mv "$work/output" "$work/ours"
+        # the independent side has the item so often
+        python3 -c 'import sys; sys.stdout.buffer.write(open(sys.argv[1], "rb").read() * int(sys.argv[2]))' "$work/input" "$repeats" >"$work/items"
+        mv "$work/items" "$work/input"
+        rust=$(seconds target/compare/release/rustjudge --calls)
+        cmp -s "$work/ours" <(head -c "$(wc -c <"$work/ours")" "$work/output") || echo "the answers differ" >&2
         awk -v n="$(basename "$trace")" -v c="$claim" -v d="$decide" -v t="$rust" -v r="$repeats" \
             'BEGIN { printf "%-24s %10.1f %10.1f %8.2f %10.1f %8.2f\n", n, c * 1e6 / r, d * 1e6 / r, (d > 0 ? c / d : 0), t * 1e6 / r, (t > 0 ? c / t : 0) }'
     done

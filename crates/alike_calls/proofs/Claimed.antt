@@ -22,7 +22,7 @@ use Rattle.noteless.specs.Without.{ButForNotes}
 use Rattle.noteless.proofs.ButFor.{notes-reading}
 use Rattle.moved.specs.Moved.{Moved}
 use Rattle.claims_rules.specs.Claims.{Reply, no-read, reply, unclean, isStray, isMissing, hasMembers, claimedIn, claimedRead, claimed}
-use Rattle.claims_rules.specs.Numbers.{replyNo, numberedAs, numbered}
+use Rattle.claims_rules.specs.Numbers.{replyNo, inNumbers, claimedInNumbers}
 use Rattle.claims_rules.proofs.Claims.{unclean-none, unclean-some, reply-one}
 use Rattle.claims_laws.specs.Claims.{Claims}
 use Rattle.claims_laws.specs.Told.{ClaimNumbered}
@@ -120,8 +120,8 @@ module _ {s t : List ℕ} (level : ℕ) (o ns : List ℕ) {r q : ℕ} {N N' : Li
   pub numbered-noted : ButForNotes s t → (q ≡ r) × (N' ≡ N)
   numbered-noted n = same-numbers (claims-noted level o (a .claims) (b .claims) n)
 
-pub numbered-both : (s t : List ℕ) (level : ℕ) (o ns ns' : List ℕ) (r : TwoNumbers) {N N' : List ℕ} → numberedAs (r .one) N ≡ numbered s level o ns
-    → numberedAs (r .other) N' ≡ numbered t level o ns' → NumberedBoth s t level o ns ns' r N N'
+pub numbered-both : (s t : List ℕ) (level : ℕ) (o ns ns' : List ℕ) (r : TwoNumbers) {N N' : List ℕ} → inNumbers (r .one) N ≡ claimedInNumbers s level o ns
+    → inNumbers (r .other) N' ≡ claimedInNumbers t level o ns' → NumberedBoth s t level o ns ns' r N N'
 numbered-both s t level o ns ns' r {N} {N'} a b =
     let x = numbered-told s level o ns (r .one) N a in
     let y = numbered-told t level o ns' (r .other) N' b in

@@ -1,2 +1,2 @@
 pub mod Seats
-pub mod Turned
+pub mod TurnedFirsts

@@ -23,7 +23,7 @@ use Rattle.order.specs.Sets.{words, inWords, isLeft, Plus, Gathered}
 use Rattle.order.specs.Ordering.{waits}
 use Rattle.order.proofs.Sets.{in-low, in-high, in-none, waits-low, waits-high}
 use Rattle.claims_rules.specs.Claims.{isStray, isMissing, hasMembers}
-use Rattle.claims.specs.Seats.{Small, Earlier, UpTo, isStrayIn, turnedAt, Turned, Joined}
+use Rattle.claims.specs.Seats.{SmallEntries, Earlier, UpTo, isStrayIn, turnedAt, TurnedFirsts, WithMissing}
 
 -- below the next number: not above this one
 below-next : (a b : ℕ) → ltb a (b + 1) ≡ not (ltb b a)
@@ -187,10 +187,10 @@ module _ (m : Words) (o : List ℕ) where
 -- ── pairs against places ──
 
 module _ (f o : List ℕ) where
-  pub turned-start : {w : Words} → w ≡ words 0 0 → Turned f o 0 w
+  pub turned-start : {w : Words} → w ≡ words 0 0 → TurnedFirsts f o 0 w
   turned-start e = rw e (record { is = λ x l. in-none x ∙ sym (some-none (turnedAt f o x) 0 0 (λ i a b. absurd (omega arith))) })
 
-  pub turned-next : {i : ℕ} {p w v : Words} → Earlier o i p → Turned f o i w → Joined f (getD o i 0) p w v → Turned f o (i + 1) v
+  pub turned-next : {i : ℕ} {p w v : Words} → Earlier o i p → TurnedFirsts f o i w → WithMissing f (getD o i 0) p w v → TurnedFirsts f o (i + 1) v
   unfolding waits turnedAt
   turned-next {i} {p} e t j =
       record {
@@ -203,7 +203,7 @@ module _ (f o : List ℕ) where
 
 -- row b's words without those of p, joined to w
 pub joined : (f : List ℕ) (b : ℕ) (p w : Words) {r s : ℕ} → Minus (getD f (2 * b) 0) (p .lo) r → Minus (getD f (2 * b + 1) 0) (p .hi) s
-    → Joined f b p w (words (bitOr (w .lo) r) (bitOr (w .hi) s))
+    → WithMissing f b p w (words (bitOr (w .lo) r) (bitOr (w .hi) s))
 joined f b p w {r} {s} u v =
     record {
       is =

@@ -13,7 +13,7 @@ use Rattle.order.specs.Sets.{inWords}
 use Rattle.order.specs.Ordering.{waits}
 
 -- every entry is a number that a transaction can have
-pub record Small (o : List ℕ) : Type 0 where
+pub record SmallEntries (o : List ℕ) : Type 0 where
   pub is : (i : ℕ) → i < length o → getD o i 0 < 128
 
 -- w has those whose place in the claim is before i
@@ -33,11 +33,11 @@ unfoldable pub turnedAt : List ℕ → List ℕ → ℕ → ℕ → Bool
 turnedAt f o x i = bitOf f (getD o i 0) x and not (ltb (place x o) i)
 
 -- w has those of which that is so for an entry before place i
-pub record Turned (f o : List ℕ) (i : ℕ) (w : Words) : Type 0 where
+pub record TurnedFirsts (f o : List ℕ) (i : ℕ) (w : Words) : Type 0 where
   pub is : (x : ℕ) → x < 128 → inWords w x ≡ some 0 i (turnedAt f o x)
 
 -- v is w, and of row b what p has not
-pub record Joined (f : List ℕ) (b : ℕ) (p w v : Words) : Type 0 where
+pub record WithMissing (f : List ℕ) (b : ℕ) (p w v : Words) : Type 0 where
   pub is : (x : ℕ) → x < 128 → inWords v x ≡ inWords w x or waits f p b x
 
 -- a has to stand before b, which is one of w

@@ -14,7 +14,7 @@ ghost use Rattle.order.specs.Sets.{Gathered};
 ghost use Rattle.pairs.specs.Pairs.{before};
 ghost use Rattle.forcing.specs.Forcing.{AtLevel};
 ghost use Rattle.claims_rules.specs.Claims.{reply, hasMembers, leastFirst, pairReply, claimedIn, claimed};
-ghost use Rattle.claims.specs.Seats.{Small, Earlier, UpTo, isStrayIn, Turned, Joined, turnedIn};
+ghost use Rattle.claims.specs.Seats.{SmallEntries, Earlier, UpTo, isStrayIn, TurnedFirsts, WithMissing, turnedIn};
 use claims_rules::ClaimAnswer;
 use order::Words;
 use trace::Out;
@@ -71,7 +71,7 @@ fn has_members(m: Words, o: &[u8]) -> bool
 // Those of w, and of row b those that p has not.
 fn join_missing(f: &[u64; 256], b: usize, p: Words, w: Words) -> Words
     requires { ⌜ b < 128 ⌝ }
-    ensures { λ r. ⌜ Joined (now (f .entry)) b p w r ⌝ }
+    ensures { λ r. ⌜ WithMissing (now (f .entry)) b p w r ⌝ }
 {
     Words {
         lo: w.lo | bits::without(f[2 * b], p.lo),
@@ -81,8 +81,8 @@ fn join_missing(f: &[u64; 256], b: usize, p: Words, w: Words) -> Words
 
 // The firsts of the pairs that stand the wrong way round. A pass over the claim: of an entry's row each has to stand before it.
 fn turned_firsts(f: &[u64; 256], o: &[u8]) -> Words
-    requires { ⌜ Small (now o) ⌝ }
-    ensures { λ r. ⌜ Turned (now (f .entry)) (now (o .entry)) (length (now (o .entry))) r ⌝ }
+    requires { ⌜ SmallEntries (now o) ⌝ }
+    ensures { λ r. ⌜ TurnedFirsts (now (f .entry)) (now (o .entry)) (length (now (o .entry))) r ⌝ }
 {
     let mut p = order::none();
     let mut w = order::none();
@@ -98,7 +98,7 @@ fn turned_firsts(f: &[u64; 256], o: &[u8]) -> Words
 
 // Those that stand in the claim up to a, which is one of them.
 fn up_to(o: &[u8], a: usize) -> Words
-    requires { ⌜ Small (now o) ⌝ }
+    requires { ⌜ SmallEntries (now o) ⌝ }
     ensures { λ r. ⌜ (place a (now (o .entry)) < length (now (o .entry)) → UpTo (now (o .entry)) a r) ⌝ }
 {
     let mut p = order::none();
@@ -143,7 +143,7 @@ fn second(f: &[u64; 256], w: Words, n: usize, a: usize) -> usize
 // "the forced pair standing the wrong way round that is least by first and then second"; yes where there is none. n: how many
 // transactions the history has, with 0.
 fn try_pairs(f: &[u64; 256], o: &[u8], n: usize) -> ClaimAnswer
-    requires { ⌜ Small (now o) × (n ≤ 128) ⌝ }
+    requires { ⌜ SmallEntries (now o) × (n ≤ 128) ⌝ }
     ensures { λ r. ⌜ ((h : History) (level : ℕ) → n ≡ size h → hasMembers h (now (o .entry)) ≡ true → Holds (now (f .entry)) (before (forced h level)) → reply r ≡ pairReply n (forced h level) (now (o .entry)) (leastFirst n (forced h level) (now (o .entry)))) ⌝ }
 {
     let w = turned_firsts(f, o);

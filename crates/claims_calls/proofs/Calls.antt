@@ -18,9 +18,9 @@ use Rattle.claims_rules.specs.Claims.{Reply, holds, no-read, no-members, no-pai
 use Rattle.claims_rules.specs.declared.ClaimAnswer.{ClaimAnswer}
 use Rattle.claims_rules.specs.declared.ClaimAnswer.the-variants.{Yes}
 use Rattle.claims_rules.proofs.Claims.{reply-one, replyCase}
-use Rattle.claims_laws.specs.Claims.{Says, right, wrong-read, wrong-members, wrong-pair, Claims, no-level, reading-refused, of-history}
+use Rattle.claims_laws.specs.Claims.{ClaimSays, right, wrong-read, wrong-members, wrong-pair, Claims, no-level, reading-refused, of-history}
 use Rattle.claims_laws.proofs.Claims.{claims-iff}
-use Rattle.claims_laws.proofs.Yes.{yes-iff}
+use Rattle.claims_laws.proofs.Yes.{yes-iff, words-iff}
 use Rattle.claims_laws.proofs.Levels.{claimed-down}
 use Rattle.claims_laws.proofs.Judged.{shown-right, yes-accepted, rejected-no}
 use Rattle.claims_calls.specs.declared.TwoLevels.{TwoLevels}
@@ -41,12 +41,13 @@ module _ {s : List ℕ} {level : ℕ} {o : List ℕ} (c : ClaimAnswer) (e : repl
       record {
         claims = met;
         yes-exactly = (λ y. yes-iff s level o .0 (sym e ∙ is-yes c .0 y), λ r. is-yes c .1 (e ∙ yes-iff s level o .1 r));
+        yes-in-words = (λ y. words-iff s level o .0 (sym e ∙ is-yes c .0 y), λ r. is-yes c .1 (e ∙ words-iff s level o .1 r));
       }
 
 -- ── the judge and a claim ──
 
 -- what is refused of a claim: its row 1, or what reading refuses
-said-declined : {h : History} {level : ℕ} {o : List ℕ} {x : Reply} → Says h level o x → {n p : ℕ} → x ≡ declined n p → ⊥
+said-declined : {h : History} {level : ℕ} {o : List ℕ} {x : Reply} → ClaimSays h level o x → {n p : ℕ} → x ≡ declined n p → ⊥
 said-declined (right c y) e = omega (arith, ap replyCase e)
 said-declined (wrong-read f) e = omega (arith, ap replyCase e)
 said-declined (wrong-members c w) e = omega (arith, ap replyCase e)

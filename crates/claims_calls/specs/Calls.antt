@@ -11,7 +11,7 @@ use Rattle.demands.specs.Demands.{Demands}
 use Rattle.claims_rules.specs.Claims.{reply}
 use Rattle.claims_rules.specs.declared.ClaimAnswer.{ClaimAnswer}
 use Rattle.claims_rules.specs.declared.ClaimAnswer.the-variants.{Yes, Refused}
-use Rattle.claims_laws.specs.Claims.{Claims, RightClaim, IsNo}
+use Rattle.claims_laws.specs.Claims.{Claims, RightClaim, RightInWords, IsNo}
 use Rattle.claims_calls.specs.declared.JudgedClaim.{JudgedClaim}
 use Rattle.claims_calls.specs.declared.TwoLevels.{TwoLevels}
 
@@ -19,6 +19,8 @@ use Rattle.claims_calls.specs.declared.TwoLevels.{TwoLevels}
 pub record ClaimPromised (s : List ℕ) (level : ℕ) (o : List ℕ) (r : ClaimAnswer) : Type 0 where
   pub claims : Claims s level o (reply r)
   pub yes-exactly : (r ≡ Yes) ↔ RightClaim s level o
+  -- "it has every committed transaction once, 0 first, contains all forced pairs and all reads are clean"
+  pub yes-in-words : (r ≡ Yes) ↔ RightInWords s level o
 
 -- the judge's call and a claim, on one trace at one level
 pub record JudgedAndClaimed (s : List ℕ) (level : ℕ) (o : List ℕ) (r : JudgedClaim) (fs ps os F P O : List ℕ) : Type 0 where

@@ -1,7 +1,7 @@
 // Whoever asks about a claimed order has what document 02 promises. These functions know nothing of `claims::claim`, of what prints its answer, of
 // `ferozhak::ferozhak_claim` and of `judging::judge` but their contracts: were one of those weaker, they would not be proved.
 ghost use mathlib.Core.Path.{_≡_};
-ghost use Rattle.claims_laws.specs.Told.{ClaimNumbered};
+ghost use Rattle.claims_laws.specs.Told.{ClaimPrinted, ClaimNumbered};
 ghost use Rattle.claims_calls.specs.Calls.{ClaimPromised, JudgedAndClaimed, ShownClaimed, ClaimedAtLevels, shownLength};
 use claims_rules::ClaimAnswer;
 use rules::Answer;
@@ -20,6 +20,13 @@ pub fn promised_numbers(trace: &[u8], level: u32, claim: &[u8], numbers: &mut [u
     ensures { λ r. ⌜ ClaimNumbered (now (trace .entry)) level (now (claim .entry)) (now (numbers .entry)) r (now (numbers .exit)) ⌝ }
 {
     ferozhak::ferozhak_claim(trace, level, claim, numbers)
+}
+
+// .. and as a line: what is handed back, and what a program prints, is just that.
+pub fn printed_claim<'a>(trace: &[u8], level: u8, order: &[u8], line: &'a mut [u8; 64]) -> &'a [u8]
+    ensures { λ r. ⌜ ClaimPrinted (now (trace .entry)) level (now (order .entry)) (now r) ⌝ }
+{
+    claims_text::claim_text(trace, level, order, line)
 }
 
 // ── the judge and a claim ──

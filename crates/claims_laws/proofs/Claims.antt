@@ -19,13 +19,13 @@ use Rattle.demand2.specs.Kinds.{AllClean}
 use Rattle.claims_rules.specs.Claims.{Reply, holds, no-read, no-members, no-pair, declined, unclean, hasMembers, secondOf, leastFirst, pairReply, claimedIn, claimedRead, claimed}
 use Rattle.rules.proofs.Outcome.{level-test}
 use Rattle.claims_rules.proofs.Claims.{pair-backwards, pair-none, in-unclean, in-strange, in-paired}
-use Rattle.claims_laws.specs.Claims.{RightOrder, Says, right, wrong-read, wrong-members, wrong-pair, Claims, no-level, reading-refused, of-history}
+use Rattle.claims_laws.specs.Claims.{RightOrder, ClaimSays, right, wrong-read, wrong-members, wrong-pair, Claims, no-level, reading-refused, of-history}
 use Rattle.claims_laws.proofs.Members as who
 use Rattle.claims_laws.proofs.Backwards.{least-is, none-is, is-least, is-none, turned-iff, right-iff}
 
 module _ {h : History} (ok : LawfulHistory h) {level : ℕ} (low : 1 ≤ level) (high : level ≤ 3) (o : List ℕ) where
   -- what is said holds
-  pub says : Says h level o (claimedIn h level o)
+  pub says : ClaimSays h level o (claimedIn h level o)
   says =
       ⊎-elim (λ l. rw (in-unclean h level o l) (wrong-read (who.unclean-first ok l)))
       (λ g.
@@ -45,7 +45,7 @@ module _ {h : History} (ok : LawfulHistory h) {level : ℕ} (low : 1 ≤ level) 
       (split 0 (unclean h))
 
   -- and nothing else does
-  pub says-is : {x : Reply} → Says h level o x → claimedIn h level o ≡ x
+  pub says-is : {x : Reply} → ClaimSays h level o x → claimedIn h level o ≡ x
   says-is (right c s) =
       let r = right-iff ok low high o .1 (c, s) in
       let l = r .members in

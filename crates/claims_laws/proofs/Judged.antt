@@ -2,6 +2,7 @@
 use Prim.Native.Nat.{ℕ, _≤_}
 use mathlib.Core.Path.{_≡_, ap, _∙_}
 use mathlib.Core.List.{List}
+use mathlib.Core.Logic.{_↔_}
 use lib.ListN.{length, take}
 use Rattle.rules.specs.History.{History}
 use Rattle.rules.specs.Numbers.{over}
@@ -13,10 +14,29 @@ use Rattle.demand2.proofs.Accepted.{has-order-iff, shown-length, committed-numb
 use Rattle.demand2.proofs.Traces.{accepted-trace, order-trace}
 use Rattle.demand3.specs.Rejected.{RejectsTrace}
 use Rattle.demand3.proofs.Traces.{no-fault-iff, rejected-trace}
+use Rattle.decided.specs.Strongest.{LevelAccepts}
 use Rattle.claims_rules.specs.Claims.{Reply, holds, claimed}
-use Rattle.claims_laws.specs.Claims.{Says, right, wrong-read, wrong-members, wrong-pair, Claims, no-level, reading-refused, of-history, IsNo, for-read, for-members, for-pair}
+use Rattle.claims_laws.specs.Claims.{ClaimSays, right, wrong-read, wrong-members, wrong-pair, Claims, no-level, reading-refused, of-history, IsNo, for-read, for-members, for-pair}
 use Rattle.claims_laws.proofs.Claims.{claims}
 use Rattle.claims_laws.proofs.Yes.{yes-iff}
+
+-- a level accepts a trace exactly if some claim gets a yes
+pub some-yes-iff : (s : List ℕ) (level : ℕ) → LevelAccepts s level ↔ ((o : List ℕ) × (claimed s level o ≡ holds))
+some-yes-iff s level = (
+  λ a.
+      let x = has-order-iff (lawful-history (a .reads)) (a .low) (a .high) (a .clean) .0 (a .ordered) in
+      (x .0, yes-iff s level (x .0) .1 (record { low = a .low; high = a .high; history = a .history; reads = a .reads; clean = a .clean; shows = x .1 })),
+  λ y.
+      let r = yes-iff s level (y .0) .0 (y .1) in
+      record {
+        low = r .low;
+        high = r .high;
+        history = r .history;
+        reads = r .reads;
+        clean = r .clean;
+        ordered = has-order-iff (lawful-history (r .reads)) (r .low) (r .high) (r .clean) .1 (y .0, r .shows);
+      },
+)
 
 module _ (s : List ℕ) (level : ℕ) (fs ps os : List ℕ) where
   -- what is shown on acceptance: the first bytes of the order's buffer, as many as are answered
@@ -58,7 +78,7 @@ module _ (s : List ℕ) (level : ℕ) (fs ps os : List ℕ) where
         r : RejectsTrace s level f p (length fs) (length ps)
         r = rejected-trace s level fs ps os f p .0 e
 
-        said : {h : History} {x : Reply} → h ≡ r .history → Says h level o x → IsNo x
+        said : {h : History} {x : Reply} → h ≡ r .history → ClaimSays h level o x → IsNo x
         said q (right c y) =
             let ok = lawful-history (r .reads) in
             absurd

@@ -2,6 +2,7 @@
 use Prim.Native.Nat.{ℕ, _<_, _≤_}
 use mathlib.Core.Path.{_≡_, refl, ap, sym, _∙_}
 use mathlib.Core.List.{List}
+use mathlib.Core.Logic.{_↔_}
 use native.Mathlib.Omega.{arith}
 use Rattle.rules.specs.History.{History, size, opCount}
 use Rattle.demand1.specs.Lawful.{LawfulHistory}
@@ -13,22 +14,25 @@ use Rattle.deciding.specs.Deciding.{wholePut}
 use Rattle.decided.proofs.Counts.{five-told, five-one}
 use Rattle.claims_rules.specs.Claims.{Reply, holds, no-read, no-members, no-pair, declined, claimed}
 use Rattle.claims_rules.specs.Lines.{replyLine, claimText}
-use Rattle.claims_rules.specs.Numbers.{replyNo, replyBytes, Numbered, numberedAs, numbered}
-use Rattle.claims_laws.specs.Claims.{Says, right, wrong-read, wrong-members, wrong-pair, Claims, no-level, reading-refused, of-history}
+use Rattle.claims_rules.specs.Numbers.{replyNo, replyBytes, InNumbers, inNumbers, claimedInNumbers}
+use Rattle.claims_laws.specs.Claims.{ClaimSays, right, wrong-read, wrong-members, wrong-pair, Claims, no-level, reading-refused, of-history}
 use Rattle.claims_laws.specs.Told.{ClaimPrinted, printed, NumbersTold, of-yes, of-read, of-members, of-pair, of-refusal, ClaimNumbered}
 use Rattle.claims_laws.proofs.Claims.{claims, claims-is, claims-one}
 
 -- ── a line ──
 
 module _ (s : List ℕ) (level : ℕ) (o : List ℕ) where
-  pub claim-printed : ClaimPrinted s level o (claimText s level o)
+  line-printed : ClaimPrinted s level o (claimText s level o)
   unfolding claimText
-  claim-printed = printed (claims s level o)
+  line-printed = printed (claims s level o)
 
-  -- nothing else is printed
-  pub printed-is : {t : List ℕ} → ClaimPrinted s level o t → t ≡ claimText s level o
+  printed-line : {t : List ℕ} → ClaimPrinted s level o t → claimText s level o ≡ t
   unfolding claimText
-  printed-is (printed x) = ap replyLine (sym (claims-is s level o x))
+  printed-line (printed x) = ap replyLine (claims-is s level o x)
+
+  -- what is computed is printed, and nothing else is
+  pub claim-printed-iff : (t : List ℕ) → (claimText s level o ≡ t) ↔ ClaimPrinted s level o t
+  claim-printed-iff t = (λ e. rw e at line-printed, printed-line)
 
 -- ── for C ──
 
@@ -40,7 +44,7 @@ pub data Spelt : Reply → Type 0 where
   pair-spelt : {a b : ℕ} → a < 4294967296 → b < 4294967296 → Spelt (no-pair a b)
   refusal-spelt : {n p : ℕ} → n < 4294967296 → p < 4294967296 → Spelt (declined n p)
 
-said-spelt : {h : History} → LawfulHistory h → {level : ℕ} → 1 ≤ level → level ≤ 3 → {o : List ℕ} {x : Reply} → Says h level o x → Spelt x
+said-spelt : {h : History} → LawfulHistory h → {level : ℕ} → 1 ≤ level → level ≤ 3 → {o : List ℕ} {x : Reply} → ClaimSays h level o x → Spelt x
 said-spelt ok a b (right c y) = yes-spelt
 said-spelt ok a b (wrong-read {i} f) = read-spelt {i = i} (omega (arith, f .unclean .judged .to, ok .few-ops))
 said-spelt ok a b (wrong-members c w) = members-spelt
@@ -71,15 +75,15 @@ told-one (of-pair a) (of-pair b) = five-one a b
 told-one (of-refusal a) (of-refusal b) = five-one a b
 
 module _ (s : List ℕ) (level : ℕ) (o ns : List ℕ) where
-  pub numbered-told : (r : ℕ) (N : List ℕ) → numberedAs r N ≡ numbered s level o ns → ClaimNumbered s level o ns r N
-  unfolding numbered
+  pub numbered-told : (r : ℕ) (N : List ℕ) → inNumbers r N ≡ claimedInNumbers s level o ns → ClaimNumbered s level o ns r N
+  unfolding claimedInNumbers
   numbered-told r N e =
       let x = claims s level o in
       record {
         said = claimed s level o;
         claims = x;
-        number = ap (λ (z : Numbered). z .answer) e;
-        numbers = rw (ap (λ (z : Numbered). z .numbers) e) (put-told ns (claims-spelt x));
+        number = ap (λ (z : InNumbers). z .answer) e;
+        numbers = rw (ap (λ (z : InNumbers). z .numbers) e) (put-told ns (claims-spelt x));
       }
 
   -- one answer, and one content of the slice

@@ -20,9 +20,11 @@ pub record FirstUnclean (h : History) (i : ℕ) : Type 0 where
 
 -- "wrong membership or 0 not first"
 pub data WrongMembers (h : History) (o : List ℕ) : Type 0 where
+  -- a transaction that counts as committed is missing; one that does not count, or does not exist, stands in it; one stands in it twice
   missing : {a : ℕ} → Member h a → length o ≤ place a o → WrongMembers h o
   stranger : {i : ℕ} → i < length o → (Member h (getD o i 0) → ⊥) → WrongMembers h o
   twice : {i j : ℕ} → i < j → j < length o → getD o i 0 ≡ getD o j 0 → WrongMembers h o
+  -- another stands before 0
   not-first : 0 < place 0 o → WrongMembers h o
 
 -- "the forced pair standing the wrong way round": its second stands before its first
@@ -42,20 +44,20 @@ pub record RightOrder (h : History) (level : ℕ) (o : List ℕ) : Type 0 where
   pub pairs : (a b : ℕ) → IsForced h level a b → StandsBefore o a b
 
 -- what is said of a claim about a trace that was read: "A no names the first reason that holds"
-pub data Says (h : History) (level : ℕ) (o : List ℕ) : Reply → Type 0 where
+pub data ClaimSays (h : History) (level : ℕ) (o : List ℕ) : Reply → Type 0 where
   -- all reads are clean, and the claim is a commit order of the level by the published axioms
-  right : AllClean h → Shows h level o → Says h level o holds
-  wrong-read : {i : ℕ} → FirstUnclean h i → Says h level o (no-read i)
-  wrong-members : AllClean h → WrongMembers h o → Says h level o no-members
-  wrong-pair : {a b : ℕ} → AllClean h → Lists h o → LeastBackwards h level o a b → Says h level o (no-pair a b)
+  right : AllClean h → Shows h level o → ClaimSays h level o holds
+  wrong-read : {i : ℕ} → FirstUnclean h i → ClaimSays h level o (no-read i)
+  wrong-members : AllClean h → WrongMembers h o → ClaimSays h level o no-members
+  wrong-pair : {a b : ℕ} → AllClean h → Lists h o → LeastBackwards h level o a b → ClaimSays h level o (no-pair a b)
 
 -- .. about any bytes: "Refusals: 1 to 11."
 pub data Claims (s : List ℕ) (level : ℕ) (o : List ℕ) : Reply → Type 0 where
   no-level : ((1 ≤ level) × (level ≤ 3) → ⊥) → Claims s level o (declined 1 0)
   reading-refused : {n p : ℕ} → 1 ≤ level → level ≤ 3 → Refuses s n p → Claims s level o (declined n p)
-  of-history : {h : History} {x : Reply} → 1 ≤ level → level ≤ 3 → HasHistory s h → Says h level o x → Claims s level o x
+  of-history : {h : History} {x : Reply} → 1 ≤ level → level ≤ 3 → HasHistory s h → ClaimSays h level o x → Claims s level o x
 
--- a yes whole
+-- a yes whole, by the published axioms: the trace is read, its reads are clean, and the claim is a commit order of the level
 pub record RightClaim (s : List ℕ) (level : ℕ) (o : List ℕ) : Type 0 where
   pub low : 1 ≤ level
   pub high : level ≤ 3
@@ -63,6 +65,14 @@ pub record RightClaim (s : List ℕ) (level : ℕ) (o : List ℕ) : Type 0 where
   pub reads : HasHistory s history
   pub clean : AllClean history
   pub shows : Shows history level o
+
+-- .. and in the document's words
+pub record RightInWords (s : List ℕ) (level : ℕ) (o : List ℕ) : Type 0 where
+  pub low : 1 ≤ level
+  pub high : level ≤ 3
+  pub history : History
+  pub reads : HasHistory s history
+  pub order : RightOrder history level o
 
 -- a no: one of the three reasons is named
 pub data IsNo : Reply → Type 0 where

@@ -1,45 +1,45 @@
 -- The words that the program `claim` is called with: one names a level exactly if it is the level's word, and a number from 0 to 255 exactly if it is how that
 -- number is written.
-use Prim.Native.Nat.{ℕ, zero, suc, _/_, _<_, _≤_}
+use Prim.Native.Nat.{ℕ, zero, suc, _<_, _≤_}
 use mathlib.Core.Path.{_≡_, refl, ap, _∙_}
 use mathlib.Core.Bool.{true, false, not, false≢true}
 use mathlib.Core.List.{List, [], _∷_}
 use mathlib.Core.Logic.{_↔_, ⊎-elim}
 use native.Mathlib.Omega.{arith}
-use lib.ListN.{length, getD, length-append}
+use lib.ListN.{length, getD}
 use lib.Dec.{ltb, eqb}
 use borrow.Author.Tests.{ltb-true, ltb-false, lt-ltb, eqb-true, eq-eqb}
 use Rattle.base.specs.Base.{_and_, pick, some, first, firstOf}
-use Rattle.base.proofs.Tests.{clash, is-false, not-true, both, and-left, and-right, or-cases, neither-left, neither-right, ifso, pick-on, pick-off, split}
+use Rattle.base.proofs.Tests.{clash, is-false, not-true, both, and-left, and-right, or-cases, neither-left, neither-right, ifso, pick-on, pick-off}
 use Rattle.base.proofs.Searches.{some-none, none-at, first-cases}
-use Rattle.text.specs.Lines.{decimal, levelWord}
+use Rattle.text.specs.Lines.{levelWord}
 use Rattle.text.specs.Digits.{Numeral, denoted}
-use Rattle.text.proofs.Lines.{decimal-one, decimal-more}
+use Rattle.text.proofs.Lines.{decimal-length}
 use Rattle.text.proofs.Digits.{decimal-iff}
-use Rattle.claims_rules.specs.Words.{isSame, isWordOf, levelNamed, isOther, isShort, numberNamed}
+use Rattle.claims_rules.specs.Words.{isSameWord, isWordOf, levelNamed, isOther, isShort, numberNamed}
 
 -- ── two words ──
 
-itself : (w : List ℕ) → isSame w w ≡ true
-unfolding isSame
+itself : (w : List ℕ) → isSameWord w w ≡ true
+unfolding isSameWord
 itself [] = refl
 itself (x ∷ w) = both _ _ (eq-eqb x x refl) (itself w)
 
-alike : (v w : List ℕ) → isSame v w ≡ true → v ≡ w
-unfolding isSame
+alike : (v w : List ℕ) → isSameWord v w ≡ true → v ≡ w
+unfolding isSameWord
 alike [] [] e = refl
 alike [] (y ∷ w) e = absurd (false≢true e)
 alike (x ∷ v) [] e = absurd (false≢true e)
 alike (x ∷ v) (y ∷ w) e = rw (eqb-true x y (and-left _ _ e), alike v w (and-right _ _ e))
 
-pub same-iff : (v w : List ℕ) → (isSame v w ≡ true) ↔ (v ≡ w)
+pub same-iff : (v w : List ℕ) → (isSameWord v w ≡ true) ↔ (v ≡ w)
 same-iff v w = (alike v w, λ e. rw e (itself w))
 
 -- ── levels ──
 
 -- each level's own word names it
 own-word : (l : ℕ) → 1 ≤ l → l ≤ 3 → levelNamed (levelWord l) ≡ l
-unfolding _and_ pick first firstOf levelWord isSame isWordOf levelNamed
+unfolding _and_ pick first firstOf levelWord isSameWord isWordOf levelNamed
 own-word zero a b = absurd (omega arith)
 own-word (suc zero) a b = refl
 own-word (suc (suc zero)) a b = refl
@@ -61,18 +61,6 @@ module _ (w : List ℕ) where
   )
 
 -- ── numbers ──
-
--- a number below 1,000 has at most three digits
-decimal-few : (n : ℕ) → n < 1000 → length (decimal n) ≤ 3
-decimal-few n l = ⊎-elim (λ a. rw (decimal-one n a) (omega arith)) (λ a. rw (decimal-more n a) (simp length-append (omega (arith, tens)))) (split n 10)
-  where
-    hundreds : length (decimal (n / 10 / 10)) ≤ 1
-    hundreds = rw (decimal-one (n / 10 / 10) (omega arith)) (omega arith)
-
-    tens : length (decimal (n / 10)) ≤ 2
-    tens =
-        ⊎-elim (λ a. rw (decimal-one (n / 10) a) (omega arith))
-        (λ a. rw (decimal-more (n / 10) a) (simp length-append (omega (arith, hundreds)))) (split (n / 10) 10)
 
 module _ (w : List ℕ) where
   pub short-few : isShort w ≡ true → length w ≤ 3
@@ -115,7 +103,7 @@ module _ (w : List ℕ) where
   numeral-short : {n : ℕ} → n < 256 → Numeral n w → isShort w ≡ true
   unfolding isShort
   numeral-short {n} l x =
-      let few = decimal-few n (omega arith) in
+      let few = decimal-length 2 n (omega arith) in
       let long = ap length (decimal-iff n w .0 x) in
       both _ _
       (both _ _ (both _ _ (lt-ltb 0 (length w) (omega (arith, x .some))) (lt-ltb (length w) 4 (omega (arith, few, long)))) (ap not (no-other x)))

@@ -21,13 +21,13 @@ replyBytes (no-pair a b) = fiveBytes 0 a b 0 0
 replyBytes (declined n p) = fiveBytes 0 0 0 n p
 
 -- the number that is answered, and what the slice then holds
-pub record Numbered : Type 0 where
+pub record InNumbers : Type 0 where
   pub answer : ℕ
   pub numbers : List ℕ
 
-abbrev pub numberedAs : ℕ → List ℕ → Numbered
-numberedAs n ns = record { answer = n; numbers = ns }
+abbrev pub inNumbers : ℕ → List ℕ → InNumbers
+inNumbers n ns = record { answer = n; numbers = ns }
 
 -- of the bytes s, a level, the claim o and a slice that holds ns
-unfoldable pub numbered : List ℕ → ℕ → List ℕ → List ℕ → Numbered
-numbered s level o ns = numberedAs (replyNo (claimed s level o)) (wholePut (replyBytes (claimed s level o)) ns)
+unfoldable pub claimedInNumbers : List ℕ → ℕ → List ℕ → List ℕ → InNumbers
+claimedInNumbers s level o ns = inNumbers (replyNo (claimed s level o)) (wholePut (replyBytes (claimed s level o)) ns)

@@ -6,7 +6,7 @@ use mathlib.Core.List.{List, [], _∷_, map}
 use Rattle.base.specs.Base.{_and_, _or_, pick, someOf, firstOf, some, first}
 use Rattle.text.specs.Lines.{text, levelWord}
 use Rattle.text.specs.Digits.{denotedFrom, denoted}
-use Rattle.claims_rules.specs.Words.{isSame, isWordOf, levelNamed, isOther, isShort, numberNamed}
+use Rattle.claims_rules.specs.Words.{isSameWord, isWordOf, levelNamed, isOther, isShort, numberNamed}
 
 pub record WordCase : Type 0 where
   pub word : String
@@ -43,5 +43,5 @@ abbrev pub nowMeant : WordCase → WordCase
 nowMeant c = means (c .word) (levelNamed (text (c .word))) (numberNamed (text (c .word)))
 
 pub as-meant : map nowMeant wordTable ≡ wordTable
-unfolding _and_ _or_ pick someOf firstOf some first levelWord denotedFrom denoted isSame isWordOf levelNamed isOther isShort numberNamed
+unfolding _and_ _or_ pick someOf firstOf some first levelWord denotedFrom denoted isSameWord isWordOf levelNamed isOther isShort numberNamed
 as-meant = refl

@@ -10,15 +10,15 @@ use Rattle.text.specs.Lines.{levelWord}
 use Rattle.text.specs.Digits.{denoted}
 
 -- two words are the same
-unfoldable pub isSame : List ℕ → List ℕ → Bool
-isSame [] [] = true
-isSame [] (y ∷ ys) = false
-isSame (x ∷ xs) [] = false
-isSame (x ∷ xs) (y ∷ ys) = eqb x y and isSame xs ys
+unfoldable pub isSameWord : List ℕ → List ℕ → Bool
+isSameWord [] [] = true
+isSameWord [] (y ∷ ys) = false
+isSameWord (x ∷ xs) [] = false
+isSameWord (x ∷ xs) (y ∷ ys) = eqb x y and isSameWord xs ys
 
 -- the word is that of the level
 unfoldable pub isWordOf : List ℕ → ℕ → Bool
-isWordOf w level = isSame w (levelWord level)
+isWordOf w level = isSameWord w (levelWord level)
 
 -- the level that a word names; 0 where it names none
 unfoldable pub levelNamed : List ℕ → ℕ

@@ -8,18 +8,18 @@ use mathlib.Core.Logic.{⊎-elim}
 use native.Mathlib.Omega.{arith}
 use lib.ListN.{length, take}
 use lib.Seq.{take-all, length-take-le}
-use lib.Dec.{eqb}
 use Rattle.base.specs.Base.{pick, first, firstOf}
-use Rattle.base.proofs.Tests.{is-false, pick-both, split}
+use Rattle.base.proofs.Tests.{is-false, split}
 use Rattle.rules.specs.History.{History}
 use Rattle.rules.specs.Reading.{Reading, refused, read, reading}
 use Rattle.demand1.specs.Lawful.{LawfulHistory}
 use Rattle.demand1.proofs.Readings.{kept-reading}
 use Rattle.demand1.proofs.Lengths.{lawful-reading}
 use Rattle.text.specs.Lines.{levelWord}
+use Rattle.text.proofs.Lines.{level-length}
 use Rattle.claims_rules.specs.Claims.{hasMembers, claimedIn, claimedRead, claimed}
 use Rattle.claims_rules.specs.Lines.{claimText}
-use Rattle.claims_rules.specs.Words.{isSame, isWordOf, levelNamed, numberNamed}
+use Rattle.claims_rules.specs.Words.{isSameWord, isWordOf, levelNamed, numberNamed}
 use Rattle.claims_rules.proofs.Few.{members-few}
 use Rattle.claims_rules.proofs.Words.{level-named-most, level-named-iff}
 use Rattle.claims_text.proofs.Words.{short-none, short-over, named-none}
@@ -52,21 +52,14 @@ kept-claim s level o k m =
 
 -- ── words ──
 
-abbrev Fits : List ℕ → Type 0
-Fits w = length w ≤ 3
-
-word-fits : (level : ℕ) → Fits (levelWord level)
-unfolding levelWord
-word-fits level = pick-both Fits (eqb level 1) (omega arith) (pick-both Fits (eqb level 2) (omega arith) (omega arith))
-
 long-level : (w : List ℕ) → 3 < length w → levelNamed w ≡ 0
 long-level w l =
     ⊎-elim (λ z. omega arith)
     (λ a.
     let e = level-named-iff w (levelNamed w) a (level-named-most w) .0 refl in
-    absurd (omega (arith, ap length e, word-fits (levelNamed w))))
+    absurd (omega (arith, ap length e, level-length (levelNamed w))))
     (split (levelNamed w) 1)
 
 pub kept-word : (w : List ℕ) → 3 < length w → (levelNamed w ≡ levelNamed []) × (numberNamed w ≡ numberNamed [])
-unfolding pick first firstOf levelWord isSame isWordOf levelNamed
+unfolding pick first firstOf levelWord isSameWord isWordOf levelNamed
 kept-word w l = (long-level w l, named-none w (short-over w l) ∙ sym (named-none [] (short-none [] (omega arith))))

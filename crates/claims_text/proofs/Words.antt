@@ -15,7 +15,7 @@ use Rattle.base.specs.Base.{_and_, pick, some, first, firstOf}
 use Rattle.base.proofs.Tests.{is-false, both, and-on, and-no-left, and-no-right, pick-on, pick-off, split}
 use Rattle.text.specs.Lines.{text, levelWord}
 use Rattle.text.specs.Digits.{denotedFrom, denoted}
-use Rattle.claims_rules.specs.Words.{isSame, isWordOf, levelNamed, isOther, isShort, numberNamed}
+use Rattle.claims_rules.specs.Words.{isSameWord, isWordOf, levelNamed, isOther, isShort, numberNamed}
 use Rattle.claims_rules.proofs.Words.{same-iff, short-few, short-numeral}
 
 -- ── two words, the same up to byte i ──
@@ -23,10 +23,10 @@ use Rattle.claims_rules.proofs.Words.{same-iff, short-few, short-numeral}
 pub record Comparing (v w : List ℕ) (i : ℕ) : Type 0 where
   pub within : i ≤ length v
   pub long : length v ≡ length w
-  pub whole : isSame (drop i v) (drop i w) ≡ isSame v w
+  pub whole : isSameWord (drop i v) (drop i w) ≡ isSameWord v w
 
 module _ (v w : List ℕ) where
-  pub other-length : (length v ≡ length w → ⊥) → isSame v w ≡ false
+  pub other-length : (length v ≡ length w → ⊥) → isSameWord v w ≡ false
   other-length d = is-false _ (λ t. d (ap length (same-iff v w .0 t)))
 
   pub comparing-none : length v ≡ length w → Comparing v w 0
@@ -34,43 +34,43 @@ module _ (v w : List ℕ) where
 
 module _ {v w : List ℕ} where
   module _ {i : ℕ} (x : Comparing v w i) where
-    pub comparing-all : length v ≤ i → isSame v w ≡ true
-    unfolding isSame
+    pub comparing-all : length v ≤ i → isSameWord v w ≡ true
+    unfolding isSameWord
     comparing-all g =
         let e : i ≡ length v = omega (arith, x .within) in sym (x .whole) ∙ rw (e, drop-length v, x .long, drop-length w)
 
     module _ (l : i < length v) where
-      next-byte : isSame v w ≡ eqb (getD v i 0) (getD w i 0) and isSame (drop (i + 1) v) (drop (i + 1) w)
-      unfolding isSame
+      next-byte : isSameWord v w ≡ eqb (getD v i 0) (getD w i 0) and isSameWord (drop (i + 1) v) (drop (i + 1) w)
+      unfolding isSameWord
       next-byte = sym (x .whole) ∙ rw (add-one i, drop-cons v i 0 l, drop-cons w i 0 (omega (arith, x .long)))
 
       pub comparing-more : getD v i 0 ≡ getD w i 0 → Comparing v w (i + 1)
       comparing-more e =
           record { within = omega arith; long = x .long; whole = sym (next-byte ∙ and-on _ _ (eq-eqb _ _ e)) }
 
-      pub comparing-other : (getD v i 0 ≡ getD w i 0 → ⊥) → isSame v w ≡ false
+      pub comparing-other : (getD v i 0 ≡ getD w i 0 → ⊥) → isSameWord v w ≡ false
       comparing-other d = next-byte ∙ and-no-left _ _ (ne-eqb _ _ d)
 
 -- ── levels ──
 
 module _ (w : List ℕ) where
   -- their words, one after the other
-  level-by : levelNamed w ≡ pick (isSame w (text "rc")) 1 (pick (isSame w (text "ra")) 2 (pick (isSame w (text "tcc")) 3 0))
+  level-by : levelNamed w ≡ pick (isSameWord w (text "rc")) 1 (pick (isSameWord w (text "ra")) 2 (pick (isSameWord w (text "tcc")) 3 0))
   unfolding pick first firstOf levelWord isWordOf levelNamed
   level-by = refl
 
-  pub level-rc : isSame w (text "rc") ≡ true → levelNamed w ≡ 1
+  pub level-rc : isSameWord w (text "rc") ≡ true → levelNamed w ≡ 1
   level-rc e = level-by ∙ pick-on _ _ _ e
 
-  module _ (a : isSame w (text "rc") ≡ false) where
-    pub level-ra : isSame w (text "ra") ≡ true → levelNamed w ≡ 2
+  module _ (a : isSameWord w (text "rc") ≡ false) where
+    pub level-ra : isSameWord w (text "ra") ≡ true → levelNamed w ≡ 2
     level-ra e = level-by ∙ pick-off _ _ _ a ∙ pick-on _ _ _ e
 
-    module _ (b : isSame w (text "ra") ≡ false) where
-      pub level-tcc : isSame w (text "tcc") ≡ true → levelNamed w ≡ 3
+    module _ (b : isSameWord w (text "ra") ≡ false) where
+      pub level-tcc : isSameWord w (text "tcc") ≡ true → levelNamed w ≡ 3
       level-tcc e = level-by ∙ pick-off _ _ _ a ∙ pick-off _ _ _ b ∙ pick-on _ _ _ e
 
-      pub level-none : isSame w (text "tcc") ≡ false → levelNamed w ≡ 0
+      pub level-none : isSameWord w (text "tcc") ≡ false → levelNamed w ≡ 0
       level-none e = level-by ∙ pick-off _ _ _ a ∙ pick-off _ _ _ b ∙ pick-off _ _ _ e
 
 -- ── the tests of a number's word ──

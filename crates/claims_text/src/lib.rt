@@ -7,7 +7,7 @@ ghost use lib.ListN.{length};
 ghost use Rattle.base.specs.Base.{some};
 ghost use Rattle.text.specs.Digits.{denoted};
 ghost use Rattle.claims_rules.specs.Lines.{claimText};
-ghost use Rattle.claims_rules.specs.Words.{isSame, levelNamed, isOther, isShort, numberNamed};
+ghost use Rattle.claims_rules.specs.Words.{isSameWord, levelNamed, isOther, isShort, numberNamed};
 ghost use Rattle.claims_text.specs.Replies.{Replied};
 use claims_rules::ClaimAnswer;
 
@@ -41,7 +41,7 @@ fn put_reply(answer: ClaimAnswer, line: &mut [u8; LINE]) -> usize
 // ── the words ──
 
 fn is_same(word: &[u8], other: &[u8]) -> bool
-    ensures { λ r. ⌜ r ≡ isSame (now (word .entry)) (now (other .entry)) ⌝ }
+    ensures { λ r. ⌜ r ≡ isSameWord (now (word .entry)) (now (other .entry)) ⌝ }
 {
     if word.len() != other.len() {
         return false;

@@ -12,7 +12,7 @@ use Rattle.rules.proofs.Outcome.{judged-no-level}
 use Rattle.deciding.specs.Deciding.{decisionNo, decisionOf, wholePut, countsPut, decidedAs, decidedBy, decided}
 use Rattle.deciding.specs.declared.Decision.{Decision}
 use Rattle.claims_rules.specs.Claims.{Reply, reply, claimed}
-use Rattle.claims_rules.specs.Numbers.{replyNo, replyBytes, numberedAs, numbered}
+use Rattle.claims_rules.specs.Numbers.{replyNo, replyBytes, inNumbers, claimedInNumbers}
 use Rattle.claims_rules.specs.declared.ClaimAnswer.{ClaimAnswer}
 use Rattle.claims_rules.proofs.Claims.{claimed-no-level}
 use Rattle.ferozhak.specs.Calls.{levelByte}
@@ -53,7 +53,7 @@ same-claim s n o =
 
 -- so what is said is said at the level that was asked for
 pub claimed-at : (s : List ℕ) (n : ℕ) (o ns : List ℕ) (a : ClaimAnswer) {b : ℕ} {N : List ℕ} {r : ℕ} → b ≡ levelByte n → reply a ≡ claimed s b o
-    → N ≡ wholePut (replyBytes (reply a)) ns → r ≡ replyNo (reply a) → numberedAs r N ≡ numbered s n o ns
-unfolding numbered
+    → N ≡ wholePut (replyBytes (reply a)) ns → r ≡ replyNo (reply a) → inNumbers r N ≡ claimedInNumbers s n o ns
+unfolding claimedInNumbers
 claimed-at s n o ns a e x c r =
-    rw (r, c) (ap (λ (q : Reply). numberedAs (replyNo q) (wholePut (replyBytes q) ns)) (rw e at x ∙ same-claim s n o))
+    rw (r, c) (ap (λ (q : Reply). inNumbers (replyNo q) (wholePut (replyBytes q) ns)) (rw e at x ∙ same-claim s n o))

@@ -1,4 +1,4 @@
--- What the functions behind the two calls say of their parts.
+-- What the functions behind the calls say of their parts.
 use Prim.Native.Nat.{ℕ}
 use mathlib.Core.List.{List}
 use lib.Dec.{ltb}

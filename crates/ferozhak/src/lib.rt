@@ -8,7 +8,7 @@ ghost use Rattle.base.proofs.Fill.{Appended};
 ghost use Rattle.rules.specs.Outcome.{reported};
 ghost use Rattle.deciding.specs.Deciding.{decisionNo, decisionOf, wholeCounts, wholePut, fiveBytes, countBytes, countsPut, decidedAs, decided, strongestNo, isAcceptedAt, strongest};
 ghost use Rattle.claims_rules.specs.Claims.{reply};
-ghost use Rattle.claims_rules.specs.Numbers.{replyNo, replyBytes, numberedAs, numbered};
+ghost use Rattle.claims_rules.specs.Numbers.{replyNo, replyBytes, inNumbers, claimedInNumbers};
 ghost use Rattle.pairs.specs.Pairs.{Ready};
 ghost use Rattle.forcing.specs.Forcing.{ReadInto, AtLevel};
 ghost use Rattle.ferozhak.specs.Calls.{levelByte, seenAt, withoutLists, belowCausal};
@@ -237,7 +237,7 @@ fn without_lists(no: u8) -> Seen
 // and its place.
 #[no_mangle]
 pub extern "C" fn ferozhak_claim(trace: &[u8], level: u32, claim: &[u8], numbers: &mut [u8]) -> u32
-    ensures { λ r. ⌜ numberedAs r (now (numbers .exit)) ≡ numbered (now (trace .entry)) level (now (claim .entry)) (now (numbers .entry)) ⌝ }
+    ensures { λ r. ⌜ inNumbers r (now (numbers .exit)) ≡ claimedInNumbers (now (trace .entry)) level (now (claim .entry)) (now (numbers .entry)) ⌝ }
 {
     let answer = claims::claim(trace, level_byte(level), claim);
     put_numbers(answer, numbers);

@@ -1,9 +1,13 @@
 -- What a trace is prepared into, and the pairs that a level forces, as tables have them.
 use Prim.Native.Nat.{ℕ, _≤_}
 use mathlib.Core.Path.{_≡_}
+use mathlib.Core.Bool.{Bool}
 use mathlib.Core.List.{List}
+use lib.Dec.{eqb}
+use Rattle.base.specs.Base.{pick}
+use Rattle.rules.specs.History.{History}
 use Rattle.rules.specs.Reading.{read, reading}
-use Rattle.rules.specs.Levels.{isRival, forced}
+use Rattle.rules.specs.Levels.{basic, isRival, forced}
 use Rattle.table.specs.Table.{historyOf}
 use Rattle.bits.specs.Bits.{Holds}
 use Rattle.trace.specs.Trace.{TraceRead}
@@ -12,6 +16,7 @@ use Rattle.trace.specs.declared.Out.the-variants.{Good, Bad}
 use Rattle.settling.specs.Settling.{Settles}
 use Rattle.reads.specs.Verdicts.{Classified}
 use Rattle.pairs.specs.Pairs.{Ready, before}
+use Rattle.causal.specs.Causal.{leftIn}
 
 -- ── what all levels share ──
 
@@ -37,6 +42,10 @@ pub record AtLevel (h k : List ℕ) (level : ℕ) : Type 0 where
   pub ready : Ready h k
   pub from : 1 ≤ level
   pub to : level ≤ 3
+
+-- what the table is left with that the search went by: behind level 3's, what that leaves, and else the basic pairs
+unfoldable pub leftAt : History → ℕ → ℕ → ℕ → Bool
+leftAt h level = pick (eqb level 3) (leftIn h) (before (basic h))
 
 -- .. with the pairs that it forces, f, of which v are the rivals
 pub record Forcing (h k f v : List ℕ) (level : ℕ) : Type 0 where

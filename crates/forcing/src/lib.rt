@@ -12,7 +12,7 @@ ghost use Rattle.order.specs.Sets.{Gathered};
 ghost use Rattle.pairs.specs.Pairs.{before};
 ghost use Rattle.keys.specs.Keys.{writers};
 ghost use Rattle.causal.specs.Causal.{Parties, Searched};
-ghost use Rattle.forcing.specs.Forcing.{Prepared, AtLevel, Forcing};
+ghost use Rattle.forcing.specs.Forcing.{Prepared, AtLevel, leftAt, Forcing};
 use order::Words;
 use trace::Out;
 
@@ -122,7 +122,7 @@ fn search(
     v: &mut [u64; 256],
 )
     requires { ⌜ AtLevel (now h) (now k) level × Parties (now h) (now p) m n × Holds (now s) (before (basic (historyOf (now h)))) × Holds (now f) (writers (historyOf (now h))) × (length (now v) ≡ 256) ⌝ }
-    ensures { λ r. ⌜ Searched (historyOf (now (h .entry))) level (now (f .exit)) (now (v .exit)) ⌝ }
+    ensures { λ r. ⌜ Searched (historyOf (now (h .entry))) level (now (f .exit)) (now (v .exit)) × Holds (now (s .exit)) (leftAt (historyOf (now (h .entry))) level) ⌝ }
 {
     if level == 3 {
         causal::search(h, k, p, m, n, f, s, v);
@@ -145,7 +145,7 @@ pub fn force(
     v: &mut [u64; 256],
 )
     requires { ⌜ AtLevel (now h) (now k) level × Parties (now h) (now p) m n × (length (now f) ≡ 256) × (length (now s) ≡ 256) × (length (now v) ≡ 256) ⌝ }
-    ensures { λ r. ⌜ Forcing (now (h .entry)) (now (k .entry)) (now (f .exit)) (now (v .exit)) level ⌝ }
+    ensures { λ r. ⌜ Forcing (now (h .entry)) (now (k .entry)) (now (f .exit)) (now (v .exit)) level × Holds (now (s .exit)) (leftAt (historyOf (now (h .entry))) level) ⌝ }
 {
     pairs::fill_basic(h, k, p, s);
     keys::fill_writers(h, k, v, f);

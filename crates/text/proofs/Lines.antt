@@ -52,7 +52,7 @@ level-3 l a b = rw (ne-eqb l 1 a, ne-eqb l 2 b)
 -- ── how long a line is ──
 
 -- n below 10 ^ (k + 1) has at most k + 1 digits
-decimal-length : (k n : ℕ) → n < 10 ^ suc k → length (decimal n) ≤ suc k
+pub decimal-length : (k n : ℕ) → n < 10 ^ suc k → length (decimal n) ≤ suc k
 decimal-length zero n l = rw (decimal-one n (omega arith)) (omega arith)
 decimal-length (suc k) n l =
     ⊎-elim (λ h. rw (decimal-one n h) (omega arith))
@@ -73,7 +73,7 @@ fields-length k [] h = omega arith
 fields-length k (n ∷ ns) h =
     omega (arith, decimal-length k n (h .0), fields-length k ns (h .1), length-append (decimal n) (fields ns), mul-suc (k + 2) (length ns))
 
-level-length : (level : ℕ) → length (levelWord level) ≤ 3
+pub level-length : (level : ℕ) → length (levelWord level) ≤ 3
 unfolding levelWord pick
 level-length level = ifso (eqb level 1) (λ t. rw t (omega arith)) (λ t. rw t (ifso (eqb level 2) (λ u. rw u (omega arith)) (λ u. rw u (omega arith))))
 

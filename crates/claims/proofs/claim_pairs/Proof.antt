@@ -2,7 +2,7 @@ use Prim.Native.Nat.{ℕ, _+_}
 use mathlib.Core.Path.{refl, ap}
 use native.Mathlib.Omega.{arith}
 use Rattle.causal.proofs.Given.{fresh}
-use Rattle.claims.proofs.Turned.{seats-small}
+use Rattle.claims.proofs.TurnedFirsts.{seats-small}
 use borrow.Author.Needs.{needs}
 use Rattle.claims.proofs.claim_pairs.Statement.{statement}
 use Rattle.claims.proofs.claim_pairs.Tie as tie
@@ -31,7 +31,7 @@ returns : tie.Need-returns
 returns c =
     let p = c .before .before .before .before .before .before .before .before .before .before .before .before .before .before .pre in
     let n = c .before .txs .ensures in
-    rw n at (c .try-pairs .ensures _ _ (ap (λ (x : ℕ). x + 1) n) (p .2) (c .before .before .before .force .ensures .forces))
+    rw n at (c .try-pairs .ensures _ _ (ap (λ (x : ℕ). x + 1) n) (p .2) (c .before .before .before .force .ensures .0 .forces))
 
 pub claim-pairs-spec : {M : Type 1} → statement M
 claim-pairs-spec =

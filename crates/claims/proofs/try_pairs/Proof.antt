@@ -1,6 +1,6 @@
 use native.Mathlib.Omega.{arith}
 use Rattle.claims_rules.specs.Claims.{reply}
-use Rattle.claims.proofs.Turned.{first-seat, says-pair, says-yes}
+use Rattle.claims.proofs.TurnedFirsts.{first-seat, says-pair, says-yes}
 use borrow.Author.Needs.{needs}
 use Rattle.claims.proofs.try_pairs.Statement.{statement}
 use Rattle.claims.proofs.try_pairs.Tie as tie

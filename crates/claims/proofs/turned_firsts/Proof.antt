@@ -2,7 +2,7 @@ use Prim.Native.Nat.{_-_, _≤_}
 use mathlib.Core.Path.{_≡_}
 use native.Mathlib.Omega.{arith}
 use lib.ListN.{length}
-use Rattle.claims.specs.Seats.{Earlier, Turned}
+use Rattle.claims.specs.Seats.{Earlier, TurnedFirsts}
 use Rattle.claims.proofs.Seats.{earlier-start, earlier-next, turned-start, turned-next}
 use borrow.Author.Needs.{needs}
 use Rattle.claims.proofs.turned_firsts.Statement.{statement}
@@ -10,7 +10,7 @@ use Rattle.claims.proofs.turned_firsts.Tie as tie
 
 -- p: those before place i; w: those that have to stand before one of these, and do not
 abbrev Inv-loop : tie.InvT-loop
-Inv-loop f o p₀ w₀ i₀ p w i = (i ≤ length o) × Earlier o i p × Turned f o i w
+Inv-loop f o p₀ w₀ i₀ p w i = (i ≤ length o) × Earlier o i p × TurnedFirsts f o i w
 
 abbrev μ-loop : tie.MeasureT-loop
 μ-loop f o p₀ w₀ i₀ p w i = length o - i

@@ -15,7 +15,7 @@ search-requires c κs =
     (p .0, p .1, f .fill-basic .ensures, w .fill-writers .ensures .0, w .fill-writers .ensures .1 .room ∙ p .4)
 
 returns : tie.Need-returns
-returns c = forcing (c .before .before .before .before .before .before .before .before .before .before .before .before .before .before .before .pre .0) (c .before .before .before .before .search .ensures) (c .join .ensures)
+returns c = (forcing (c .before .before .before .before .before .before .before .before .before .before .before .before .before .before .before .pre .0) (c .before .before .before .before .search .ensures .0) (c .join .ensures), c .before .before .before .before .search .ensures .1)
 
 pub force-spec : {M : Type 1} → statement M
 force-spec =

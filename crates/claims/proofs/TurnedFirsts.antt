@@ -25,10 +25,10 @@ use Rattle.order.proofs.Sets.{row-set}
 use Rattle.claims_rules.specs.Claims.{no-pair, holds, hasMembers, isBackwards, secondOf, isFirst, leastFirst, pairReply}
 use Rattle.claims_rules.proofs.Claims.{pair-backwards, pair-none}
 use Rattle.claims_rules.proofs.Members.{seated}
-use Rattle.claims.specs.Seats.{Small, UpTo, turnedAt, Turned, turnedIn}
+use Rattle.claims.specs.Seats.{SmallEntries, UpTo, turnedAt, TurnedFirsts, turnedIn}
 
 -- its entries are a transaction's numbers
-pub seats-small : (h : History) (o : List ℕ) → size h ≤ 128 → hasMembers h o ≡ true → Small o
+pub seats-small : (h : History) (o : List ℕ) → size h ≤ 128 → hasMembers h o ≡ true → SmallEntries o
 seats-small h o few e = record { is = λ i l. omega (arith, committed-below h (getD o i 0) (seated h o e .count i l)) }
 
 module _ (h : History) (level : ℕ) (f o : List ℕ) (few : size h ≤ 128) (e : hasMembers h o ≡ true) (w : Holds f (before (forced h level))) where
@@ -55,7 +55,7 @@ module _ (h : History) (level : ℕ) (f o : List ℕ) (few : size h ≤ 128) (e 
       some-of (turnedAt f o x) (length o) 0 (place b o) (omega arith) k (at-entry x (place b o) l k ∙ ap (isBackwards F o x) (place-at b o k) ∙ p)
 
   -- the firsts of pairs that stand the wrong way round
-  turned-first : {t : Words} → Turned f o (length o) t → (x : ℕ) → x < 128 → inWords t x ≡ isFirst (size h) (forced h level) o x
+  turned-first : {t : Words} → TurnedFirsts f o (length o) t → (x : ℕ) → x < 128 → inWords t x ≡ isFirst (size h) (forced h level) o x
   unfolding isFirst secondOf
   turned-first t x l =
       t .is x l
@@ -86,7 +86,7 @@ module _ (h : History) (level : ℕ) (f o : List ℕ) (few : size h ≤ 128) (e 
 
   -- ── what is said ──
 
-  module _ {t : Words} (turned : Turned f o (length o) t) {a : ℕ} (least : Least (rowOf (t .lo) (t .hi)) 0 128 a) where
+  module _ {t : Words} (turned : TurnedFirsts f o (length o) t) {a : ℕ} (least : Least (rowOf (t .lo) (t .hi)) 0 128 a) where
     none-below : (i : ℕ) → i < a → i < 128 → isFirst (size h) (forced h level) o i ≡ false
     none-below i l k = sym (turned-first turned i k) ∙ sym (row-set t i k) ∙ least .none i (omega arith) l k
 

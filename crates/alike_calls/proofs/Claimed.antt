@@ -22,10 +22,11 @@ use Rattle.noteless.specs.Without.{ButForNotes}
 use Rattle.noteless.proofs.ButFor.{notes-reading}
 use Rattle.moved.specs.Moved.{Moved}
 use Rattle.claims_rules.specs.Claims.{Reply, no-read, reply, unclean, isStray, isMissing, hasMembers, claimedIn, claimedRead, claimed}
+use Rattle.claims_rules.specs.Lines.{replyLine}
 use Rattle.claims_rules.specs.Numbers.{replyNo, inNumbers, claimedInNumbers}
 use Rattle.claims_rules.proofs.Claims.{unclean-none, unclean-some, reply-one}
 use Rattle.claims_laws.specs.Claims.{Claims}
-use Rattle.claims_laws.specs.Told.{ClaimNumbered}
+use Rattle.claims_laws.specs.Told.{ClaimPrinted, printed, ClaimNumbered}
 use Rattle.claims_laws.proofs.Claims.{claims-is, claims-iff}
 use Rattle.claims_laws.proofs.Told.{numbered-told, numbered-one}
 use Rattle.alike_calls.specs.declared.TwoClaims.{TwoClaims}
@@ -78,6 +79,10 @@ module _ {s t : List ℕ} (level : ℕ) (o : List ℕ) {x y : Reply} (a : Claims
   unfolding claimed claimedRead
   claims-noted n =
       sym (claims-is t level o b) ∙ rw (notes-reading n (λ (p : Reading). claimedRead p level o) (λ h i j. refl)) (claims-is s level o a)
+
+-- .. and whatever is printed of it
+pub printed-noted : {s t : List ℕ} (level : ℕ) (o : List ℕ) {p q : List ℕ} → ClaimPrinted s level o p → ClaimPrinted t level o q → ButForNotes s t → q ≡ p
+printed-noted level o (printed a) (printed b) n = ap replyLine (claims-noted level o a b n)
 
 pub claimed-both : (s t : List ℕ) (level : ℕ) (o : List ℕ) (r : TwoClaims) → reply (r .one) ≡ claimed s level o → reply (r .other) ≡ claimed t level o
     → ClaimedBoth s t level o r

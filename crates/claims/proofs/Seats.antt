@@ -8,10 +8,10 @@ use native.Mathlib.Omega.{arith}
 use lib.Bits.{bitOr}
 use lib.Dec.{ltb, eqb}
 use lib.ListN.{length, getD}
-use borrow.Author.Tests.{ltb-true, ltb-false, lt-ltb, le-ltb, eqb-true, eq-eqb, ne-eqb}
-use Rattle.base.specs.Base.{_and_, _or_, pick, some}
-use Rattle.base.proofs.Tests.{clash, is-false, ifso, same-test, not-true, not-false, both, and-left, and-right, and-on, and-no-left, and-no-right, or-cases, or-left, or-right, or-on, neither-left, denied, granted, split}
-use Rattle.base.proofs.Searches.{some-at, some-of, some-none, none-at}
+use borrow.Author.Tests.{ltb-true, lt-ltb, le-ltb, eqb-true, eq-eqb}
+use Rattle.base.specs.Base.{_and_, _or_, some}
+use Rattle.base.proofs.Tests.{ifso, same-test, not-true, not-false, both, and-left, and-right, and-on, and-no-left, and-no-right, or-cases, or-left, or-right, or-on, neither-left, denied, granted, split}
+use Rattle.base.proofs.Searches.{some-at, some-of, some-none}
 use Rattle.theory.specs.Order.{place}
 use Rattle.theory.proofs.Places.{place-at, place-most}
 use Rattle.rules.specs.History.{History, size, committed}
@@ -23,7 +23,7 @@ use Rattle.order.specs.Sets.{words, inWords, isLeft, Plus, Gathered}
 use Rattle.order.specs.Ordering.{waits}
 use Rattle.order.proofs.Sets.{in-low, in-high, in-none, waits-low, waits-high}
 use Rattle.claims_rules.specs.Claims.{isStray, isMissing, hasMembers}
-use Rattle.claims.specs.Seats.{SmallEntries, Earlier, UpTo, isStrayIn, turnedAt, TurnedFirsts, WithMissing}
+use Rattle.claims.specs.Seats.{Earlier, UpTo, isStrayIn, turnedAt, TurnedFirsts, WithMissing}
 
 -- below the next number: not above this one
 below-next : (a b : ℕ) → ltb a (b + 1) ≡ not (ltb b a)

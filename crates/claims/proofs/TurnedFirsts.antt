@@ -10,7 +10,7 @@ use lib.ListN.{length, getD}
 use borrow.Author.Tests.{ltb-true, lt-ltb}
 use Rattle.base.specs.Base.{_and_, some, first}
 use Rattle.base.proofs.Tests.{clash, same-test, and-left}
-use Rattle.base.proofs.Searches.{some-at, some-of, Found, first-cases, first-is, first-same}
+use Rattle.base.proofs.Searches.{some-at, some-of, first-cases, first-is, first-same}
 use Rattle.theory.specs.Order.{place}
 use Rattle.theory.proofs.Places.{place-at}
 use Rattle.rules.specs.History.{History, size, committed}

@@ -14,7 +14,7 @@ ghost use Rattle.order.specs.Sets.{Gathered};
 ghost use Rattle.pairs.specs.Pairs.{before};
 ghost use Rattle.forcing.specs.Forcing.{AtLevel};
 ghost use Rattle.claims_rules.specs.Claims.{reply, hasMembers, leastFirst, pairReply, claimedIn, claimed};
-ghost use Rattle.claims.specs.Seats.{SmallEntries, Earlier, UpTo, isStrayIn, TurnedFirsts, WithMissing, turnedIn};
+ghost use Rattle.claims.specs.Seats.{SmallEntries, UpTo, isStrayIn, TurnedFirsts, WithMissing, turnedIn};
 use claims_rules::ClaimAnswer;
 use order::Words;
 use trace::Out;

@@ -6,19 +6,18 @@ use mathlib.Core.List.{List}
 use mathlib.Core.Logic.{_↔_, _⊎_, inl, inr, ⊎-elim}
 use native.Mathlib.Omega.{arith}
 use lib.ListN.{length}
-use lib.Dec.{ltb}
 use borrow.Author.Tests.{ltb-true, ltb-false, lt-ltb, le-ltb}
 use Rattle.base.specs.Base.{_and_, first}
 use Rattle.base.proofs.Tests.{clash, is-false, both, and-left, and-right, not-true, split}
 use Rattle.base.proofs.Searches.{Found, first-cases, first-is}
-use Rattle.theory.specs.Order.{place, Lawful}
+use Rattle.theory.specs.Order.{place}
 use Rattle.theory.proofs.Places.{place-same}
-use Rattle.rules.specs.History.{History, size, committed}
+use Rattle.rules.specs.History.{History, size}
 use Rattle.rules.specs.Levels.{forced}
 use Rattle.rules.proofs.Forced.{forces, forced-apart}
 use Rattle.demand1.specs.Lawful.{LawfulHistory}
 use Rattle.demand2.specs.Kinds.{AllClean}
-use Rattle.demand2.specs.Axiom.{Member, Lists, StandsBefore, Shows}
+use Rattle.demand2.specs.Axiom.{Lists, StandsBefore, Shows}
 use Rattle.demand2.proofs.Pairs.{member, in-members}
 use Rattle.demand2.proofs.Accepted.{shows-iff}
 use Rattle.demand3.specs.Forced.{IsForced}

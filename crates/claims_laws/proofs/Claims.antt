@@ -1,12 +1,9 @@
 -- What is computed of a claim is what the document says, and nothing else is: each answer exactly under its own condition, and one answer.
-use Prim.Native.Nat.{ℕ, _<_, _≤_}
+use Prim.Native.Nat.{ℕ, _≤_}
 use mathlib.Core.Path.{_≡_, refl, ap, sym, _∙_}
 use mathlib.Core.List.{List}
 use mathlib.Core.Logic.{_↔_, ⊎-elim}
 use native.Mathlib.Omega.{arith}
-use lib.Dec.{ltb}
-use borrow.Author.Tests.{lt-ltb, le-ltb}
-use Rattle.base.specs.Base.{pick}
 use Rattle.base.proofs.Tests.{clash, ifso, split, pick-on, pick-off}
 use Rattle.rules.specs.History.{History, size}
 use Rattle.rules.specs.Reading.{Reading, refused, read, reading}
@@ -15,11 +12,10 @@ use Rattle.rules.specs.Outcome.{isLevel}
 use Rattle.demand1.specs.Lawful.{LawfulHistory}
 use Rattle.demand1.proofs.Lawful.{lawful-history}
 use Rattle.demand1.proofs.Readings.{refuses-iff, has-read, read-has}
-use Rattle.demand2.specs.Kinds.{AllClean}
-use Rattle.claims_rules.specs.Claims.{Reply, holds, no-read, no-members, no-pair, declined, unclean, hasMembers, secondOf, leastFirst, pairReply, claimedIn, claimedRead, claimed}
+use Rattle.claims_rules.specs.Claims.{Reply, holds, no-read, no-pair, declined, unclean, hasMembers, secondOf, leastFirst, claimedIn, claimedRead, claimed}
 use Rattle.rules.proofs.Outcome.{level-test}
 use Rattle.claims_rules.proofs.Claims.{pair-backwards, pair-none, in-unclean, in-strange, in-paired}
-use Rattle.claims_laws.specs.Claims.{RightOrder, ClaimSays, right, wrong-read, wrong-members, wrong-pair, Claims, no-level, reading-refused, of-history}
+use Rattle.claims_laws.specs.Claims.{ClaimSays, right, wrong-read, wrong-members, wrong-pair, Claims, no-level, reading-refused, of-history}
 use Rattle.claims_laws.proofs.Members as who
 use Rattle.claims_laws.proofs.Backwards.{least-is, none-is, is-least, is-none, turned-iff, right-iff}
 

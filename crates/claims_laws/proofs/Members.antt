@@ -6,20 +6,19 @@ use mathlib.Core.List.{List}
 use mathlib.Core.Logic.{_↔_, ⊎-elim}
 use native.Mathlib.Omega.{arith}
 use lib.ListN.{length, getD}
-use lib.Dec.{ltb, eqb}
-use borrow.Author.Tests.{ltb-true, ltb-false, le-ltb, eqb-true, eq-eqb}
-use Rattle.base.specs.Base.{_and_, _or_, some, first}
-use Rattle.base.proofs.Tests.{clash, is-false, ifso, both, and-left, and-right, not-true, or-cases, or-left, or-right, split}
-use Rattle.base.proofs.Searches.{some-at, some-none, none-at, Found, first-cases, first-is}
+use borrow.Author.Tests.{ltb-true, ltb-false, eq-eqb}
+use Rattle.base.specs.Base.{_and_, some, first}
+use Rattle.base.proofs.Tests.{clash, is-false, ifso, both, and-left, and-right, not-true, or-cases, split}
+use Rattle.base.proofs.Searches.{some-at, first-cases, first-is}
 use Rattle.base.proofs.Empty.{those-none}
 use Rattle.theory.specs.Order.{place}
-use Rattle.theory.proofs.Places.{place-at, place-most}
-use Rattle.rules.specs.History.{History, opCount, size, committed}
+use Rattle.theory.proofs.Places.{place-at}
+use Rattle.rules.specs.History.{History, opCount, size}
 use Rattle.rules.specs.Reads.{isFinding}
 use Rattle.rules.specs.Outcome.{findings}
 use Rattle.demand1.specs.Lawful.{LawfulHistory}
 use Rattle.demand2.specs.Kinds.{AllClean}
-use Rattle.demand2.specs.Axiom.{Member, Lists}
+use Rattle.demand2.specs.Axiom.{Lists}
 use Rattle.demand2.proofs.Kind.{finding-iff, findings-iff}
 use Rattle.demand2.proofs.Pairs.{member, in-members}
 use Rattle.demand3.specs.Lists.{Finding}

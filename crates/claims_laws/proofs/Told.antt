@@ -1,10 +1,10 @@
 -- How an answer is told, as a line and for C: what is computed is what the document says, and there is one way to tell it.
 use Prim.Native.Nat.{ℕ, _<_, _≤_}
-use mathlib.Core.Path.{_≡_, refl, ap, sym, _∙_}
+use mathlib.Core.Path.{_≡_, ap, sym, _∙_}
 use mathlib.Core.List.{List}
 use mathlib.Core.Logic.{_↔_}
 use native.Mathlib.Omega.{arith}
-use Rattle.rules.specs.History.{History, size, opCount}
+use Rattle.rules.specs.History.{History}
 use Rattle.demand1.specs.Lawful.{LawfulHistory}
 use Rattle.demand1.proofs.Lawful.{lawful-history}
 use Rattle.demand1.proofs.Lengths.{refused-small}

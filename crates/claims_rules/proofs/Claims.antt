@@ -1,11 +1,10 @@
 -- The definitions by their cases, for whoever speaks of them: theorems and code.
 use Prim.Native.Nat.{ℕ, _+_, _<_, _≤_}
-use mathlib.Core.Path.{_≡_, refl, ap, _∙_}
+use mathlib.Core.Path.{_≡_, refl, ap, sym, _∙_}
 use mathlib.Core.Bool.{Bool, true, false}
 use mathlib.Core.List.{List}
 use mathlib.Core.Logic.{⊎-elim}
 use native.Mathlib.Omega.{arith}
-use lib.Dec.{ltb}
 use lib.ListN.{length}
 use borrow.Author.Tests.{lt-ltb, le-ltb}
 use Rattle.base.proofs.Tests.{clash, is-false, pick-on, pick-off}
@@ -75,7 +74,7 @@ module _ (h : History) (level : ℕ) (o : List ℕ) where
   unfolding claimedIn
   in-paired e t = pick-off _ _ _ (le-ltb 0 (unclean h) (omega arith)) ∙ pick-on _ _ _ t
 
--- which case of a reply it is, and its values
+-- which case of a reply it is
 abbrev pub replyCase : Reply → ℕ
 replyCase holds = 0
 replyCase (no-read i) = 1
@@ -83,45 +82,22 @@ replyCase no-members = 2
 replyCase (no-pair a b) = 3
 replyCase (declined n p) = 4
 
-abbrev leadOf : Reply → ℕ
-leadOf holds = 0
-leadOf (no-read i) = i
-leadOf no-members = 0
-leadOf (no-pair a b) = a
-leadOf (declined n p) = n
+-- the answer that says so
+abbrev answerOf : Reply → ClaimAnswer
+answerOf holds = Yes
+answerOf (no-read i) = NoRead i
+answerOf no-members = NoMembers
+answerOf (no-pair a b) = NoPair a b
+answerOf (declined n p) = Refused n p
 
-abbrev nextOf : Reply → ℕ
-nextOf holds = 0
-nextOf (no-read i) = 0
-nextOf no-members = 0
-nextOf (no-pair a b) = b
-nextOf (declined n p) = p
+answer-of : (r : ClaimAnswer) → answerOf (reply r) ≡ r
+unfolding reply
+answer-of Yes = refl
+answer-of (NoRead i) = refl
+answer-of NoMembers = refl
+answer-of (NoPair a b) = refl
+answer-of (Refused n p) = refl
 
 -- a reply says which answer it is of: so a contract that is an equation of replies leaves one answer
 pub reply-one : (r q : ClaimAnswer) → reply r ≡ reply q → r ≡ q
-unfolding reply
-reply-one Yes Yes e = refl
-reply-one Yes (NoRead j) e = absurd (omega (arith, ap replyCase e))
-reply-one Yes NoMembers e = absurd (omega (arith, ap replyCase e))
-reply-one Yes (NoPair c d) e = absurd (omega (arith, ap replyCase e))
-reply-one Yes (Refused m q) e = absurd (omega (arith, ap replyCase e))
-reply-one (NoRead i) Yes e = absurd (omega (arith, ap replyCase e))
-reply-one (NoRead i) (NoRead j) e = rw (ap leadOf e)
-reply-one (NoRead i) NoMembers e = absurd (omega (arith, ap replyCase e))
-reply-one (NoRead i) (NoPair c d) e = absurd (omega (arith, ap replyCase e))
-reply-one (NoRead i) (Refused m q) e = absurd (omega (arith, ap replyCase e))
-reply-one NoMembers Yes e = absurd (omega (arith, ap replyCase e))
-reply-one NoMembers (NoRead j) e = absurd (omega (arith, ap replyCase e))
-reply-one NoMembers NoMembers e = refl
-reply-one NoMembers (NoPair c d) e = absurd (omega (arith, ap replyCase e))
-reply-one NoMembers (Refused m q) e = absurd (omega (arith, ap replyCase e))
-reply-one (NoPair a b) Yes e = absurd (omega (arith, ap replyCase e))
-reply-one (NoPair a b) (NoRead j) e = absurd (omega (arith, ap replyCase e))
-reply-one (NoPair a b) NoMembers e = absurd (omega (arith, ap replyCase e))
-reply-one (NoPair a b) (NoPair c d) e = rw (ap leadOf e, ap nextOf e)
-reply-one (NoPair a b) (Refused m q) e = absurd (omega (arith, ap replyCase e))
-reply-one (Refused n p) Yes e = absurd (omega (arith, ap replyCase e))
-reply-one (Refused n p) (NoRead j) e = absurd (omega (arith, ap replyCase e))
-reply-one (Refused n p) NoMembers e = absurd (omega (arith, ap replyCase e))
-reply-one (Refused n p) (NoPair c d) e = absurd (omega (arith, ap replyCase e))
-reply-one (Refused n p) (Refused m q) e = rw (ap leadOf e, ap nextOf e)
+reply-one r q e = sym (answer-of r) ∙ ap answerOf e ∙ answer-of q

@@ -6,7 +6,6 @@ use mathlib.Core.List.{List}
 use mathlib.Core.Logic.{⊎-elim}
 use native.Mathlib.Omega.{arith}
 use lib.ListN.{length, getD}
-use lib.Dec.{ltb}
 use borrow.Author.Tests.{ltb-false, le-ltb, eqb-true}
 use Rattle.base.proofs.Tests.{clash, is-false, is-true, both, and-left, and-right, not-true, or-left, or-right, split}
 use Rattle.base.proofs.Searches.{none-at}

@@ -1,4 +1,3 @@
-use mathlib.Core.Path.{_∙_}
 use native.Mathlib.Omega.{arith}
 use Rattle.claims.proofs.Seats.{first-none, first-entry}
 use borrow.Author.Needs.{needs}

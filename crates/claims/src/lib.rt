@@ -140,8 +140,8 @@ fn second(f: &[u64; 256], w: Words, n: usize, a: usize) -> usize
     n
 }
 
-// "the forced pair standing the wrong way round that is least by first and then second"; yes where there is none. n: how many
-// transactions the history has, with 0.
+// "the forced pair standing the wrong way round that is least by first and then second"; yes where there is none. n is how
+// many transactions the history has, with 0.
 fn try_pairs(f: &[u64; 256], o: &[u8], n: usize) -> ClaimAnswer
     requires { ⌜ SmallEntries (now o) × (n ≤ 128) ⌝ }
     ensures { λ r. ⌜ ((h : History) (level : ℕ) → n ≡ size h → hasMembers h (now (o .entry)) ≡ true → Holds (now (f .entry)) (before (forced h level)) → reply r ≡ pairReply n (forced h level) (now (o .entry)) (leastFirst n (forced h level) (now (o .entry)))) ⌝ }

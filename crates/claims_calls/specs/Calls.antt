@@ -1,4 +1,4 @@
--- What whoever asks about a claimed order has, in the request's own words. s is the trace, o the claim; fs, ps and os are what the judge's buffers held, and F, P
+-- What whoever asks about a claimed order has: what the request says, and what follows from it beside the judge. s is the trace, o the claim; fs, ps and os are what the judge's buffers held, and F, P
 -- and O what they hold then.
 use Prim.Native.Nat.{ℕ, _≤_}
 use mathlib.Core.Path.{_≡_}
@@ -26,7 +26,7 @@ pub record ClaimPromised (s : List ℕ) (level : ℕ) (o : List ℕ) (r : ClaimA
 pub record JudgedAndClaimed (s : List ℕ) (level : ℕ) (o : List ℕ) (r : JudgedClaim) (fs ps os F P O : List ℕ) : Type 0 where
   pub judged : Demands s level fs ps os (r .judged) F P O
   pub claimed : Claims s level o (reply (r .claimed))
-  -- "a trace that is rejected gets no for every claim"
+  -- a trace that is rejected gets a no for every claim
   pub on-rejection : {f p : ℕ} → r .judged ≡ Rejected f p → IsNo (reply (r .claimed))
   -- a claim that gets a yes is of a trace that is accepted, where an order has room
   pub on-yes : r .claimed ≡ Yes → length o ≤ length os → r .judged ≡ Accepted (length o)
@@ -43,14 +43,14 @@ shownLength (Accepted n) = n
 pub record ShownClaimed (s : List ℕ) (level : ℕ) (r : JudgedClaim) (fs ps os F P O : List ℕ) : Type 0 where
   pub judged : Demands s level fs ps os (r .judged) F P O
   pub claimed : Claims s level (take (shownLength (r .judged)) O) (reply (r .claimed))
-  -- "What `judge` shows on acceptance gets yes at that level"
+  -- what the judge shows on acceptance gets a yes at that level
   pub on-acceptance : {n : ℕ} → r .judged ≡ Accepted n → r .claimed ≡ Yes
 
 -- one claim at level m and at level k
 pub record ClaimedAtLevels (s : List ℕ) (m k : ℕ) (o : List ℕ) (r : TwoLevels) : Type 0 where
   pub at : Claims s m o (reply (r .stronger))
   pub below : Claims s k o (reply (r .weaker))
-  -- "a yes at level 3 is a yes at 2, and at 2 one at 1"
+  -- a yes at level 3 is a yes at 2, and at 2 one at 1
   pub stays : 1 ≤ k → k ≤ m → r .stronger ≡ Yes → r .weaker ≡ Yes
   -- one answer
   pub one : m ≡ k → r .weaker ≡ r .stronger

@@ -1,4 +1,4 @@
--- "a yes at level 3 is a yes at 2, and at 2 one at 1": a stronger level sees whatever a weaker one does, so a commit order of it is one of the weaker.
+-- A yes at level 3 is a yes at 2, and at 2 one at 1: a stronger level sees whatever a weaker one does, so a commit order of it is one of the weaker.
 use Prim.Native.Nat.{ℕ, _≤_}
 use mathlib.Core.Path.{_≡_}
 use mathlib.Core.List.{List}

@@ -8,7 +8,7 @@ use Rattle.claims_rules.specs.Lines.{replyLine}
 use Rattle.claims_rules.specs.Numbers.{replyNo}
 use Rattle.claims_laws.specs.Claims.{Claims}
 
--- the program `claim` "prints one line: `yes`, `no read OP`, `no members`, `no pair A B` or `refused NO PLACE`", whichever the document says
+-- what the program `claim` prints: the line, `yes`, `no read OP`, `no members`, `no pair A B` or `refused NO PLACE`, of what the document says
 pub data ClaimPrinted (s : List ℕ) (level : ℕ) (o : List ℕ) : List ℕ → Type 0 where
   printed : {x : Reply} → Claims s level o x → ClaimPrinted s level o (replyLine x)
 

@@ -1,5 +1,5 @@
--- What the words mean that the program `claim` is called with: "LEVEL is rc, ra or tcc; T.. the claimed order as numbers 0 to 255". A word is the list of its
--- bytes.
+-- What the words mean that the program `claim` is called with: a level, `rc`, `ra` or `tcc`, and then the claimed order, numbers from 0 to 255. A word is the
+-- list of its bytes.
 use Prim.Native.Nat.{ℕ}
 use mathlib.Core.Bool.{Bool, true, false, not}
 use mathlib.Core.List.{List, [], _∷_}

@@ -1,5 +1,5 @@
--- What whoever asks about a claimed order has: what the request says, and what follows from it beside the judge. s is the trace, o the claim; fs, ps and os are what the judge's buffers held, and F, P
--- and O what they hold then.
+-- What whoever asks about a claimed order has: what the request says, and what follows from it beside the judge. s is the trace, o the claim; fs, ps and os are
+-- what the judge's buffers held, and F, P and O what they hold then.
 use Prim.Native.Nat.{ℕ, _≤_}
 use mathlib.Core.Path.{_≡_}
 use mathlib.Core.List.{List}

@@ -20,9 +20,11 @@ pub record FirstUnclean (h : History) (i : ℕ) : Type 0 where
 
 -- "wrong membership or 0 not first"
 pub data WrongMembers (h : History) (o : List ℕ) : Type 0 where
-  -- a transaction that counts as committed is missing; one that does not count, or does not exist, stands in it; one stands in it twice
+  -- a transaction that counts as committed is missing
   missing : {a : ℕ} → Member h a → length o ≤ place a o → WrongMembers h o
+  -- one that does not count, or does not exist, stands in it
   stranger : {i : ℕ} → i < length o → (Member h (getD o i 0) → ⊥) → WrongMembers h o
+  -- one stands in it twice
   twice : {i j : ℕ} → i < j → j < length o → getD o i 0 ≡ getD o j 0 → WrongMembers h o
   -- another stands before 0
   not-first : 0 < place 0 o → WrongMembers h o

@@ -10,7 +10,7 @@ use lib.Dec.{ltb, eqb}
 use lib.ListN.{length, getD}
 use borrow.Author.Tests.{ltb-true, lt-ltb, le-ltb, eqb-true, eq-eqb}
 use Rattle.base.specs.Base.{_and_, _or_, some}
-use Rattle.base.proofs.Tests.{ifso, same-test, not-true, not-false, both, and-left, and-right, and-on, and-no-left, and-no-right, or-cases, or-left, or-right, or-on, neither-left, denied, granted, split}
+use Rattle.base.proofs.Tests.{ifso, same-test, not-true, not-false, both, and-left, and-right, and-no-left, and-no-right, or-cases, or-left, or-right, or-on, neither-left, denied, granted, split}
 use Rattle.base.proofs.Searches.{some-at, some-of, some-none}
 use Rattle.theory.specs.Order.{place}
 use Rattle.theory.proofs.Places.{place-at, place-most}
@@ -23,6 +23,7 @@ use Rattle.order.specs.Sets.{words, inWords, isLeft, Plus, Gathered}
 use Rattle.order.specs.Ordering.{waits}
 use Rattle.order.proofs.Sets.{in-low, in-high, in-none, waits-low, waits-high}
 use Rattle.claims_rules.specs.Claims.{isStray, isMissing, hasMembers}
+use Rattle.claims_rules.proofs.Members.{stray-members, missing-members, rest-members}
 use Rattle.claims.specs.Seats.{Earlier, UpTo, isStrayIn, turnedAt, TurnedFirsts, WithMissing}
 
 -- below the next number: not above this one
@@ -142,9 +143,7 @@ module _ (h : History) (few : size h ≤ 128) {m : Words} (g : Gathered (committ
     no-stray-on s q = some-next (isStray h o) i ∙ or-on _ _ s ∙ sym stray-is ∙ q
 
     pub stray-not : i < length o → isStrayIn m p (getD o i 0) ≡ true → false ≡ hasMembers h o
-    unfolding hasMembers
-    stray-not l q =
-        sym (and-no-left _ _ (and-no-left _ _ (ap not (some-of (isStray h o) (length o) 0 i (omega arith) l (sym stray-is ∙ q)))))
+    stray-not l q = sym (stray-members h o (some-of (isStray h o) (length o) 0 i (omega arith) l (sym stray-is ∙ q)))
 
   -- where all entries were seen
   module _ {p : Words} (e : Earlier o (length o) p) (s : some 0 (length o) (isStray h o) ≡ false) where
@@ -164,14 +163,10 @@ module _ (h : History) (few : size h ≤ 128) {m : Words} (g : Gathered (committ
         (both _ _ (and-right _ _ (counts-in (r .at) ∙ and-left _ _ (r .passes))) (ap not (e .is (r .at) l ∙ not-true _ (and-right _ _ (r .passes))))))
 
     pub missing-not : {b : Bool} → b ≡ not (some 0 128 (isLeft m p)) → not b ≡ true → false ≡ hasMembers h o
-    unfolding hasMembers
-    missing-not {b} q n =
-        sym (and-no-left _ _ (and-no-right _ _ (ap not (sym missing-is ∙ not-false _ (sym q ∙ not-true b n)))))
+    missing-not {b} q n = sym (missing-members h o (sym missing-is ∙ not-false _ (sym q ∙ not-true b n)))
 
     pub members-is : {b r : Bool} → b ≡ not (some 0 128 (isLeft m p)) → not b ≡ false → r ≡ eqb (place 0 o) 0 → r ≡ hasMembers h o
-    unfolding hasMembers
-    members-is {b} q n z =
-        z ∙ sym (and-on _ _ (both _ _ (ap not s) (ap not (sym missing-is) ∙ sym q ∙ not-false b n)))
+    members-is {b} q n z = z ∙ sym (rest-members h o s (sym missing-is ∙ not-true _ (sym q ∙ not-false b n)))
 
 -- no entry before place i is a stray one, in any history of which m has those that count
 pub record Clear (m : Words) (o : List ℕ) (i : ℕ) : Type 0 where

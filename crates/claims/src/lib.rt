@@ -162,11 +162,11 @@ fn claim_pairs(h: &[u64], k: &[u8], m: Words, level: u8, o: &[u8]) -> ClaimAnswe
 {
     let mut p = [0u8; 128];
     pairs::fill_priors(h, &mut p);
-    let all = forcing::count_members(h);
     let mut f = [0u64; 256];
     let mut s = [0u64; 256];
     let mut v = [0u64; 256];
-    forcing::force(h, k, &p, m, all, level, &mut f, &mut s, &mut v);
+    // a claim with the right members has as many entries as there are members
+    forcing::force(h, k, &p, m, o.len(), level, &mut f, &mut s, &mut v);
     try_pairs(&f, o, table::txs(h) + 1)
 }
 

@@ -1,6 +1,6 @@
 -- Clean reads, and who stands in a claim: what is computed is what the document says.
 use Prim.Native.Nat.{ℕ, _+_, _<_, _≤_}
-use mathlib.Core.Path.{_≡_, ap}
+use mathlib.Core.Path.{_≡_, ap, _∙_}
 use mathlib.Core.Bool.{true, false, not}
 use mathlib.Core.List.{List}
 use mathlib.Core.Logic.{_↔_, ⊎-elim}
@@ -8,7 +8,7 @@ use native.Mathlib.Omega.{arith}
 use lib.ListN.{length, getD}
 use borrow.Author.Tests.{ltb-true, ltb-false, eq-eqb}
 use Rattle.base.specs.Base.{_and_, some, first}
-use Rattle.base.proofs.Tests.{clash, is-false, ifso, both, and-left, and-right, not-true, or-cases, split}
+use Rattle.base.proofs.Tests.{clash, is-false, ifso, and-left, and-right, not-true, or-cases, split}
 use Rattle.base.proofs.Searches.{some-at, first-cases, first-is}
 use Rattle.base.proofs.Empty.{those-none}
 use Rattle.theory.specs.Order.{place}
@@ -23,7 +23,7 @@ use Rattle.demand2.proofs.Kind.{finding-iff, findings-iff}
 use Rattle.demand2.proofs.Pairs.{member, in-members}
 use Rattle.demand3.specs.Lists.{Finding}
 use Rattle.claims_rules.specs.Claims.{unclean, isStray, isMissing, hasMembers}
-use Rattle.claims_rules.proofs.Members.{seated}
+use Rattle.claims_rules.proofs.Members.{rest-members, seated}
 use Rattle.claims_laws.specs.Claims.{FirstUnclean, WrongMembers, missing, stranger, twice, not-first}
 
 positive : {n : ℕ} → (n ≡ 0 → ⊥) → 0 < n
@@ -97,12 +97,11 @@ module _ {h : History} (ok : LawfulHistory h) where
         record { are = λ i l. member ok (s .count i l); once = s .once; all = λ a x. s .all a (in-members ok x); zero-first = s .zero-first }
 
     pub members-wrong : hasMembers h o ≡ false → WrongMembers h o
-    unfolding hasMembers
     members-wrong e =
         ifso (some 0 (length o) (isStray h o)) strays
         (λ s.
         ifso (some 0 (size h) (isMissing h o)) lacks
-        (λ m. not-first (positive (λ z. clash (both _ _ (both _ _ (ap not s) (ap not m)) (eq-eqb _ _ z)) e))))
+        (λ m. not-first (positive (λ z. clash (rest-members h o s m ∙ eq-eqb _ _ z) e))))
 
     -- what is wrong is not right
     pub wrong-lists : WrongMembers h o → Lists h o → ⊥

@@ -1,10 +1,11 @@
--- A claim whose members are right has no more entries than there are transactions, 0 among them.
+-- A claim whose members are right has as many entries as transactions count as committed, and no more than there are transactions, 0 among them.
 use Prim.Native.Nat.{ℕ, _≤_}
 use mathlib.Core.Path.{_≡_}
 use mathlib.Core.Bool.{true, false, false≢true}
 use mathlib.Core.List.{List}
 use native.Mathlib.Omega.{arith}
 use lib.ListN.{length}
+use Rattle.base.specs.Base.{count}
 use Rattle.base.proofs.Searches.{count-most}
 use Rattle.theory.specs.Order.{Lawful}
 use Rattle.theory.proofs.Order.{lawful-length}
@@ -26,5 +27,8 @@ module _ (h : History) (o : List ℕ) where
         before = λ a b f. absurd (false≢true f);
       }
 
+  pub members-many : hasMembers h o ≡ true → length o ≡ count 0 (size h) (committed h)
+  members-many e = lawful-length (unforced e)
+
   pub members-few : hasMembers h o ≡ true → length o ≤ size h
-  members-few e = omega (arith, lawful-length (unforced e), count-most (committed h) (size h) 0)
+  members-few e = omega (arith, members-many e, count-most (committed h) (size h) 0)

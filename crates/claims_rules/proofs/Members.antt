@@ -1,13 +1,15 @@
 -- Who stands in a claim whose members are right, of any history.
 use Prim.Native.Nat.{ℕ, _<_}
 use mathlib.Core.Path.{_≡_, ap}
-use mathlib.Core.Bool.{true, not}
+use mathlib.Core.Bool.{true, false, not}
 use mathlib.Core.List.{List}
 use mathlib.Core.Logic.{⊎-elim}
 use native.Mathlib.Omega.{arith}
+use lib.Dec.{eqb}
 use lib.ListN.{length, getD}
 use borrow.Author.Tests.{ltb-false, le-ltb, eqb-true}
-use Rattle.base.proofs.Tests.{clash, is-false, is-true, both, and-left, and-right, not-true, or-left, or-right, split}
+use Rattle.base.specs.Base.{some}
+use Rattle.base.proofs.Tests.{clash, is-false, is-true, both, and-left, and-right, and-on, and-no-left, and-no-right, not-true, or-left, or-right, split}
 use Rattle.base.proofs.Searches.{none-at}
 use Rattle.theory.specs.Order.{place}
 use Rattle.theory.proofs.Places.{place-most}
@@ -23,6 +25,19 @@ pub record Seated (h : History) (o : List ℕ) : Type 0 where
   pub zero-first : place 0 o ≡ 0
 
 module _ (h : History) (o : List ℕ) where
+  -- an entry that is stray, or one that is missing, makes them wrong; where there is neither, 0 tells
+  pub stray-members : some 0 (length o) (isStray h o) ≡ true → hasMembers h o ≡ false
+  unfolding hasMembers
+  stray-members e = and-no-left _ _ (and-no-left _ _ (ap not e))
+
+  pub missing-members : some 0 (size h) (isMissing h o) ≡ true → hasMembers h o ≡ false
+  unfolding hasMembers
+  missing-members e = and-no-left _ _ (and-no-right _ _ (ap not e))
+
+  pub rest-members : some 0 (length o) (isStray h o) ≡ false → some 0 (size h) (isMissing h o) ≡ false → hasMembers h o ≡ eqb (place 0 o) 0
+  unfolding hasMembers
+  rest-members s m = and-on _ _ (both _ _ (ap not s) (ap not m))
+
   pub seated : hasMembers h o ≡ true → Seated h o
   unfolding hasMembers isStray isMissing
   seated e =

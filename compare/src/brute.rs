@@ -25,7 +25,7 @@
 
 use crate::claiming::Claimed;
 use crate::report::{Finding, Level, Pair, Verdict, READ, RIVAL, SESSION, START};
-use crate::trace::{Operation, Status, Trace, MAX_TRANSACTIONS};
+use crate::trace::{Action, Operation, Status, Trace, MAX_TRANSACTIONS};
 
 /// The most transactions besides 0, committed and unanswered, for which orders
 /// are tried.
@@ -113,8 +113,11 @@ pub fn findings(trace: &Trace, counted: &[u8]) -> Vec<Finding> {
 /// write that has, which stands where the kind says.
 pub fn tells_write(trace: &Trace, counted: &[u8], finding: &Finding) -> bool {
     let read = trace.operation(finding.operation);
-    let writes = writes_of_value(trace, read);
-    if finding.kind == 1 || finding.kind == 5 && read.value == 0 {
+    let Some(value) = read.action.read() else {
+        return false;
+    };
+    let writes = writes_of_value(trace, read.key, value);
+    if finding.kind == 1 || finding.kind == 5 && value == 0 {
         return finding.write == 0 && writes.is_empty();
     }
     if writes != [finding.write] {
@@ -133,10 +136,10 @@ pub fn tells_write(trace: &Trace, counted: &[u8], finding: &Finding) -> bool {
 }
 
 /// The numbers of all writes that have the key and the value of a read.
-fn writes_of_value(trace: &Trace, read: &Operation) -> Vec<u16> {
+fn writes_of_value(trace: &Trace, key: u32, value: u64) -> Vec<u16> {
     (1..)
         .zip(&trace.operations)
-        .filter(|(_, w)| w.is_write && (w.key, w.value) == (read.key, read.value))
+        .filter(|(_, w)| w.key == key && w.action == Action::Write(value))
         .map(|(number, _)| number)
         .collect()
 }
@@ -230,10 +233,13 @@ impl Choices {
         let with = |status| trace.with_status(status).collect();
         let unanswered: Vec<u8> = with(Status::Unanswered);
         let mut reads_value = Relation::new(&[], |_, _| false);
-        let is_open = |w: &&Operation| w.is_write && unanswered.contains(&w.transaction);
+        let is_open = |w: &&Operation| unanswered.contains(&w.transaction);
         for write in trace.operations.iter().filter(is_open) {
-            for read in trace.operations.iter().filter(|r| !r.is_write) {
-                if (read.key, read.value) == (write.key, write.value) {
+            let Some(value) = write.action.written() else {
+                continue;
+            };
+            for read in &trace.operations {
+                if read.key == write.key && read.action == Action::Read(value) {
                     reads_value.enter(read.transaction, write.transaction);
                 }
             }
@@ -324,11 +330,14 @@ impl<'a> Small<'a> {
             causal: Relation::default(),
         };
         for (index, operation) in trace.operations.iter().enumerate() {
-            if operation.is_write || !small.counted.contains(&operation.transaction) {
+            let Some(value) = operation.action.read() else {
+                continue;
+            };
+            if !small.counted.contains(&operation.transaction) {
                 continue;
             }
-            let write = small.write_read(operation);
-            match small.kind(index, operation, write) {
+            let write = small.write_read(operation.key, value);
+            match small.kind(index, operation, value, write) {
                 Read::Unclean(kind) => small.findings.push(Finding {
                     transaction: operation.transaction,
                     kind,
@@ -348,8 +357,8 @@ impl<'a> Small<'a> {
     }
 
     /// The write that has the read's key and value: its index and whose it is.
-    fn write_read(&self, read: &Operation) -> Option<(usize, u8)> {
-        let writes = writes_of_value(self.trace, read);
+    fn write_read(&self, key: u32, value: u64) -> Option<(usize, u8)> {
+        let writes = writes_of_value(self.trace, key, value);
         assert!(writes.len() <= 1, "no write repeats a key and value");
         let number = *writes.first()?;
         let author = self.trace.operation(number).transaction;
@@ -359,8 +368,8 @@ impl<'a> Small<'a> {
     /// The indexes of the writes of `key` by transaction `t`.
     fn writes_of(&self, t: u8, key: u32) -> impl Iterator<Item = usize> + '_ {
         self.operations().filter_map(move |(index, operation)| {
-            (operation.is_write && operation.transaction == t && operation.key == key)
-                .then_some(index)
+            let is_write = operation.action.written().is_some();
+            (is_write && operation.transaction == t && operation.key == key).then_some(index)
         })
     }
 
@@ -369,9 +378,9 @@ impl<'a> Small<'a> {
     }
 
     /// The six rules, one after another, each in the words of its row.
-    fn kind(&self, index: usize, read: &Operation, write: Option<(usize, u8)>) -> Read {
+    fn kind(&self, index: usize, read: &Operation, value: u64, write: Option<(usize, u8)>) -> Read {
         let (t, key) = (read.transaction, read.key);
-        if read.value != 0 && write.is_none() {
+        if value != 0 && write.is_none() {
             return Read::Unclean(1);
         }
         if write.is_some_and(|(_, author)| author != t && !self.counted.contains(&author)) {

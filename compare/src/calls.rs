@@ -17,7 +17,7 @@ use crate::items::{drawn_level, drawn_numbers_room, head, number, put_bytes, rep
 use crate::items::{read_bytes, read_letter, read_number};
 use crate::random::Random;
 use crate::report::Level;
-use crate::trace::Refusal;
+use crate::trace::{has_list_records, Refusal};
 use crate::workers::{self, add_each, Difference, Extent, Tally};
 use crate::{judge_all, Answer};
 use std::io::{self, Read, Write};
@@ -129,6 +129,8 @@ pub fn compare(command: &str, extent: &Extent) -> (String, Option<Box<Difference
         let items: Vec<Asked> = subjects.iter().flat_map(Subject::items).collect();
         check_run(command, &items, |item| tally.count(item))?;
         tally.traces += subjects.len();
+        let with_lists = subjects.iter().filter(|s| has_list_records(&s.trace));
+        tally.with_lists += with_lists.count();
         Ok(())
     };
     let runs = total.div_ceil(TOGETHER);
@@ -309,6 +311,7 @@ fn drawn_room(random: &mut Random, needed: usize, ample: usize) -> usize {
 #[derive(Default)]
 struct Outcomes {
     traces: usize,
+    with_lists: usize,
     decisions: Decisions,
     /// Decisions whose counts were not all written.
     cut: usize,
@@ -319,6 +322,7 @@ struct Outcomes {
 impl Tally for Outcomes {
     fn add(&mut self, other: &Outcomes) {
         self.traces += other.traces;
+        self.with_lists += other.with_lists;
         self.decisions.add(&other.decisions);
         self.cut += other.cut;
         self.byte_short += other.byte_short;
@@ -352,6 +356,7 @@ impl Outcomes {
             self.traces,
             extent.seed
         )];
+        lines.push(format!("traces with lists: {}", self.with_lists));
         lines.extend(self.decisions.describe());
         lines.push(format!("buffers one byte too short: {}", self.byte_short));
         lines.push(format!("counts cut: {}", self.cut));
@@ -406,7 +411,7 @@ impl Decisions {
         lines.push("strongest level:            0         1         2         3".into());
         lines.push(format!("  {:<17}{}", "answered", numbers(&self.strongest)));
         lines.push("refusals:".into());
-        for number in 1..=14 {
+        for number in (1..=14).chain([17]) {
             lines.push(format!("  {number:>2} {:>9}", self.refused[number]));
         }
         lines

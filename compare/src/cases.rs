@@ -1,10 +1,11 @@
 //! Traces whose answers are known: those of the specification, worked there by
 //! hand, its edges, unanswered commits, the writes of unclean reads, those whose
-//! keys share a bucket, those of edition 2, those in which it matters who knows whom
-//! and those with notes, each with what `judge` has to print.
+//! keys share a bucket, those of edition 2, those in which it matters who knows whom,
+//! those with notes and those with lists, each with what `judge` has to print.
 
 use crate::bucket_cases;
 use crate::encode::Writer;
+use crate::list_cases;
 use crate::note_cases;
 use crate::overlap_cases;
 use crate::text;
@@ -20,6 +21,13 @@ pub struct Case {
 
 /// All of them.
 pub fn all() -> Vec<Case> {
+    let mut cases = without_lists();
+    cases.extend(list_cases::all().into_iter().map(|known| known.case));
+    cases
+}
+
+/// All but those with lists.
+pub fn without_lists() -> Vec<Case> {
     let mut cases = document();
     cases.extend(fine_points());
     cases.extend(unanswered());
@@ -641,7 +649,7 @@ pub fn which_write_unanswered() -> Vec<Case> {
 }
 
 /// An operation for each value, in the notation: `each("w1=", 5..=6)` has two.
-fn each(operation: &str, values: impl Iterator<Item = u16>) -> String {
+pub(crate) fn each(operation: &str, values: impl Iterator<Item = u16>) -> String {
     values.map(|value| format!(" {operation}{value}")).collect()
 }
 

@@ -17,7 +17,7 @@ use crate::process;
 use crate::random::Random;
 use crate::report::{self, Level};
 use crate::text;
-use crate::trace::{Refusal, Trace, MAX_TRANSACTIONS};
+use crate::trace::{has_list_records, Refusal, Trace, MAX_TRANSACTIONS};
 use crate::workers::{self, add_each, Difference, Extent, Tally};
 use std::io::{self, Read};
 
@@ -97,6 +97,8 @@ pub fn compare_calls(command: &str, extent: &Extent) -> (String, Option<Box<Diff
         let items: Vec<Asked> = subjects.iter().flat_map(Subject::items).collect();
         check_run(command, &items, |item| tally.count(item.posed))?;
         tally.traces += subjects.len();
+        let with_lists = subjects.iter().filter(|s| has_list_records(&s.trace));
+        tally.with_lists += with_lists.count();
         Ok(())
     };
     let runs = total.div_ceil(TOGETHER);
@@ -319,6 +321,7 @@ impl Run {
         match &self.posed {
             Some(posed) => {
                 tally.traces += 1;
+                tally.with_lists += usize::from(has_list_records(&self.trace));
                 tally.count(posed);
             }
             None => tally.no_claims += 1,
@@ -424,6 +427,7 @@ fn own_at_each_level(case: Case) -> Subject {
 #[derive(Default)]
 struct Outcomes {
     traces: usize,
+    with_lists: usize,
     /// By level and by answer; the last row is for numbers that are no levels.
     by_level: [[usize; Claimed::NAMES.len()]; 4],
     /// By way of making and by answer.
@@ -440,6 +444,7 @@ struct Outcomes {
 impl Tally for Outcomes {
     fn add(&mut self, other: &Outcomes) {
         self.traces += other.traces;
+        self.with_lists += other.with_lists;
         let rows = self.by_level.iter_mut().chain(&mut self.by_way);
         for (to, from) in rows.zip(other.by_level.iter().chain(&other.by_way)) {
             add_each(to, from);
@@ -475,6 +480,7 @@ impl Outcomes {
             "{claims} claims on {} traces of seed {}, answered by '{command}' and in Rust",
             self.traces, extent.seed
         )];
+        lines.push(format!("traces with lists: {}", self.with_lists));
         let names = Claimed::NAMES.map(|name| format!("{name:>12}")).concat();
         let row = |name: &str, counts: &[usize]| {
             let each = counts.iter().map(|count| format!("{count:>12}"));
@@ -489,7 +495,7 @@ impl Outcomes {
             lines.push(row(way.describe(), counts));
         }
         lines.push("refusals:".into());
-        for number in 1..=11 {
+        for number in (1..=11).chain([17]) {
             lines.push(format!("  {number:>2} {:>9}", self.refused[number]));
         }
         lines.push(format!("claims longer than 128 bytes: {}", self.long));

@@ -9,6 +9,7 @@ use crate::generate;
 use crate::process::{self, behind_length, kept};
 use crate::random::Random;
 use crate::report::{self, Level, Verdict};
+use crate::trace::has_list_records;
 use crate::workers::{Difference, Extent};
 use crate::{judge_all, read_bounded, Answer};
 use std::ffi::{OsStr, OsString};
@@ -198,6 +199,8 @@ pub fn compare(programs: &Programs, extent: &Extent) -> (String, Option<Box<Diff
         programs.daemon,
         programs.stream
     )];
+    let with_lists = files.iter().filter(|file| has_list_records(&file.trace));
+    lines.push(format!("files with lists: {}", with_lists.count()));
     lines.extend(decisions.describe());
     (lines.join("\n") + "\n", checked.err())
 }

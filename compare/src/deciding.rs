@@ -9,8 +9,8 @@ use crate::report::{Finding, Level, Pair, Verdict};
 use crate::trace::{Refusal, MAX_OPERATIONS, MAX_TRANSACTIONS};
 use crate::{judge_all, judge_one, Answer};
 
-const FINDING_SIZE: usize = 6;
-const PAIR_SIZE: usize = 4;
+pub(crate) const FINDING_SIZE: usize = 6;
+pub(crate) const PAIR_SIZE: usize = 4;
 /// The transactions that can take part, 0 among them.
 const MOST_COUNTED: usize = MAX_TRANSACTIONS + 1;
 
@@ -301,6 +301,6 @@ pub fn put_numbers(buffer: &mut [u8], numbers: &[u32]) {
 }
 
 /// Puts the bytes at the beginning of a buffer that has room for them.
-fn begin(buffer: &mut [u8], bytes: &[u8]) {
+pub(crate) fn begin(buffer: &mut [u8], bytes: &[u8]) {
     buffer[..bytes.len()].copy_from_slice(bytes);
 }

@@ -1,6 +1,8 @@
 //! Writing traces, lawful or not.
 
-use crate::trace::{Edition, CLOSE, EDITION, EDITION_2, END, NOTE, OPEN, READ, WRITE};
+use crate::trace::{
+    Edition, APPEND, CLOSE, EDITION, EDITION_2, END, LIST_READ, NOTE, OPEN, READ, WRITE,
+};
 
 /// Writes record after record; serials follow by themselves.
 pub struct Writer {
@@ -88,6 +90,25 @@ impl Writer {
     /// A write as the trace's edition has it.
     pub fn write_in(&mut self, session: u16, key: u32, value: u64) {
         self.record_in(session, WRITE, &key_and_value(key, value));
+    }
+
+    /// An append, which only edition 2 has.
+    pub fn append_in(&mut self, session: u16, key: u32, value: u64) {
+        self.record_in(session, APPEND, &key_and_value(key, value));
+    }
+
+    /// A list read, which only edition 2 has, with the number that its values have.
+    pub fn read_list_in(&mut self, session: u16, key: u32, values: &[u64]) {
+        let number = u16::try_from(values.len()).expect("a list that a number can count");
+        self.numbered_list_in(session, key, number, values);
+    }
+
+    /// A list read with a number of choice.
+    pub fn numbered_list_in(&mut self, session: u16, key: u32, number: u16, values: &[u64]) {
+        let mut fields = key.to_le_bytes().to_vec();
+        fields.extend(number.to_le_bytes());
+        fields.extend(values.iter().flat_map(|value| value.to_le_bytes()));
+        self.record_in(session, LIST_READ, &fields);
     }
 
     /// A close as the trace's edition has it.

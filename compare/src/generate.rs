@@ -1,8 +1,10 @@
 //! Random traces, lawful and not, for the comparison.
 
 use crate::encode::Writer;
+use crate::list_traces::with_lists;
 use crate::random::Random;
-use crate::trace::{self, Edition, Status, MAX_BYTES, MAX_NOTE, MAX_TRANSACTIONS};
+use crate::trace::{self, Action, Edition, Sort, Status};
+use crate::trace::{MAX_BYTES, MAX_LIST, MAX_NOTE, MAX_TRANSACTIONS};
 use crate::vector_cases;
 use crate::weave::{self, Access, Whole};
 use crate::writing;
@@ -55,12 +57,31 @@ impl Origin {
     }
 }
 
-/// A random trace of a random origin and edition.
+/// A random trace of a random origin and edition. A quarter of those of edition 2 have
+/// lists, where they can have them.
 pub fn any(random: &mut Random) -> (Origin, Vec<u8>) {
     let edition = *random.pick(&[Edition::One, Edition::Two]);
-    match random.below(100) {
-        0..=3 => (Origin::Bytes, bytes(random, edition)),
-        4..=11 => (Origin::Records, records(random, edition)),
+    let lists = drawn_lists(random);
+    of_sort(random, edition, lists)
+}
+
+/// The same of edition 2, with lists wherever it can have them.
+pub fn any_with_lists(random: &mut Random) -> (Origin, Vec<u8>) {
+    of_sort(random, Edition::Two, true)
+}
+
+/// Whether a trace is to have lists. It is drawn aside, so that any other remains what
+/// it was without them.
+fn drawn_lists(random: &Random) -> bool {
+    random.aside().percent(25)
+}
+
+/// A random trace of a random origin. In edition 1 there are no lists, but where there
+/// should be, their kinds may stray into it.
+fn of_sort(random: &mut Random, edition: Edition, lists: bool) -> (Origin, Vec<u8>) {
+    let (origin, bytes) = match random.below(100) {
+        0..=3 => return (Origin::Bytes, bytes(random, edition)),
+        4..=11 => return (Origin::Records, records(random, edition, lists)),
         12..=29 => (Origin::Small, Shape::small(random, edition).trace(random)),
         30..=37 => (Origin::Knowing, vector_cases::drawn(random, edition)),
         38..=43 => (
@@ -74,7 +95,11 @@ pub fn any(random: &mut Random) -> (Origin, Vec<u8>) {
             Web::drawn(random, edition).trace(random),
         ),
         77..=81 => (Origin::Noted, noted(random, edition)),
-        _ => (Origin::Damaged, damaged(random, edition)),
+        _ => return (Origin::Damaged, damaged(random, edition, lists)),
+    };
+    match lists {
+        true => (origin, with_lists(random, &bytes)),
+        false => (origin, bytes),
     }
 }
 
@@ -82,6 +107,7 @@ pub fn any(random: &mut Random) -> (Origin, Vec<u8>) {
 /// there is much to be ordered in them.
 pub fn sound(random: &mut Random) -> (Origin, Vec<u8>) {
     let edition = *random.pick(&[Edition::One, Edition::Two]);
+    let lists = drawn_lists(random);
     let (origin, shape) = match random.below(10) {
         0 => (Origin::Large, Shape::large(random, edition)),
         1..=4 => (Origin::Medium, Shape::medium(random, edition)),
@@ -93,7 +119,11 @@ pub fn sound(random: &mut Random) -> (Origin, Vec<u8>) {
         wild: 0,
         ..shape
     };
-    (origin, shape.trace(random))
+    let bytes = shape.trace(random);
+    match lists {
+        true => (origin, with_lists(random, &bytes)),
+        false => (origin, bytes),
+    }
 }
 
 /// Random bytes, behind the record that the edition begins with; from a small
@@ -111,14 +141,18 @@ fn bytes(random: &mut Random, edition: Edition) -> Vec<u8> {
 }
 
 /// Records with lawful frames in a random order that is often lawful too.
-fn records(random: &mut Random, edition: Edition) -> Vec<u8> {
+fn records(random: &mut Random, edition: Edition, lists: bool) -> Vec<u8> {
     let mut writer = Writer::of_edition(edition, first_serial(random));
     // The sessions of the open transactions.
     let mut open: Vec<u16> = Vec::new();
     // Most of these traces would stop at their first fault, so each trace has
     // its own readiness to make one.
     let fault = *random.pick(&[0, 1, 5, 20]);
-    let buckets = Buckets::drawn(random);
+    let manner = Manner {
+        buckets: Buckets::drawn(random),
+        lists,
+        fault,
+    };
     for _ in 0..random.below(24) {
         let session = random.below(4) as u16;
         let is_inside = match edition {
@@ -126,10 +160,10 @@ fn records(random: &mut Random, edition: Edition) -> Vec<u8> {
             Edition::Two => open.contains(&session),
         };
         let kind = match random.percent(fault) {
-            true => any_kind(random),
-            false => lawful_kind(random, edition, is_inside),
+            true => any_kind(random, lists),
+            false => lawful_kind(random, edition, is_inside, lists),
         };
-        any_record(random, &mut writer, kind, session, buckets, fault);
+        any_record(random, &mut writer, kind, session, manner);
         match (kind, edition) {
             (trace::OPEN, _) => open.push(session),
             (trace::CLOSE, Edition::One) => open.clear(),
@@ -149,42 +183,81 @@ fn records(random: &mut Random, edition: Edition) -> Vec<u8> {
     }
 }
 
-fn any_kind(random: &mut Random) -> u16 {
-    match random.below(10) {
+/// Any kind that there is, or that might be; those of lists only where they are wanted.
+fn any_kind(random: &mut Random, lists: bool) -> u16 {
+    let kinds = match lists {
+        true => 12,
+        false => 10,
+    };
+    match random.below(kinds) {
         9 => trace::EDITION,
+        10 => trace::APPEND,
+        11 => trace::LIST_READ,
         kind => kind as u16,
     }
 }
 
 /// A kind that a record may have, inside a transaction or outside.
-fn lawful_kind(random: &mut Random, edition: Edition, is_inside: bool) -> u16 {
-    use trace::{CLOSE, NOTE, OPEN, READ, WRITE};
+fn lawful_kind(random: &mut Random, edition: Edition, is_inside: bool, lists: bool) -> u16 {
+    use trace::{APPEND, CLOSE, LIST_READ, NOTE, OPEN, READ, WRITE};
     let lawful: &[u16] = match (edition, is_inside) {
         (Edition::One, true) => &[READ, WRITE, WRITE, CLOSE, NOTE],
         (Edition::One, false) => &[OPEN, OPEN, NOTE],
+        (Edition::Two, true) if lists => &[READ, WRITE, APPEND, APPEND, LIST_READ, CLOSE],
         (Edition::Two, true) => &[READ, WRITE, WRITE, CLOSE],
         (Edition::Two, false) => &[OPEN],
     };
     *random.pick(lawful)
 }
 
-/// A record of this kind, with the chance in percent to have a fault.
-fn any_record(
-    random: &mut Random,
-    writer: &mut Writer,
-    kind: u16,
-    session: u16,
+/// What random records are like.
+#[derive(Clone, Copy)]
+struct Manner {
     buckets: Option<Buckets>,
+    lists: bool,
+    /// The chance in percent to make a fault.
     fault: usize,
-) {
-    let key = |random: &mut Random| numbered(buckets, random.below(4));
+}
+
+impl Manner {
+    /// One of four keys. Where there are lists, two of them have these, and the others
+    /// single values, but for a fault.
+    fn key(&self, random: &mut Random, sort: Sort) -> u32 {
+        let any = random.below(4);
+        let place = match sort {
+            _ if !self.lists || random.percent(self.fault) => any,
+            Sort::Single => any % 2,
+            Sort::List => 2 + any % 2,
+        };
+        numbered(self.buckets, place)
+    }
+
+    /// A value to be written or appended.
+    fn value(&self, random: &mut Random) -> u64 {
+        let lowest = usize::from(!random.percent(self.fault));
+        random.from_to(lowest, 30) as u64
+    }
+}
+
+/// A record of this kind, with the chance to have a fault.
+fn any_record(random: &mut Random, writer: &mut Writer, kind: u16, session: u16, manner: Manner) {
+    let fault = manner.fault;
     match kind {
         trace::OPEN => writer.open(session),
-        trace::READ => writer.read_in(session, key(random), random.below(4) as u64),
+        trace::READ => {
+            let key = manner.key(random, Sort::Single);
+            writer.read_in(session, key, random.below(4) as u64);
+        }
         trace::WRITE => {
-            let lowest = usize::from(!random.percent(fault));
-            let value = random.from_to(lowest, 30) as u64;
-            writer.write_in(session, key(random), value);
+            let value = manner.value(random);
+            writer.write_in(session, manner.key(random, Sort::Single), value);
+        }
+        trace::APPEND if !random.percent(fault / 4) => {
+            let value = manner.value(random);
+            writer.append_in(session, manner.key(random, Sort::List), value);
+        }
+        trace::LIST_READ if !random.percent(fault / 4) => {
+            any_list_read(random, writer, session, manner);
         }
         trace::CLOSE => {
             let most = if random.percent(fault) { 3 } else { 2 };
@@ -195,6 +268,24 @@ fn any_record(
         trace::EDITION => writer.record(kind, &[random.from_to(1, 3) as u8, 0]),
         other => writer.record(other, &vec![0; random.below(14)]),
     }
+}
+
+/// A list read of few values or many, with the chance to say another number of them.
+fn any_list_read(random: &mut Random, writer: &mut Writer, session: u16, manner: Manner) {
+    const ABOVE_MOST: usize = 40;
+    let most = match random.percent(manner.fault) {
+        true => ABOVE_MOST,
+        false => *random.pick(&[0, 1, 2, 4, MAX_LIST]),
+    };
+    let values: Vec<u64> = (0..random.from_to(0, most))
+        .map(|_| random.below(31) as u64)
+        .collect();
+    let number = match random.percent(manner.fault) {
+        true => random.from_to(0, ABOVE_MOST),
+        false => values.len(),
+    };
+    let key = manner.key(random, Sort::List);
+    writer.numbered_list_in(session, key, number as u16, &values);
 }
 
 pub(crate) fn first_serial(random: &mut Random) -> u32 {
@@ -507,20 +598,15 @@ impl Shape {
                 left -= count;
                 let operations = (0..count)
                     .map(|_| {
+                        // Two of the keys may be equal by chance: then the
+                        // trace may repeat a write, which is welcome.
                         let key = random.below(self.keys);
-                        let is_write = random.percent(self.writes);
-                        let mut value = 0;
-                        if is_write {
-                            value = next_value[key];
-                            next_value[key] += 1;
+                        if !random.percent(self.writes) {
+                            return Access::read(keys[key], 0);
                         }
-                        Access {
-                            is_write,
-                            // Two of the keys may be equal by chance: then the
-                            // trace may repeat a write, which is welcome.
-                            key: keys[key],
-                            value,
-                        }
+                        let value = next_value[key];
+                        next_value[key] += 1;
+                        Access::write(keys[key], value)
                     })
                     .collect();
                 let session = *random.pick(&sessions);
@@ -560,27 +646,27 @@ impl Shape {
         } else {
             (0..plan.len()).collect()
         };
-        let all_writes: Vec<Access> = plan
+        let all_writes: Vec<Written> = plan
             .iter()
             .flat_map(|t| writes(&t.whole.operations))
             .collect();
         // The last values that the transactions of the store give a key.
-        let finals: Vec<Access> = plan
+        let finals: Vec<Written> = plan
             .iter()
             .filter(|t| t.in_store)
             .flat_map(|t| last_writes(&t.whole.operations))
             .collect();
         // The same, of those whose turn has been; the latest last.
-        let mut store: Vec<Access> = Vec::new();
+        let mut store: Vec<Written> = Vec::new();
         for turn in turns {
             let own_writes = writes(&plan[turn].whole.operations);
             for index in 0..plan[turn].whole.operations.len() {
-                let Access { is_write, key, .. } = plan[turn].whole.operations[index];
-                if is_write {
+                let Access { key, ref action } = plan[turn].whole.operations[index];
+                if action.written().is_some() {
                     continue;
                 }
-                let before = &plan[turn].whole.operations[..index];
-                let own = before.iter().rev().find(|w| w.is_write && w.key == key);
+                let before = writes(&plan[turn].whole.operations[..index]);
+                let own = before.iter().rev().find(|w| w.key == key);
                 let value = if random.percent(self.wild) {
                     // Half of them look at the transaction itself, or the
                     // kinds about own writes would be rare.
@@ -595,7 +681,7 @@ impl Shape {
                     let latest = store.iter().rev().find(|w| w.key == key);
                     latest.map_or(0, |write| write.value)
                 };
-                plan[turn].whole.operations[index].value = value;
+                plan[turn].whole.operations[index].action = Action::Read(value);
             }
             if plan[turn].in_store {
                 store.extend(last_writes(&plan[turn].whole.operations));
@@ -657,14 +743,24 @@ fn overlapping(random: &mut Random, mut wholes: Vec<Whole>) -> Vec<u8> {
     weave::weave(writer, &wholes, weave::at_random(random, most, chance))
 }
 
-fn writes(operations: &[Access]) -> Vec<Access> {
-    let mut writes = operations.to_vec();
-    writes.retain(|operation| operation.is_write);
-    writes
+/// A write, whoever does it.
+#[derive(Clone, Copy)]
+struct Written {
+    key: u32,
+    value: u64,
+}
+
+fn writes(operations: &[Access]) -> Vec<Written> {
+    let write = |operation: &Access| {
+        let value = operation.action.written()?;
+        let key = operation.key;
+        Some(Written { key, value })
+    };
+    operations.iter().filter_map(write).collect()
 }
 
 /// The last write of each key.
-fn last_writes(operations: &[Access]) -> Vec<Access> {
+fn last_writes(operations: &[Access]) -> Vec<Written> {
     let all = writes(operations);
     let is_last = |&index: &usize| all[index + 1..].iter().all(|w| w.key != all[index].key);
     (0..all.len())
@@ -675,7 +771,7 @@ fn last_writes(operations: &[Access]) -> Vec<Access> {
 
 /// The value of some write of the key, or 0, or, if allowed, one that no
 /// write has.
-fn pick_value(random: &mut Random, from: &[Access], key: u32, thin_air: bool) -> u64 {
+fn pick_value(random: &mut Random, from: &[Written], key: u32, thin_air: bool) -> u64 {
     let of_key: Vec<u64> = from
         .iter()
         .filter(|w| w.key == key)
@@ -786,7 +882,8 @@ impl Web {
             sources.iter().partition(|&&source| source == reader);
         let mut operations: Vec<Access> = Vec::new();
         operations.extend(others.iter().map(|&source| self.read(random, source)));
-        operations.extend(self.writes(reader));
+        let written = self.writes(reader).into_iter();
+        operations.extend(written.map(|w| Access::write(w.key, w.value)));
         operations.extend(own.iter().map(|&source| self.read(random, source)));
         if random.percent(self.shuffled) {
             random.shuffle(&mut operations);
@@ -845,9 +942,8 @@ impl Web {
     }
 
     /// Both writes of a transaction are of its key.
-    fn writes(&self, writer: usize) -> [Access; 2] {
-        [1, 2].map(|which| Access {
-            is_write: true,
+    fn writes(&self, writer: usize) -> [Written; 2] {
+        [1, 2].map(|which| Written {
             key: numbered(self.buckets, writer % self.keys),
             value: 2 * writer as u64 + which,
         })
@@ -855,30 +951,31 @@ impl Web {
 
     fn read(&self, random: &mut Random, source: usize) -> Access {
         let [first, last] = self.writes(source);
-        Access {
-            is_write: false,
-            ..match random.percent(self.intermediate) {
-                true => first,
-                false => last,
-            }
-        }
+        let Written { key, value } = match random.percent(self.intermediate) {
+            true => first,
+            false => last,
+        };
+        Access::read(key, value)
     }
 }
 
 /// A plausible trace with one to three faults. Most leave the trace framed and
 /// numbered, so that the fault itself is what the judge has to see.
-fn damaged(random: &mut Random, edition: Edition) -> Vec<u8> {
+fn damaged(random: &mut Random, edition: Edition, lists: bool) -> Vec<u8> {
     let mut bytes = match random.below(10) {
         0 => Shape::medium(random, edition).trace(random),
         1 if random.percent(20) => Shape::large(random, edition).trace(random),
         2 => Web::drawn(random, edition).trace(random),
         _ => Shape::small(random, edition).trace(random),
     };
+    if lists {
+        bytes = with_lists(random, &bytes);
+    }
     for _ in 0..random.from_to(1, 3) {
         if bytes.is_empty() {
             break;
         }
-        damage(random, &mut bytes);
+        damage(random, &mut bytes, lists);
     }
     bytes
 }
@@ -932,7 +1029,7 @@ fn tighten(records: &[Loose]) -> Vec<u8> {
     bytes
 }
 
-fn damage(random: &mut Random, bytes: &mut Vec<u8>) {
+fn damage(random: &mut Random, bytes: &mut Vec<u8>, lists: bool) {
     match random.below(5) {
         0 => {
             let size = random.below(bytes.len());
@@ -959,7 +1056,11 @@ fn damage(random: &mut Random, bytes: &mut Vec<u8>) {
     let other = random.below(records.len());
     let first_serial = records[0].serial;
     let mut renumber = true;
-    match random.below(18) {
+    let ways = match lists {
+        true => 24,
+        false => 18,
+    };
+    match random.below(ways) {
         0 => records.swap(at, other),
         1 => {
             records.swap(at, other);
@@ -975,7 +1076,7 @@ fn damage(random: &mut Random, bytes: &mut Vec<u8>) {
                 .wrapping_add(random.below(5) as u16)
                 .wrapping_sub(2)
         }
-        5 => records[at].kind = any_kind(random),
+        5 => records[at].kind = any_kind(random, lists),
         6 => {
             records[at].serial = match random.below(3) {
                 0 => random.draw() as u32,
@@ -1034,11 +1135,12 @@ fn damage(random: &mut Random, bytes: &mut Vec<u8>) {
             _ => records.insert(0, Loose::edition(random)),
         },
         15 | 16 => renumber = spoil_note(random, &mut records),
-        _ => {
+        17 => {
             if records[at].payload.pop().is_some() {
                 records[at].length -= 1;
             }
         }
+        _ => spoil_operation(random, &mut records),
     }
     if renumber {
         for (index, record) in records.iter_mut().enumerate() {
@@ -1070,4 +1172,57 @@ fn spoil_note(random: &mut Random, records: &mut [Loose]) -> bool {
         }
     }
     true
+}
+
+/// Makes one of the operations another one, which may be on a list: of another kind, of
+/// another's key, with another's value; or makes a list longer or shorter, as its number
+/// says or not.
+fn spoil_operation(random: &mut Random, records: &mut [Loose]) {
+    use trace::{APPEND, LIST_READ, READ, WRITE};
+    let is_operation = |record: &Loose| matches!(record.kind, READ | WRITE | APPEND | LIST_READ);
+    let operations: Vec<usize> = (0..records.len())
+        .filter(|&at| is_operation(&records[at]))
+        .collect();
+    if operations.is_empty() {
+        return;
+    }
+    let other = records[*random.pick(&operations)].clone();
+    let record = &mut records[*random.pick(&operations)];
+    match (record.kind, random.below(5)) {
+        (LIST_READ, 0..=2) => spoil_list(random, record),
+        (LIST_READ, _) | (_, 0) => copy_over(record, &other, 2..6),
+        (_, 1) => copy_over(record, &other, 6..14),
+        _ => record.kind = *random.pick(&[READ, WRITE, APPEND, APPEND, LIST_READ]),
+    }
+}
+
+/// Puts what another record has in this stretch in its place, if both have it.
+fn copy_over(record: &mut Loose, other: &Loose, stretch: std::ops::Range<usize>) {
+    let place = record.payload.get_mut(stretch.clone());
+    if let (Some(place), Some(bytes)) = (place, other.payload.get(stretch)) {
+        place.copy_from_slice(bytes);
+    }
+}
+
+/// Gives a list read other values, another number, or a number that fits none of these.
+fn spoil_list(random: &mut Random, list: &mut Loose) {
+    const HEAD: usize = 8;
+    if list.payload.len() < HEAD {
+        return;
+    }
+    let number = random.from_to(0, 40);
+    match random.below(4) {
+        // As many values as it says, the last ones zeros, or with more of them.
+        0 | 1 => {
+            list.payload.resize(HEAD + 8 * number, 0);
+            list.payload[6..HEAD].copy_from_slice(&(number as u16).to_le_bytes());
+        }
+        2 => list.payload[6..HEAD].copy_from_slice(&(number as u16).to_le_bytes()),
+        // A number as great as it gets, or none at all.
+        _ => match random.percent(50) {
+            true => list.payload[6..HEAD].fill(0xff),
+            false => list.payload.truncate(random.below(HEAD)),
+        },
+    }
+    list.length = 6 + list.payload.len() as u16;
 }

@@ -6,14 +6,14 @@
 
 use crate::hash::FastMap;
 use crate::report::{Finding, Level, Pair, Verdict, READ, RIVAL, SESSION, START};
-use crate::trace::{Status, Trace, MAX_TRANSACTIONS};
+use crate::trace::{Action, Status, Trace, MAX_TRANSACTIONS};
 
-type Set = u128;
-type Rows = [Set; MAX_TRANSACTIONS + 1];
+pub(crate) type Set = u128;
+pub(crate) type Rows = [Set; MAX_TRANSACTIONS + 1];
 
-const EMPTY: Rows = [0; MAX_TRANSACTIONS + 1];
+pub(crate) const EMPTY: Rows = [0; MAX_TRANSACTIONS + 1];
 
-fn only(transaction: u8) -> Set {
+pub(crate) fn only(transaction: u8) -> Set {
     1 << transaction
 }
 
@@ -27,7 +27,7 @@ fn members(mut set: Set) -> impl Iterator<Item = u8> {
 }
 
 /// The pairs of either of two relations.
-fn either(mut one: Rows, other: &Rows) -> Rows {
+pub(crate) fn either(mut one: Rows, other: &Rows) -> Rows {
     for (row, more) in one.iter_mut().zip(other) {
         *row |= more;
     }
@@ -104,10 +104,15 @@ impl History {
             let index = usize::from(index);
             let operation = &trace.operations[index];
             let slot = usize::from(keys.slot_of[index]);
-            if operation.is_write {
-                last_write[slot] = Some(number);
-                continue;
-            }
+            let value = match operation.action {
+                Action::Read(value) => value,
+                Action::Write(_) => {
+                    last_write[slot] = Some(number);
+                    continue;
+                }
+                // The levels judge single values only.
+                Action::Append(_) | Action::ReadList(_) => continue,
+            };
             let reader = operation.transaction;
             if self.counted & only(reader) == 0 {
                 continue;
@@ -115,7 +120,7 @@ impl History {
             let own_last = last_write[slot].filter(|&write| author(write) == reader);
             let write = write_read[index];
             let kind = match write {
-                None if operation.value != 0 => 1,
+                None if value != 0 => 1,
                 Some(write) if author(write) == reader => {
                     if write > number {
                         3
@@ -253,45 +258,52 @@ impl History {
         before
     }
 
-    /// The forced pairs whose second leads to their first: those whose two
-    /// lead to each other.
+    /// The forced pairs whose second leads to their first.
     fn listed(&self, before: &Rows, rival_before: &Rows) -> Vec<Pair> {
-        let mutual = Paths::new(before, self.counted).mutual;
-        // The list goes by firsts, so the rows are turned round.
-        let mut seconds = EMPTY;
-        for second in members(self.counted) {
-            for first in members(before[usize::from(second)] & mutual[usize::from(second)]) {
-                seconds[usize::from(first)] |= only(second);
+        listed(before, self.counted, |first, second| {
+            let has = |rows: &Rows| rows[usize::from(second)] & only(first) != 0;
+            let mut reasons = 0;
+            // Start puts 0 before every other, whatever else does so too.
+            if first == 0 {
+                reasons |= START;
             }
-        }
-        let count: u32 = seconds.iter().map(|row| row.count_ones()).sum();
-        let mut pairs = Vec::with_capacity(count as usize);
-        for first in members(self.counted) {
-            for second in members(seconds[usize::from(first)]) {
-                let has = |rows: &Rows| rows[usize::from(second)] & only(first) != 0;
-                let mut reasons = 0;
-                // Start puts 0 before every other, whatever else does so too.
-                if first == 0 {
-                    reasons |= START;
-                }
-                if has(&self.session_before) {
-                    reasons |= SESSION;
-                }
-                if has(&self.source_before) {
-                    reasons |= READ;
-                }
-                if has(rival_before) {
-                    reasons |= RIVAL;
-                }
-                pairs.push(Pair {
-                    first,
-                    second,
-                    reasons,
-                });
+            if has(&self.session_before) {
+                reasons |= SESSION;
             }
-        }
-        pairs
+            if has(&self.source_before) {
+                reasons |= READ;
+            }
+            if has(rival_before) {
+                reasons |= RIVAL;
+            }
+            reasons
+        })
     }
+}
+
+/// The pairs of a relation among these whose second leads to their first, which are
+/// those whose two lead to each other; by first and then second, with their reasons.
+pub(crate) fn listed(before: &Rows, among: Set, reasons: impl Fn(u8, u8) -> u8) -> Vec<Pair> {
+    let mutual = Paths::new(before, among).mutual;
+    // The list goes by firsts, so the rows are turned round.
+    let mut seconds = EMPTY;
+    for second in members(among) {
+        for first in members(before[usize::from(second)] & mutual[usize::from(second)]) {
+            seconds[usize::from(first)] |= only(second);
+        }
+    }
+    let count: u32 = seconds.iter().map(|row| row.count_ones()).sum();
+    let mut pairs = Vec::with_capacity(count as usize);
+    for first in members(among) {
+        for second in members(seconds[usize::from(first)]) {
+            pairs.push(Pair {
+                first,
+                second,
+                reasons: reasons(first, second),
+            });
+        }
+    }
+    pairs
 }
 
 /// The basic pairs of a trace, and where they lead. A transaction that does not
@@ -426,10 +438,10 @@ impl Counting {
         let mut sources = 0;
         for index in indexes.iter().copied().map(usize::from) {
             let operation = &trace.operations[index];
-            if operation.is_write {
+            let Some(value) = operation.action.read() else {
                 continue;
-            }
-            let write = trace.find_write(operation.key, operation.value);
+            };
+            let write = trace.find_write(operation.key, value);
             self.write_read[index] = write;
             sources |= write.map_or(0, |write| only(trace.operation(write).transaction));
         }
@@ -467,7 +479,7 @@ impl Keys {
                 keys.writers.len() as u16 - 1
             });
             keys.slot_of[index] = slot;
-            if operation.is_write {
+            if operation.action.written().is_some() {
                 let slot = usize::from(slot);
                 keys.writers[slot] |= only(operation.transaction) & counted;
                 if let Some(earlier) = last_write[slot].replace(index) {

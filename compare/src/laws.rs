@@ -2,9 +2,9 @@
 //!
 //! The order that the judge shows gets a yes, and no claim gets one where the judge
 //! rejects. A yes at a level is a yes at the weaker ones. The same claim on the same
-//! transactions, in the other edition, woven together in another way or with other
-//! notes, gets the same answer but for the number of a read. Where transactions are few,
-//! [`crate::brute`] looks at each answer.
+//! transactions, in the other edition, woven together in another way, with other notes
+//! or without lists, gets the same answer but for the number of a read. Where
+//! transactions are few, [`crate::brute`] looks at each answer.
 
 use crate::brute;
 use crate::claiming::{claim_in, Claimed};
@@ -164,7 +164,7 @@ impl Relative {
     }
 }
 
-/// The transactions of a trace as blocks of both editions, which is where moves lead,
+/// The transactions of a trace as blocks of both editions, in edition 1 without lists,
 /// and woven together at random; and, if it has notes, with others and with none.
 fn relatives(bytes: &[u8], trace: &Trace, random: &mut Random) -> Vec<Relative> {
     let wholes = weave::wholes(trace);
@@ -174,7 +174,8 @@ fn relatives(bytes: &[u8], trace: &Trace, random: &mut Random) -> Vec<Relative> 
         weave::at_random(random, 8, 50),
     );
     let are_blocks = trace.edition == Edition::One;
-    let [one, two] = [Edition::One, Edition::Two].map(|edition| weave::blocks(edition, 0, &wholes));
+    let one = weave::blocks(Edition::One, 0, &weave::without_lists(&wholes));
+    let two = weave::blocks(Edition::Two, 0, &wholes);
     let mut relatives = vec![
         Relative::new("otherwise in blocks of edition 1", are_blocks, &one),
         Relative::new("otherwise in blocks of edition 2", are_blocks, &two),

@@ -1,13 +1,13 @@
 //! An independent judge, writer and mover of transaction traces, with the
-//! decisions of the index and the answers to claimed orders.
+//! decisions of the index, the answers to claimed orders and what is said of lists.
 //!
 //! It is written from the specification alone, `01-scope.md` and the requests
 //! for a writer, for unanswered commits, for the writes of unclean reads, for
 //! overlapping transactions, for moves between the editions, for notes that are
-//! only counted, for the calls of the index, for vectors and for orders from elsewhere,
-//! to be compared with the proved judge, writer, mover and upper library: the two sides
-//! share no code, so a mistake would have to be made twice, in the same way, to stay
-//! unseen.
+//! only counted, for the calls of the index, for vectors, for orders from elsewhere and
+//! for lists, to be compared with the proved judge, writer, mover and upper library: the
+//! two sides share no code, so a mistake would have to be made twice, in the same way, to
+//! stay unseen.
 //!
 //! * [`trace`] reads the bytes of a trace, or says why they are refused;
 //! * [`graph`] decides by forced pairs, for any trace, and is meant to be fast;
@@ -22,15 +22,17 @@
 //! * [`deciding`] decides for the index, at any level and with buffers of any
 //!   size, and finds the strongest level;
 //! * [`claiming`] says yes or no to an order that is claimed;
+//! * [`listing`] judges list reads and finds cycles of what they say, and
+//!   [`list_search`] does so by plain search, to be obviously right;
 //! * [`writing`] writes traces from steps and turns traces into steps;
 //! * [`moving`] moves traces between the editions;
-//! * [`encode`], [`text`], [`weave`], [`notes`], [`generate`], [`cases`],
-//!   [`bucket_cases`], [`overlap_cases`], [`vector_cases`] and [`note_cases`] make
-//!   traces, [`sequences`] and [`sequence_cases`] sequences of steps, [`orders`] orders
-//!   to be claimed;
+//! * [`encode`], [`text`], [`weave`], [`notes`], [`generate`], [`list_traces`],
+//!   [`cases`], [`bucket_cases`], [`overlap_cases`], [`vector_cases`], [`note_cases`]
+//!   and [`list_cases`] make traces, [`sequences`] and [`sequence_cases`] sequences of
+//!   steps, [`orders`] orders to be claimed;
 //! * [`laws`] sees that what has to hold of all claims does;
-//! * [`process`], [`workers`], [`items`], [`scribes`], [`moves`], [`calls`], [`claims`]
-//!   and [`daemon`] compare.
+//! * [`process`], [`workers`], [`items`], [`scribes`], [`moves`], [`calls`], [`claims`],
+//!   [`lists`] and [`daemon`] compare.
 //!
 //! [`believe`], with [`declarations`] and [`mentions`], judges nothing: it prints
 //! what a reader of the proved side has to believe, and sees that it is closed.
@@ -51,6 +53,11 @@ pub mod graph;
 pub mod hash;
 pub mod items;
 pub mod laws;
+pub mod list_cases;
+pub mod list_search;
+pub mod list_traces;
+pub mod listing;
+pub mod lists;
 pub mod mentions;
 pub mod moves;
 pub mod moving;
@@ -73,6 +80,7 @@ pub mod workers;
 pub mod writing;
 
 use graph::History;
+use listing::Listing;
 use report::{Level, Verdict};
 use trace::{Refusal, Trace};
 
@@ -98,6 +106,16 @@ pub fn judge_one(bytes: &[u8], level: Level) -> Result<Verdict, Refusal> {
 /// What the program `judge` prints for these bytes.
 pub fn judge_text(bytes: &[u8]) -> String {
     report::print(&judge_all(bytes))
+}
+
+/// What the call on lists answers for these bytes, with ample room.
+pub fn list_all(bytes: &[u8]) -> Result<Listing, Refusal> {
+    Ok(listing::listing_of(&Trace::parse(bytes)?))
+}
+
+/// What the program `lists` prints for these bytes.
+pub fn list_text(bytes: &[u8]) -> String {
+    report::print_listing(&list_all(bytes))
 }
 
 /// Reads all of `input`, but keeps no more than the program `judge` keeps: one

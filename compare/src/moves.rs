@@ -1,16 +1,17 @@
 //! Compares traces with what they are moved to, and with those that differ from
-//! them in their notes only: the program `scribe` moves them, and the program
-//! `stream` judges them before and after.
+//! them in their notes or in their lists only: the program `scribe` moves them, and
+//! the program `stream` judges them before and after.
 
 use crate::cases::{self, Case};
 use crate::generate;
+use crate::list_traces;
 use crate::moving;
 use crate::notes;
 use crate::process::{self, behind_length, kept};
 use crate::random::Random;
 use crate::report::{self, Finding, Verdict};
 use crate::scribes::{self, Item, Program, Reply, Way, AMPLE};
-use crate::trace::{self, Edition, Operation, Refusal, Trace};
+use crate::trace::{self, Edition, Operation, Refusal, Sort, Trace};
 use crate::weave::{self, Judged};
 use crate::workers::{self, add_each, must, Difference, Extent, Tally};
 use crate::writing::{first_serial, print};
@@ -59,6 +60,15 @@ pub struct Moved {
     pub bytes: Vec<u8>,
 }
 
+/// What becomes of a trace that is to go to the other edition.
+enum Fate {
+    Moved(Moved),
+    /// It is read, but has lists, and edition 1 has none.
+    Stays(Trace, Refusal),
+    /// It is refused when it is read.
+    Refused(Refusal),
+}
+
 impl Subject {
     /// A known case, or a random trace. Each number has its own random stream,
     /// so that a run is the same whatever the number of threads.
@@ -81,55 +91,81 @@ impl Subject {
     }
 
     /// Moves it to the other edition, and checks what has to hold of that.
-    fn moved(&self) -> Result<Result<Moved, Refusal>, Box<Difference>> {
+    fn fate(&self) -> Result<Fate, Box<Difference>> {
         let before = match Trace::parse(&self.bytes) {
             Ok(before) => before,
-            Err(refusal) => return Ok(Err(refusal)),
+            Err(refusal) => return Ok(Fate::Refused(refusal)),
         };
         let wanted = moving::other(before.edition);
         let reply = Way::to(wanted).answer(&self.bytes, usize::MAX);
-        // A refusal, printed, is no trace.
-        let bytes = print(&reply.written);
-        let checked = moving::check(wanted, &self.bytes, &before, &bytes).and_then(|after| {
-            if let Some(notes) = reply.notes {
-                moving::check_notes(&self.bytes, &before, &bytes, notes)?;
-            }
-            Ok(after)
-        });
-        match checked {
-            Ok(after) => Ok(Ok(Moved {
-                before,
-                after,
-                bytes,
-            })),
-            Err(message) => Err(self.differs(
-                "",
-                [
-                    ("the check in Rust", message + "\n"),
-                    ("the Rust mover", scribes::show(&bytes, 0)),
-                ],
-            )),
+        let shown = scribes::show(&print(&reply.written), 0);
+        let wrong = |message: String| {
+            let answers = [
+                ("the check in Rust", message + "\n"),
+                ("the Rust mover", shown),
+            ];
+            self.differs("", answers)
+        };
+        match reply.written {
+            Ok(bytes) => match self.check_move(wanted, &before, &bytes, reply.notes) {
+                Ok(after) => Ok(Fate::Moved(Moved {
+                    before,
+                    after,
+                    bytes,
+                })),
+                Err(message) => Err(wrong(message)),
+            },
+            Err(refusal) => match moving::check_stayed(wanted, &self.bytes, &before, &refusal) {
+                Ok(()) => Ok(Fate::Stays(before, refusal)),
+                Err(message) => Err(wrong(message)),
+            },
         }
     }
 
-    /// The traces that differ from it in their notes only: with other texts,
-    /// where there are any that a reader comes to, and without, where it is read.
-    fn variants(&self, moved: &Result<Moved, Refusal>) -> Vec<Variant> {
+    /// What has to hold of the bytes that it is moved to, and of the number of notes.
+    fn check_move(
+        &self,
+        wanted: Edition,
+        before: &Trace,
+        moved: &[u8],
+        notes: Option<u16>,
+    ) -> Result<Trace, String> {
+        let after = moving::check(wanted, &self.bytes, before, moved)?;
+        if let Some(notes) = notes {
+            moving::check_notes(&self.bytes, before, moved, notes)?;
+        }
+        Ok(after)
+    }
+
+    /// The traces that differ from it in their notes only, with other texts, where
+    /// there are any that a reader comes to, and without, where it is read; and the
+    /// one without its lists.
+    fn variants(&self, fate: &Fate) -> Vec<Variant> {
         let mut random = Random::new(self.drawn, 0);
         let mut variants = Vec::new();
-        let texts = notes::texts(&self.bytes, moved.as_ref().err());
+        let refusal = match fate {
+            Fate::Refused(refusal) => Some(refusal),
+            Fate::Moved(_) | Fate::Stays(..) => None,
+        };
+        let texts = notes::texts(&self.bytes, refusal);
         if !texts.is_empty() {
             variants.push(Variant {
                 change: Change::OtherTexts,
                 bytes: notes::with_other_texts(&mut random, &self.bytes, &texts),
             });
         }
-        if moved.is_ok() && trace::has_notes(&self.bytes) {
+        if refusal.is_none() && trace::has_notes(&self.bytes) {
             // The first serial is free.
             let serials = [first_serial(&self.bytes), random.draw() as u32];
             variants.push(Variant {
                 change: Change::LeftOut,
                 bytes: notes::left_out(&self.bytes, *random.pick(&serials)),
+            });
+        }
+        if let Fate::Stays(..) = fate {
+            variants.push(Variant {
+                change: Change::ListsLeftOut,
+                bytes: list_traces::left_out(&self.bytes),
             });
         }
         variants
@@ -145,11 +181,12 @@ impl Subject {
     }
 }
 
-/// How a trace differs from another in its notes only.
+/// How a trace differs from another in its notes only, or in its lists only.
 #[derive(Clone, Copy)]
 enum Change {
     OtherTexts,
     LeftOut,
+    ListsLeftOut,
 }
 
 impl Change {
@@ -157,11 +194,12 @@ impl Change {
         match self {
             Change::OtherTexts => "with other texts in its notes",
             Change::LeftOut => "without its notes",
+            Change::ListsLeftOut => "without its lists",
         }
     }
 }
 
-/// A trace that differs from another in its notes only.
+/// A trace that differs from another so.
 struct Variant {
     change: Change,
     bytes: Vec<u8>,
@@ -170,7 +208,8 @@ struct Variant {
 impl Variant {
     /// What moving it to edition 2 has to answer, given the answer for the trace
     /// that it differs from: of other texts nothing may be seen, and of notes left
-    /// out only that there are none, and where the serials begin.
+    /// out only that there are none, and where the serials begin. What has lists is of
+    /// edition 2 already, with them or without.
     fn reply(&self, of_trace: Reply) -> Reply {
         match self.change {
             Change::OtherTexts => of_trace,
@@ -179,6 +218,7 @@ impl Variant {
                 let renumber = |moved: Vec<u8>| notes::left_out(&moved, serial);
                 Reply::to_edition_2(of_trace.written.map(|moved| (renumber(moved), 0)))
             }
+            Change::ListsLeftOut => Reply::to_edition_2(Ok((self.bytes.clone(), 0))),
         }
     }
 }
@@ -186,25 +226,25 @@ impl Variant {
 /// A trace with all that is asked about it.
 struct Asked<'a> {
     subject: &'a Subject,
-    moved: Result<Moved, Refusal>,
+    fate: Fate,
     variants: Vec<Variant>,
 }
 
 impl<'a> Asked<'a> {
     /// With what the independent mover makes of it, which is checked.
     fn of(subject: &'a Subject) -> Result<Asked<'a>, Box<Difference>> {
-        let moved = subject.moved()?;
-        let variants = subject.variants(&moved);
+        let fate = subject.fate()?;
+        let variants = subject.variants(&fate);
         let asked = Asked {
             subject,
-            moved,
+            fate,
             variants,
         };
         asked.check_replies()?;
         Ok(asked)
     }
 
-    /// The independent mover answers alike whatever is in the notes.
+    /// The independent mover answers alike whatever is in the notes and the lists.
     fn check_replies(&self) -> Result<(), Box<Difference>> {
         let reply = |bytes: &[u8]| Way::ToEdition2.answer(bytes, usize::MAX);
         for variant in &self.variants {
@@ -228,8 +268,8 @@ impl<'a> Asked<'a> {
         Ok(())
     }
 
-    /// What is asked of the mover: both editions of the trace, the way back, and
-    /// edition 2 of the traces with other notes.
+    /// What is asked of the mover: both editions of the trace, the way back, edition 2
+    /// of the traces with other notes, and both of that without lists.
     fn items(&self) -> Vec<Item> {
         let item = |what: &str, wanted, bytes: &[u8]| Item {
             name: format!("{}{what}", self.subject.name),
@@ -239,20 +279,26 @@ impl<'a> Asked<'a> {
         };
         let here = |wanted| item("", wanted, &self.subject.bytes);
         let mut items = vec![here(Edition::One), here(Edition::Two)];
-        if let Ok(moved) = &self.moved {
+        if let Fate::Moved(moved) = &self.fate {
             items.push(item(", moved", moved.before.edition, &moved.bytes));
         }
         for Variant { change, bytes } in &self.variants {
             let what = format!(", {}", change.describe());
             items.push(item(&what, Edition::Two, bytes));
+            if let Change::ListsLeftOut = change {
+                items.push(item(&what, Edition::One, bytes));
+            }
         }
         items
     }
 
     /// What is asked of the judge: the trace, the moved one, and those with other
-    /// notes.
+    /// notes or without lists.
     fn traces(&self) -> impl Iterator<Item = &[u8]> {
-        let moved = self.moved.as_ref().ok().map(|moved| &moved.bytes);
+        let moved = match &self.fate {
+            Fate::Moved(moved) => Some(&moved.bytes),
+            Fate::Stays(..) | Fate::Refused(_) => None,
+        };
         let variants = self.variants.iter().map(|variant| &variant.bytes);
         [&self.subject.bytes]
             .into_iter()
@@ -270,10 +316,13 @@ impl<'a> Asked<'a> {
     ) -> Result<(), Box<Difference>> {
         let mut next = || texts.next().unwrap_or_default();
         let before = next();
-        match &self.moved {
-            Ok(moved) => self.check_moved(moved, &before, next(), tally)?,
-            Err(refusal) => self.check_refused(refusal, &before, tally)?,
+        match &self.fate {
+            Fate::Moved(moved) => self.check_moved(moved, &before, next(), tally)?,
+            // What is judged is compared below with what is without the lists.
+            Fate::Stays(_, refusal) => tally.refused[usize::from(refusal.number)] += 1,
+            Fate::Refused(refusal) => self.check_refused(refusal, &before, tally)?,
         }
+        tally.with_lists += usize::from(trace::has_list_records(&self.subject.bytes));
         for variant in &self.variants {
             self.check_variant(variant, &before, next(), tally)?;
         }
@@ -320,7 +369,8 @@ impl<'a> Asked<'a> {
         Err(self.subject.differs(": refused otherwise", answers))
     }
 
-    /// A trace that differs in its notes only is judged, or refused, just so.
+    /// A trace that differs in its notes only is judged, or refused, just so, and one
+    /// without its lists is but for operation numbers.
     fn check_variant(
         &self,
         variant: &Variant,
@@ -328,8 +378,12 @@ impl<'a> Asked<'a> {
         text: String,
         tally: &mut Outcomes,
     ) -> Result<(), Box<Difference>> {
-        if text == before {
-            tally.count_variant(variant, &self.subject.bytes, &self.moved);
+        let is_alike = match &self.fate {
+            Fate::Stays(trace, _) => is_judged_alike(trace, &variant.bytes, before, &text),
+            Fate::Moved(_) | Fate::Refused(_) => text == before,
+        };
+        if is_alike {
+            tally.count_variant(variant, &self.subject.bytes, &self.fate);
             return Ok(());
         }
         let answers = [
@@ -352,6 +406,20 @@ impl<'a> Asked<'a> {
             ..*difference
         })
     }
+}
+
+/// Whether both texts are verdicts of a trace with lists and of the same without, and
+/// differ in operation numbers only.
+fn is_judged_alike(trace: &Trace, without: &[u8], before: &str, after: &str) -> bool {
+    let Ok(read) = Trace::parse(without) else {
+        return false;
+    };
+    let pair = Moved {
+        before: trace.clone(),
+        after: read,
+        bytes: without.to_vec(),
+    };
+    check_judged(&pair, before, after).is_ok()
 }
 
 /// Puts the traces through one run of each program, and compares.
@@ -428,9 +496,10 @@ pub fn check_judged(moved: &Moved, before: &str, after: &str) -> Result<Findings
     Ok(findings)
 }
 
-/// The number after the move of each operation, by its number before it: the k-th
-/// of a transaction stays its k-th. In place of 0, which is no operation, stands 0.
-/// The two traces have the same transactions with the same operations.
+/// The number after the move of each operation on a single value, by its number before
+/// it: the k-th of a transaction stays its k-th. In place of 0, which is no operation,
+/// and of those on lists stands 0. The two traces have the same transactions with the
+/// same operations on single values.
 fn renumbered(before: &Trace, after: &Trace) -> Vec<u16> {
     let mut numbers = vec![0; before.operations.len() + 1];
     for (before, after) in by_transaction(before).zip(by_transaction(after)) {
@@ -439,9 +508,10 @@ fn renumbered(before: &Trace, after: &Trace) -> Vec<u16> {
     numbers
 }
 
-/// The numbers of the operations, transaction by transaction.
+/// The numbers of the operations on single values, transaction by transaction.
 fn by_transaction(trace: &Trace) -> impl Iterator<Item = u16> {
     let mut numbers: Vec<u16> = (1..).take(trace.operations.len()).collect();
+    numbers.retain(|&number| trace.operation(number).action.sort() == Sort::Single);
     // Stable: those of one transaction stay in their order.
     numbers.sort_by_key(|&number| trace.operation(number).transaction);
     numbers.into_iter()
@@ -508,13 +578,15 @@ impl Renumbering<'_> {
         let same_read = read == find(self.after, new.operation);
         let same_write = write == find(self.after, new.write);
         must(same_read && same_write, "a finding of other operations")?;
-        let is_own = |read: &Operation| !read.is_write && read.transaction == old.transaction;
+        let is_own =
+            |read: &Operation| read.action.read().is_some() && read.transaction == old.transaction;
         must(
             read.is_some_and(is_own),
             "a finding of no read of its transaction",
         )?;
         let has_value = write.zip(read).is_none_or(|(write, read)| {
-            write.is_write && (write.key, write.value) == (read.key, read.value)
+            let written = write.action.written();
+            written.is_some() && (write.key, written) == (read.key, read.action.read())
         });
         must(has_value, "the write of another value")
     }
@@ -543,6 +615,9 @@ struct Outcomes {
     /// Traces that were read, also with other texts in their notes, and without.
     other_texts: usize,
     left_out: usize,
+    /// Traces with lists, refused ones too, and those that were read, also without.
+    with_lists: usize,
+    lists_left_out: usize,
     /// Traces that were refused, also with other texts in their notes, and those
     /// of them whose refused record is such a note.
     refused_other_texts: [usize; Refusal::NUMBERS],
@@ -560,6 +635,8 @@ impl Tally for Outcomes {
         add_each(&mut self.refused, &other.refused);
         self.other_texts += other.other_texts;
         self.left_out += other.left_out;
+        self.with_lists += other.with_lists;
+        self.lists_left_out += other.lists_left_out;
         add_each(&mut self.refused_other_texts, &other.refused_other_texts);
         add_each(&mut self.refused_notes, &other.refused_notes);
     }
@@ -580,11 +657,12 @@ impl Outcomes {
         self.findings[findings as usize] += 1;
     }
 
-    fn count_variant(&mut self, variant: &Variant, bytes: &[u8], moved: &Result<Moved, Refusal>) {
-        match (variant.change, moved) {
-            (Change::OtherTexts, Ok(_)) => self.other_texts += 1,
+    fn count_variant(&mut self, variant: &Variant, bytes: &[u8], fate: &Fate) {
+        match (variant.change, fate) {
             (Change::LeftOut, _) => self.left_out += 1,
-            (Change::OtherTexts, Err(refusal)) => {
+            (Change::ListsLeftOut, _) => self.lists_left_out += 1,
+            (Change::OtherTexts, Fate::Moved(_) | Fate::Stays(..)) => self.other_texts += 1,
+            (Change::OtherTexts, Fate::Refused(refusal)) => {
                 let number = usize::from(refusal.number);
                 self.refused_other_texts[number] += 1;
                 let is_note = notes::is_refused_note(bytes, refusal);
@@ -594,12 +672,14 @@ impl Outcomes {
     }
 
     fn describe(&self, programs: &Programs, extent: &Extent) -> String {
-        let refused: usize = self.refused.iter().sum();
+        // Number 20 is given to traces that are read.
+        let stayed = self.refused[20];
+        let refused = self.refused.iter().sum::<usize>() - stayed;
         let [of_1, of_2] = self.moved;
         let [none, same, renumbered, reordered] = self.findings;
         let mut lines = vec![format!(
             "{} traces of seed {}, moved by '{}' and in Rust, judged by '{}'",
-            of_1 + of_2 + refused,
+            of_1 + of_2 + stayed + refused,
             extent.seed,
             programs.scribe.command(),
             programs.stream
@@ -618,11 +698,14 @@ impl Outcomes {
             ("findings, numbers changed", renumbered + reordered),
             ("  and so their order", reordered),
             ("refused", refused),
+            ("with lists", self.with_lists),
+            ("  read, not moved to 1", stayed),
+            ("    also without lists", self.lists_left_out),
         ] {
             lines.push(format!("  {name:<28}{count:>8}"));
         }
         lines.push("refusals; also with other texts in notes; of these, at such a note:".into());
-        for number in 2..=11 {
+        for number in (2..=11).chain([17, 20]) {
             let counts = [
                 self.refused[number],
                 self.refused_other_texts[number],

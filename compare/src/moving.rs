@@ -3,10 +3,12 @@
 //! Both ways keep the first serial, which may be a note's, and leave out notes;
 //! the way to edition 2 answers how many there were. A moved trace always is
 //! short enough to be read: 127 transactions with 1,024 operations take 25,215
-//! bytes in edition 2.
+//! bytes in edition 2. Lists are of edition 2 alone: a trace that has them does not
+//! go back.
 
 use crate::encode::Writer;
-use crate::trace::{self, Edition, Refusal, Trace, CLOSE, NOTE, OPEN, READ, WRITE};
+use crate::trace::{self, Action, Edition, Refusal, Trace};
+use crate::trace::{APPEND, CLOSE, LIST_READ, NOTE, OPEN, READ, WRITE};
 use crate::weave;
 use crate::workers::must;
 use crate::writing::{first_serial, fit};
@@ -15,6 +17,10 @@ use crate::writing::{first_serial, fit};
 /// edition already is copied whole, notes too.
 pub fn to_edition_1(bytes: &[u8], room: usize) -> Result<Vec<u8>, Refusal> {
     let trace = Trace::parse(bytes)?;
+    if let Some(place) = trace::first_list_record(bytes) {
+        let number = 20;
+        return Err(Refusal { number, place });
+    }
     let moved = match trace.edition {
         Edition::One => bytes.to_vec(),
         Edition::Two => in_blocks(&trace, first_serial(bytes)),
@@ -63,17 +69,18 @@ fn with_sessions(bytes: &[u8]) -> (Vec<u8>, u16) {
     (writer.bytes, notes)
 }
 
-/// Transaction by transaction: they are numbered in order of opening.
+/// Transaction by transaction: they are numbered in order of opening. The trace has
+/// no lists.
 fn in_blocks(trace: &Trace, first_serial: u32) -> Vec<u8> {
     let mut writer = Writer::new(first_serial);
     for (number, transaction) in (1..).zip(&trace.transactions) {
         writer.open(transaction.session);
-        for operation in &trace.operations {
-            let (key, value) = (operation.key, operation.value);
-            match operation.is_write {
-                _ if operation.transaction != number => {}
-                true => writer.write(key, value),
-                false => writer.read(key, value),
+        let own = trace.operations.iter().filter(|o| o.transaction == number);
+        for operation in own {
+            match operation.action {
+                Action::Read(value) => writer.read(operation.key, value),
+                Action::Write(value) => writer.write(operation.key, value),
+                Action::Append(_) | Action::ReadList(_) => unreachable!("refused before"),
             }
         }
         writer.close(transaction.status as u8);
@@ -117,6 +124,29 @@ pub fn check(wanted: Edition, bytes: &[u8], trace: &Trace, moved: &[u8]) -> Resu
         must(back.as_deref() == Ok(bytes), "does not come back as it was")?;
     }
     Ok(after)
+}
+
+/// What has to hold of the refusal of a trace that is read and not moved: it was to go
+/// to edition 1, and at the place there is a record of lists, and none before it.
+pub fn check_stayed(
+    wanted: Edition,
+    bytes: &[u8],
+    trace: &Trace,
+    refusal: &Refusal,
+) -> Result<(), String> {
+    let is_list = |record: trace::Record| matches!(record.kind, APPEND | LIST_READ);
+    let holds = bytes
+        .split_at_checked(refusal.place)
+        .is_some_and(|(before, there)| {
+            let size: usize = trace::records(before).map(|record| record.size()).sum();
+            size == refusal.place
+                && !trace::records(before).any(is_list)
+                && trace::records(there).next().is_some_and(is_list)
+        });
+    must(
+        wanted == Edition::One && trace.has_lists() && refusal.number == 20 && holds,
+        &format!("read, but {refusal:?}"),
+    )
 }
 
 /// What has to hold of the number that the move to edition 2 answers, given that

@@ -214,11 +214,7 @@ fn many() -> Vec<NoteCase> {
 /// fit beside them.
 fn beside_all_others() -> NoteCase {
     const FIT: u16 = 1_233;
-    let write = |value: u64| Access {
-        is_write: true,
-        key: 1,
-        value,
-    };
+    let write = |value: u64| Access::write(1, value);
     let wholes: Vec<Whole> = (1..=MAX_TRANSACTIONS as u64)
         .map(|number| Whole {
             session: number as u16,

@@ -334,16 +334,11 @@ pub fn sessions() -> Vec<Case> {
 /// As many transactions as there can be, each in its own session; each writes
 /// its number, and reads it.
 fn writers_and_readers(session: impl Fn(u16) -> u16) -> Vec<Whole> {
-    let access = |is_write, t: u16| Access {
-        is_write,
-        key: 1,
-        value: t.into(),
-    };
     (1..=MAX_TRANSACTIONS as u16)
         .map(|t| Whole {
             session: session(t),
             status: Status::Committed,
-            operations: vec![access(true, t), access(false, t)],
+            operations: vec![Access::write(1, t.into()), Access::read(1, t.into())],
         })
         .collect()
 }
@@ -437,11 +432,7 @@ fn full_in_turn() -> Vec<u8> {
     for (t, whole) in (1..).zip(&mut wholes) {
         let share = MAX_OPERATIONS / MAX_TRANSACTIONS;
         let extra = usize::from(t <= MAX_OPERATIONS % MAX_TRANSACTIONS);
-        let write = |value| Access {
-            is_write: true,
-            key: t as u32,
-            value,
-        };
+        let write = |value| Access::write(t as u32, value);
         whole.operations = (1..=(share + extra) as u64).map(write).collect();
     }
     let turns = weave::in_turn(MAX_TRANSACTIONS);
@@ -598,7 +589,13 @@ pub fn the_edition_record() -> Vec<Case> {
 
 /// A trace that begins lawfully, then has a record as told, then goes on; it is
 /// refused at the record.
-fn after(name: &'static str, start: Writer, kind: u16, payload: &[u8], number: u8) -> Case {
+pub(crate) fn after(
+    name: &'static str,
+    start: Writer,
+    kind: u16,
+    payload: &[u8],
+    number: u8,
+) -> Case {
     let place = start.bytes.len();
     let mut writer = start;
     writer.record(kind, payload);
@@ -607,7 +604,12 @@ fn after(name: &'static str, start: Writer, kind: u16, payload: &[u8], number: u
 }
 
 /// The same with another serial than the one that follows.
-fn after_unnumbered(name: &'static str, start: Writer, kind: u16, payload: &[u8]) -> Case {
+pub(crate) fn after_unnumbered(
+    name: &'static str,
+    start: Writer,
+    kind: u16,
+    payload: &[u8],
+) -> Case {
     let place = start.bytes.len();
     let mut case = after(name, start, kind, payload, 5);
     case.bytes[place + 4] ^= 1;
@@ -741,7 +743,7 @@ pub fn framing() -> Vec<Case> {
 }
 
 /// The payload of a read or a write in edition 2.
-fn operation(session: u16, key: u32, value: u64) -> Vec<u8> {
+pub(crate) fn operation(session: u16, key: u32, value: u64) -> Vec<u8> {
     let mut payload = session.to_le_bytes().to_vec();
     payload.extend(key.to_le_bytes());
     payload.extend(value.to_le_bytes());

@@ -1,5 +1,6 @@
 //! The answers of a judge, and their form in print.
 
+use crate::listing::Listing;
 use crate::trace::Refusal;
 use crate::Answer;
 use std::fmt::Write;
@@ -46,15 +47,20 @@ pub const START: u8 = 1;
 pub const SESSION: u8 = 2;
 pub const READ: u8 = 4;
 pub const RIVAL: u8 = 8;
+/// Of the dependencies of lists, which besides have [`READ`].
+pub const WRITE: u8 = 16;
 
-/// A read that is not clean. Kinds are the specification's numbers, 1 to 6.
+/// A read that is not clean. Kinds are the specification's numbers, 1 to 6, and 7 to 11
+/// for a list read.
 #[derive(Clone, Copy, Debug, PartialEq, Eq)]
 pub struct Finding {
     pub transaction: u8,
     pub kind: u8,
     pub operation: u16,
     /// The number of the write that has the read's key and value, or 0 if no
-    /// write has: for kind 1, and for kind 5 with value 0.
+    /// write has: for kind 1, and for kind 5 with value 0. Of a list read that of the
+    /// append of an element: of the first one at fault for 8 and 9, of the last one for
+    /// 10, or else 0.
     pub write: u16,
 }
 
@@ -74,7 +80,7 @@ impl Finding {
     }
 }
 
-/// A forced pair that lies on a cycle.
+/// A forced pair, or a dependency of lists, that lies on a cycle.
 #[derive(Clone, Copy, Debug, PartialEq, Eq)]
 pub struct Pair {
     pub first: u8,
@@ -120,7 +126,7 @@ impl Verdict {
 pub fn print(answer: &Answer) -> String {
     let mut out = String::new();
     match answer {
-        Err(Refusal { number, place }) => line(&mut out, format_args!("refused {number} {place}")),
+        Err(refusal) => print_refusal(&mut out, refusal),
         Ok(verdicts) => {
             for (level, verdict) in Level::ALL.iter().zip(verdicts) {
                 print_block(&mut out, level.name(), verdict);
@@ -128,6 +134,27 @@ pub fn print(answer: &Answer) -> String {
         }
     }
     out
+}
+
+/// What the program `lists` prints: the counts, the unclean list reads, and the pairs
+/// over write dependencies and over both sorts; or the refusal alone.
+pub fn print_listing(answer: &Result<Listing, Refusal>) -> String {
+    let mut out = String::new();
+    match answer {
+        Err(refusal) => print_refusal(&mut out, refusal),
+        Ok(listing) => {
+            let [found, writes, both] = listing.counts();
+            line(&mut out, format_args!("lists {found} {writes} {both}"));
+            print_findings(&mut out, &listing.findings);
+            print_pairs(&mut out, "write", &listing.over_writes);
+            print_pairs(&mut out, "both", &listing.over_both);
+        }
+    }
+    out
+}
+
+fn print_refusal(out: &mut String, Refusal { number, place }: &Refusal) {
+    line(out, format_args!("refused {number} {place}"));
 }
 
 fn print_block(out: &mut String, level: &str, verdict: &Verdict) {
@@ -151,13 +178,22 @@ pub fn places(order: &[u8]) -> String {
 
 /// The lists of a rejection: a line a finding, then a line a pair.
 pub fn print_lists(out: &mut String, findings: &[Finding], pairs: &[Pair]) {
+    print_findings(out, findings);
+    print_pairs(out, "pair", pairs);
+}
+
+fn print_findings(out: &mut String, findings: &[Finding]) {
     for f in findings {
         let (t, op, kind, write) = (f.transaction, f.operation, f.kind, f.write);
         line(out, format_args!("read {t} {op} {kind} {write}"));
     }
+}
+
+/// A line a pair, which begins with this word.
+fn print_pairs(out: &mut String, word: &str, pairs: &[Pair]) {
     for p in pairs {
         let (a, b, reasons) = (p.first, p.second, p.reasons);
-        line(out, format_args!("pair {a} {b} {reasons}"));
+        line(out, format_args!("{word} {a} {b} {reasons}"));
     }
 }
 

@@ -11,7 +11,7 @@ use crate::random::Random;
 use crate::sequence_cases;
 use crate::sequences::{self, Origin};
 use crate::trace::{
-    self, Edition, Operation, Refusal, Status, Trace, Transaction, CLOSE, MAX_OPERATIONS,
+    self, Action, Edition, Operation, Refusal, Status, Trace, Transaction, CLOSE, MAX_OPERATIONS,
     MAX_TRANSACTIONS, OPEN, WRITE,
 };
 use crate::workers::{self, add_each, alike, must, show_bytes, Difference, Extent, Tally};
@@ -56,7 +56,8 @@ impl Program {
         }
     }
 
-    /// The refusals that it can give this way: 16 needs a room of choice.
+    /// The refusals that it can give this way: 16 needs a room of choice, and 17 and 20
+    /// need lists.
     fn refusals(&self, way: Way) -> Vec<usize> {
         let mut numbers: Vec<usize> = match way {
             Way::Steps => vec![3, 6, 7, 8, 9, 10],
@@ -65,6 +66,8 @@ impl Program {
         if let Program::Scribe(_) = self {
             numbers.push(16);
         }
+        numbers.extend((way != Way::Steps).then_some(17));
+        numbers.extend((way == Way::ToEdition1).then_some(20));
         numbers
     }
 
@@ -412,6 +415,7 @@ impl Source {
             return subjects;
         }
         if let Some(case) = self.traces.get(number - self.sequences.len()) {
+            tally.with_lists += usize::from(trace::has_list_records(&case.bytes));
             let name = format!("case '{}'", case.name);
             let rooms = || Rooms::Telling;
             let mut subjects = of_trace(&name, &case.bytes, rooms);
@@ -433,6 +437,7 @@ impl Source {
         }
         let mut random = Random::new(self.seed, number as u64);
         let (_, trace) = generate::any(&mut random);
+        tally.with_lists += usize::from(trace::has_list_records(&trace));
         let (origin, input) = sequences::any(&mut random);
         tally.origins[origin as usize] += 1;
         let mut rooms = || Rooms::Drawn(random.draw());
@@ -668,9 +673,11 @@ fn meant(steps: &[Step]) -> (Vec<Transaction>, Vec<Operation>) {
             }
             kind => operations.push(Operation {
                 transaction: transactions.len() as u8,
-                is_write: kind == WRITE,
                 key: step.key,
-                value: step.value,
+                action: match kind {
+                    WRITE => Action::Write(step.value),
+                    _ => Action::Read(step.value),
+                },
             }),
         }
     }
@@ -734,8 +741,8 @@ fn check_refused(by_reader: Refusal, full: &Result<Vec<u8>, Refusal>) -> Result<
     }
 }
 
-/// A trace that is read comes out in the wanted edition as it has to; one that
-/// is refused is refused here too.
+/// A trace that is read comes out in the wanted edition as it has to, or stays where
+/// its lists are; one that is refused is refused here too.
 fn check_move(
     wanted: Edition,
     bytes: &[u8],
@@ -744,7 +751,10 @@ fn check_move(
 ) -> Result<(), String> {
     let (trace, moved) = match (Trace::parse(bytes), &full.written) {
         (Err(by_reader), full) => return check_refused(by_reader, full),
-        (Ok(_), Err(refusal)) => return Err(format!("read, but {refusal:?}")),
+        (Ok(trace), Err(refusal)) => {
+            tally.stayed += 1;
+            return moving::check_stayed(wanted, bytes, &trace, refusal);
+        }
         (Ok(trace), Ok(moved)) => (trace, moved),
     };
     moving::check(wanted, bytes, &trace, moved)?;
@@ -784,6 +794,9 @@ struct Outcomes {
     moved_to_1: usize,
     moved_to_2: usize,
     copied: usize,
+    /// Traces with lists, and those that did not go to edition 1 for them.
+    with_lists: usize,
+    stayed: usize,
     /// What the move to edition 2 told.
     notes: Notes,
     /// Sequences written that wrap, or that reach limits.
@@ -839,6 +852,8 @@ impl Tally for Outcomes {
         self.moved_to_1 += other.moved_to_1;
         self.moved_to_2 += other.moved_to_2;
         self.copied += other.copied;
+        self.with_lists += other.with_lists;
+        self.stayed += other.stayed;
         self.notes.add(&other.notes);
         self.wrapped += other.wrapped;
         self.full_transactions += other.full_transactions;
@@ -944,6 +959,8 @@ impl Outcomes {
             ("  the most notes of a trace", self.notes.most.into()),
             ("items with notes, refused 16", self.notes.untold),
             ("of the wanted edition", self.copied),
+            ("traces with lists", self.with_lists),
+            ("  not moved to edition 1", self.stayed),
         ] {
             lines.push(format!("  {name:<28}{count:>8}"));
         }

@@ -379,6 +379,8 @@ fn kinds_and_rests() -> Vec<SequenceCase> {
         7,
         8,
         16,
+        23,
+        24,
         255,
         256,
         257,

@@ -309,7 +309,21 @@ fn any_step(random: &mut Random, palette: &Palette) -> Step {
 fn bad_kind(random: &mut Random) -> u16 {
     match random.below(3) {
         0 => *random.pick(&[0, 5, 6, 7]),
-        1 => *random.pick(&[8, 16, 255, 256, 257, 258, 259, 260, 513, 32_770, u16::MAX]),
+        1 => *random.pick(&[
+            8,
+            16,
+            23,
+            24,
+            255,
+            256,
+            257,
+            258,
+            259,
+            260,
+            513,
+            32_770,
+            u16::MAX,
+        ]),
         _ => random.draw() as u16 | 8,
     }
 }

@@ -12,10 +12,17 @@
 //! edition 2; T1 w1=5 ..; T2 r1=5; T1 .. w2=6 aborted
 //! ```
 //!
+//! and lists are appended to and read:
+//!
+//! ```text
+//! edition 2; T1 a1=5; T2 l1=5 a1=6; T3 l1=5,6 l2=
+//! ```
+//!
 //! See [`GRAMMAR`] for the whole of it.
 
 use crate::encode::Writer;
-use crate::trace::{self, Edition, Operation, Record, Refusal, Status, Trace};
+use crate::trace::{self, Action, Edition, Operation, Record, Refusal, Sort, Status, Trace};
+use crate::weave::Access;
 use crate::writing::{self, Step};
 use std::collections::{HashMap, HashSet};
 use std::fmt;
@@ -31,18 +38,21 @@ pub const GRAMMAR: &str = r#"Items, parted by ';' or by line ends:
       sN            its session; default: one that no other transaction has,
                     its own number or, where that is taken, the next free one
       rK=V  wK=V    reads and writes of key K, value V, in any number
-      note "text"   a note, anywhere among the reads and writes
+      aK=V          in edition 2: an append of value V to the list of key K
+      lK=V,V..      in edition 2: a read of the list of key K; lK= is the empty one
+      note "text"   a note, anywhere among the operations
       committed, aborted, unanswered or status N     default: committed
       ..            in place of these, in edition 2: it stays open
   T1 .. ...         in edition 2: T1, which stayed open, goes on. Then may follow
-                    reads and writes, and how it ends or '..', as above
+                    operations, and how it ends or '..', as above
   note "text"       a note between transactions
   end N             an end record with this number; only as the last item;
                     default: the number of transactions
 In a note's text, \" is a quote, \\ a backslash, \xNN the byte with the
-hexadecimal number NN. A value 0 written, a status above 2, a wrong end number
-or a note of more than 64 bytes is encoded as it stands, to be refused; so are
-another edition than 2, and in edition 2 a note, a transaction that is never
+hexadecimal number NN. A value 0 written or appended, a list of more than 32
+values, a key that has single values and lists, a status above 2, a wrong end
+number or a note of more than 64 bytes is encoded as it stands, to be refused; so
+are another edition than 2, and in edition 2 a note, a transaction that is never
 closed, and one in a session that has another open. Steps have no notes, no end
 record and no edition: a text with 'note', 'end' or 'edition' has no steps.
 
@@ -50,6 +60,8 @@ Example, case 16:  T1 w1=11 w2=21; T2 w1=12 w2=22; T3 r1=12 r2=21
 An unanswered commit that counts:  T1 w1=5 unanswered; T2 r1=5
 T2 opens and reads while T1 is open, T1 writes and commits, T2 reads and aborts:
   edition 2; T1 w1=5 ..; T2 r1=5 ..; T1 .. w2=6; T2 .. r2=6 aborted
+T1 and T2 append to the list of key 1, and T3 reads it:
+  edition 2; T1 a1=5; T2 a1=6; T3 l1=5,6
 "#;
 
 /// What is wrong with a text, and where: line and byte of the line, from 1.
@@ -138,6 +150,7 @@ pub fn decode(bytes: &[u8]) -> Result<String, Refusal> {
     let trace = Trace::parse(bytes)?;
     let mut decoder = Decoder {
         trace: &trace,
+        operations: trace.operations.iter(),
         out: String::new(),
         opened: 0,
         open: HashMap::new(),
@@ -155,10 +168,12 @@ pub fn decode(bytes: &[u8]) -> Result<String, Refusal> {
 /// A trace as far as it has been put into text.
 struct Decoder<'a> {
     trace: &'a Trace,
+    /// Those that are still to come.
+    operations: std::slice::Iter<'a, Operation>,
     out: String,
     opened: u16,
-    /// The numbers of the open transactions, by what their records have before
-    /// the other fields: their session in edition 2, nothing in edition 1.
+    /// The numbers of the open transactions, by what their closes have before the
+    /// status: their session in edition 2, nothing in edition 1.
     open: HashMap<Vec<u8>, u16>,
     /// The transaction whose line has not ended.
     line: Option<u16>,
@@ -177,12 +192,10 @@ impl Decoder<'_> {
                 self.begin_line(self.opened);
                 self.session(u16::from_le_bytes([payload[0], payload[1]]));
             }
-            trace::READ | trace::WRITE => {
-                let (session, fields) = payload.split_at(session_size);
-                self.go_on(self.open[session]);
-                let letter = if record.kind == trace::READ { 'r' } else { 'w' };
-                let (key, value) = trace::key_and_value(fields);
-                self.out.push_str(&format!(" {letter}{key}={value}"));
+            trace::READ | trace::WRITE | trace::APPEND | trace::LIST_READ => {
+                let operation = self.operations.next().expect("one for each such record");
+                self.go_on(operation.transaction.into());
+                self.out.push_str(&format!(" {}", notation(operation)));
             }
             trace::CLOSE => {
                 let (session, fields) = payload.split_at(session_size);
@@ -239,16 +252,29 @@ pub fn operations(bytes: &[u8]) -> Result<String, Refusal> {
     let trace = Trace::parse(bytes)?;
     let line = |(index, operation): (usize, &Operation)| {
         let (number, t) = (index + 1, operation.transaction);
-        let letter = if operation.is_write { 'w' } else { 'r' };
-        let (key, value) = (operation.key, operation.value);
+        let done = notation(operation);
         let end = match trace.transactions[usize::from(t) - 1].status {
             Status::Committed => "",
             Status::Aborted => " aborted",
             Status::Unanswered => " unanswered",
         };
-        format!("{number} T{t} {letter}{key}={value}{end}\n")
+        format!("{number} T{t} {done}{end}\n")
     };
     Ok(trace.operations.iter().enumerate().map(line).collect())
+}
+
+/// An operation in the notation, whoever does it.
+fn notation(operation: &Operation) -> String {
+    let key = operation.key;
+    match &operation.action {
+        Action::Read(value) => format!("r{key}={value}"),
+        Action::Write(value) => format!("w{key}={value}"),
+        Action::Append(value) => format!("a{key}={value}"),
+        Action::ReadList(values) => {
+            let values: Vec<String> = values.iter().map(u64::to_string).collect();
+            format!("l{key}={}", values.join(","))
+        }
+    }
 }
 
 fn quote(text: &[u8]) -> String {
@@ -649,21 +675,44 @@ impl Encoder {
     fn operation(&mut self, index: usize, word: &str, at: Position) -> Result<(), TextError> {
         let wrong = || {
             at.error(format!(
-                "'{word}' is no r<key>=<value>, w<key>=<value>, note, committed, aborted, \
-                 unanswered or status"
+                "'{word}' is no r<key>=<value>, w<key>=<value>, a<key>=<value>, l<key>=<values>, \
+                 note, committed, aborted, unanswered or status"
             ))
         };
-        let is_write = word.starts_with('w');
-        let rest = word.strip_prefix(['r', 'w']).ok_or_else(wrong)?;
-        let (key, value) = rest.split_once('=').ok_or_else(wrong)?;
+        let rest = word.strip_prefix(['r', 'w', 'a', 'l']).ok_or_else(wrong)?;
+        let (key, said) = rest.split_once('=').ok_or_else(wrong)?;
         let key = number(key, at, "key", u32::MAX)?;
-        let value = number(value, at, "value", u64::MAX)?;
-        let session = self.session_of(index);
-        match is_write {
-            true => self.writer.write_in(session, key, value),
-            false => self.writer.read_in(session, key, value),
+        let action = match word.as_bytes()[0] {
+            b'r' => Action::Read(value(said, at)?),
+            b'w' => Action::Write(value(said, at)?),
+            b'a' => Action::Append(value(said, at)?),
+            _ => Action::ReadList(list(said, at)?),
+        };
+        if self.edition == Edition::One && action.sort() == Sort::List {
+            return Err(at.error(format!("'{word}' is for edition 2: edition 1 has no lists")));
         }
+        let session = self.session_of(index);
+        Access { key, action }.put(&mut self.writer, session);
         Ok(())
+    }
+}
+
+fn value(word: &str, at: Position) -> Result<u64, TextError> {
+    number(word, at, "value", u64::MAX)
+}
+
+/// The values of a list, parted by commas.
+fn list(word: &str, at: Position) -> Result<Vec<u64>, TextError> {
+    // A length field counts to 65,535, 14 of them not the values'.
+    const MOST: usize = (65_535 - 14) / 8;
+    if word.is_empty() {
+        return Ok(vec![]);
+    }
+    let values: Result<Vec<u64>, _> = word.split(',').map(|word| value(word, at)).collect();
+    let values = values?;
+    match values.len() <= MOST {
+        true => Ok(values),
+        false => Err(at.error(format!("a list cannot have more than {MOST} values"))),
     }
 }
 
@@ -713,6 +762,46 @@ mod tests {
             let bytes = encode(text.as_bytes()).unwrap();
             assert_eq!(decode(&bytes).unwrap(), text);
         }
+    }
+
+    #[test]
+    fn the_text_of_lists_comes_back() {
+        for text in [
+            "edition 2\nT1 a1=5\nT2 l1=5 a1=6 aborted\nT3 l1=5,6 l2= w3=1 r3=1 unanswered\n",
+            "serial 7\nedition 2\nT1 s9 a4294967295=18446744073709551615 ..\nT2 l1= ..\n\
+             T1 .. l4294967295=18446744073709551615,0,7\nT2 ..\n",
+        ] {
+            let bytes = encode(text.as_bytes()).unwrap();
+            assert_eq!(decode(&bytes).unwrap(), text);
+        }
+    }
+
+    #[test]
+    fn random_traces_with_lists_come_back() {
+        let mut with_lists = 0;
+        for stream in 0..1_000 {
+            let (_, bytes) = crate::generate::any_with_lists(&mut Random::new(6, stream));
+            if let Ok(text) = decode(&bytes) {
+                assert_eq!(encode(text.as_bytes()), Ok(bytes), "{text}");
+                with_lists += usize::from(text.contains(" l"));
+            }
+        }
+        assert!(with_lists > 300, "{with_lists}");
+    }
+
+    #[test]
+    fn lists_are_of_edition_2() {
+        assert_eq!(
+            error_of("T1 w1=5 a2=5"),
+            "line 1, column 9: 'a2=5' is for edition 2: edition 1 has no lists"
+        );
+        assert_eq!(
+            error_of("T1 l2="),
+            "line 1, column 4: 'l2=' is for edition 2: edition 1 has no lists"
+        );
+        let error = steps(b"T1 a2=5").unwrap_err().to_string();
+        let expected = "line 1, column 4: 'a2=5' is for edition 2: edition 1 has no lists";
+        assert_eq!(error, expected);
     }
 
     #[test]
@@ -828,9 +917,16 @@ mod tests {
             ("edition 2; T1 ..; T1 .. status 3", 8),
             ("edition 2; T1; end 2", 8),
             ("edition 2; T1 w1=1 ..; T2 w1=1; T1 ..", 10),
+            ("edition 2; T1 a1=0", 8),
+            ("edition 2; T1 a1=1; T2 a1=1", 10),
+            ("edition 2; T1 a1=1; T2 r1=1", 17),
         ] {
             assert_eq!(number(text), refused, "{text}");
         }
+        let list = |count: usize| format!("edition 2; T1 l1={}", vec!["1"; count].join(","));
+        assert_eq!(number(&list(33)), 8);
+        assert_eq!(number(&list(4_093)), 2);
+        assert!(decode(&encode(list(32).as_bytes()).unwrap()).is_ok());
     }
 
     #[test]
@@ -846,8 +942,8 @@ mod tests {
         );
         assert_eq!(
             error_of("T1 answered"),
-            "line 1, column 4: 'answered' is no r<key>=<value>, w<key>=<value>, note, committed, \
-             aborted, unanswered or status"
+            "line 1, column 4: 'answered' is no r<key>=<value>, w<key>=<value>, a<key>=<value>, \
+             l<key>=<values>, note, committed, aborted, unanswered or status"
         );
     }
 
@@ -956,6 +1052,19 @@ mod tests {
         assert_eq!(
             error_of("edition 2; T1 .. aborted"),
             "line 1, column 18: 'aborted' is not expected here"
+        );
+        assert_eq!(
+            error_of("edition 2; T1 a1=5,6"),
+            "line 1, column 15: '5,6' is not a number from 0 to 18446744073709551615: value"
+        );
+        assert_eq!(
+            error_of("edition 2; T1 l1=5,"),
+            "line 1, column 15: '' is not a number from 0 to 18446744073709551615: value"
+        );
+        let long = format!("edition 2; T1 l1=1{}", ",1".repeat(8_190));
+        assert_eq!(
+            error_of(&long),
+            "line 1, column 15: a list cannot have more than 8190 values"
         );
         assert_eq!(
             error_of("serial"),

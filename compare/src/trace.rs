@@ -1,9 +1,10 @@
-//! Reading a trace of either edition: rows 2 to 11 of the table of refusals.
+//! Reading a trace of either edition: rows 2 to 11 of the table of refusals, and 17.
 //!
 //! Row 1 (the level) and rows 12 to 14 (the buffers) are given in
-//! [`crate::deciding`], and row 1 also in [`crate::claiming`]: elsewhere
-//! [`crate::report::Level`] cannot be wrong, and there are no buffers. Number 16 is
-//! given in [`crate::writing`] and [`crate::moving`].
+//! [`crate::deciding`], row 1 also in [`crate::claiming`] and rows 12 and 13 in
+//! [`crate::listing`]: elsewhere [`crate::report::Level`] cannot be wrong, and there
+//! are no buffers. Number 16 is given in [`crate::writing`] and [`crate::moving`],
+//! number 20 in [`crate::moving`].
 
 use crate::hash::FastMap;
 
@@ -22,6 +23,12 @@ pub const NOTE: u16 = 6;
 pub const EDITION: u16 = 16;
 /// The only lawful payload of that record.
 pub const EDITION_2: u16 = 2;
+/// An operation on lists, of edition 2 only.
+pub const APPEND: u16 = 23;
+/// The other one.
+pub const LIST_READ: u16 = 24;
+/// The most values that a list read has.
+pub const MAX_LIST: usize = 32;
 
 /// Bytes of a record that its length does not count: the length field itself.
 const LENGTH_FIELD: usize = 2;
@@ -31,6 +38,8 @@ const KIND_AND_SERIAL: usize = 6;
 const OPERATION_SIZE: usize = 20;
 /// Bytes of a session.
 const SESSION_SIZE: usize = 2;
+/// Bytes of a value.
+const VALUE_SIZE: usize = 8;
 
 /// Why a trace is not judged: the number of the row and the place.
 #[derive(Clone, Copy, Debug, PartialEq, Eq)]
@@ -41,8 +50,8 @@ pub struct Refusal {
 
 impl Refusal {
     /// The length of a table that has a place for each number, the greatest
-    /// of which is 16.
-    pub const NUMBERS: usize = 17;
+    /// of which is 20.
+    pub const NUMBERS: usize = 21;
 
     /// The row's own words, shortened.
     pub fn meaning(&self) -> &'static str {
@@ -53,11 +62,13 @@ impl Refusal {
             5 => "serial does not follow",
             6 => "unknown kind",
             7 => "record not lawful here: inside or outside a transaction, or edition not first",
-            8 => "written value 0, status above 2, wrong end number, or unknown edition",
+            8 => "written or appended value 0, more than 32 values, status above 2, wrong end number, or unknown edition",
             9 => "128th open or 1,025th operation",
-            10 => "a write repeats an earlier write's key and value",
+            10 => "a write or an append repeats an earlier one's key and value",
             11 => "bytes follow the end record",
             16 => "output buffer too short",
+            17 => "a key with single values and lists",
+            20 => "lists in a move to edition 1",
             _ => "not given when reading or writing a trace",
         }
     }
@@ -90,14 +101,87 @@ impl Edition {
     }
 }
 
-/// A read or a write. Its number in the trace is its index plus one.
-#[derive(Clone, Copy, Debug, PartialEq, Eq)]
+/// An operation. Its number in the trace is its index plus one.
+#[derive(Clone, Debug, PartialEq, Eq)]
 pub struct Operation {
     /// The number of its transaction, from 1.
     pub transaction: u8,
-    pub is_write: bool,
     pub key: u32,
-    pub value: u64,
+    pub action: Action,
+}
+
+/// What an operation does to its key.
+#[derive(Clone, Debug, PartialEq, Eq)]
+pub enum Action {
+    Read(u64),
+    Write(u64),
+    Append(u64),
+    ReadList(Vec<u64>),
+}
+
+impl Action {
+    /// The key of an operation and what it does, from the kind of its record and the
+    /// bytes behind the session.
+    fn of_record(kind: u16, fields: &[u8]) -> (u32, Action) {
+        if kind == LIST_READ {
+            let (key, values) = key_and_values(fields);
+            return (key, Action::ReadList(values));
+        }
+        let (key, value) = key_and_value(fields);
+        let action = match kind {
+            READ => Action::Read(value),
+            WRITE => Action::Write(value),
+            _ => Action::Append(value),
+        };
+        (key, action)
+    }
+
+    /// The value that is read, of a single one.
+    pub fn read(&self) -> Option<u64> {
+        match *self {
+            Action::Read(value) => Some(value),
+            _ => None,
+        }
+    }
+
+    /// The value that is written.
+    pub fn written(&self) -> Option<u64> {
+        match *self {
+            Action::Write(value) => Some(value),
+            _ => None,
+        }
+    }
+
+    /// The value that is appended.
+    pub fn appended(&self) -> Option<u64> {
+        match *self {
+            Action::Append(value) => Some(value),
+            _ => None,
+        }
+    }
+
+    /// The list that is read.
+    pub fn list(&self) -> Option<&[u64]> {
+        match self {
+            Action::ReadList(values) => Some(values),
+            _ => None,
+        }
+    }
+
+    /// What it makes of its key.
+    pub fn sort(&self) -> Sort {
+        match self {
+            Action::Read(_) | Action::Write(_) => Sort::Single,
+            Action::Append(_) | Action::ReadList(_) => Sort::List,
+        }
+    }
+}
+
+/// What a key has. "A key with single values and lists" is refused.
+#[derive(Clone, Copy, Debug, PartialEq, Eq)]
+pub enum Sort {
+    Single,
+    List,
 }
 
 /// What a close record says of its transaction's commit, by the record's number.
@@ -131,6 +215,11 @@ pub struct Trace {
     pub operations: Vec<Operation>,
     /// The number of the only operation that writes this key and value.
     writes: FastMap<(u32, u64), u16>,
+    /// The same of appends.
+    appends: FastMap<(u32, u64), u16>,
+    /// What each key has. It is kept from the first operation on a list on: most traces
+    /// have none, and then no key can be mixed.
+    sorts: Option<FastMap<u32, Sort>>,
 }
 
 impl Trace {
@@ -150,6 +239,8 @@ impl Trace {
             operations: Vec::with_capacity(expected_operations),
             // Most traces have about as many reads as writes.
             writes: FastMap::with_capacity_and_hasher(expected_operations / 2, Default::default()),
+            appends: FastMap::default(),
+            sorts: None,
         };
         let mut open = Open::none(edition);
         let mut expected_serial = None;
@@ -186,9 +277,21 @@ impl Trace {
         self.writes.get(&(key, value)).copied()
     }
 
+    /// The number of the append that has this key and value, whatever became of its
+    /// transaction; none for value 0, which no append has.
+    pub fn find_append(&self, key: u32, value: u64) -> Option<u16> {
+        self.appends.get(&(key, value)).copied()
+    }
+
     /// The operation with this number.
     pub fn operation(&self, number: u16) -> &Operation {
         &self.operations[usize::from(number) - 1]
+    }
+
+    /// Whether it has appends or list reads.
+    pub fn has_lists(&self) -> bool {
+        let mut sorts = self.operations.iter().map(|o| o.action.sort());
+        sorts.any(|sort| sort == Sort::List)
     }
 
     /// The numbers of the transactions with this status, ascending.
@@ -202,19 +305,20 @@ impl Trace {
     fn take(&mut self, record: &Record, is_first: bool, open: &mut Open) -> Result<(), u8> {
         let payload = record.payload;
         let session_size = self.edition.session_size();
-        let lawful_size = match record.kind {
-            OPEN | END | EDITION => payload.len() == 2,
-            READ | WRITE => payload.len() == session_size + 12,
-            CLOSE => payload.len() == session_size + 1,
+        let lawful_size = match (record.kind, self.edition) {
+            (OPEN | END | EDITION, _) => payload.len() == 2,
+            (READ | WRITE, _) | (APPEND, Edition::Two) => payload.len() == session_size + 12,
+            (LIST_READ, Edition::Two) => has_its_number(payload),
+            (CLOSE, _) => payload.len() == session_size + 1,
             // "6 for a note in edition 2"
-            NOTE if self.edition == Edition::One => payload.len() <= MAX_NOTE,
+            (NOTE, Edition::One) => payload.len() <= MAX_NOTE,
             _ => return Err(6),
         };
         if !lawful_size {
             return Err(4);
         }
-        // What an open record begins with, and in edition 2 a read, a write or
-        // a close; of other records it is not looked at.
+        // What an open record begins with, and in edition 2 an operation or a
+        // close; of other records it is not looked at.
         let session = payload.first_chunk().map_or(0, |s| u16::from_le_bytes(*s));
         let owner = open.of(session);
         let lawful_here = match record.kind {
@@ -238,25 +342,10 @@ impl Trace {
                 });
                 open.enter(session, self.transactions.len() as u8);
             }
-            READ | WRITE => {
-                let is_write = record.kind == WRITE;
-                let (key, value) = key_and_value(&payload[session_size..]);
-                if is_write && value == 0 {
-                    return Err(8);
-                }
-                if self.operations.len() == MAX_OPERATIONS {
-                    return Err(9);
-                }
-                let number = self.operations.len() as u16 + 1;
-                if is_write && self.writes.insert((key, value), number).is_some() {
-                    return Err(10);
-                }
-                self.operations.push(Operation {
-                    transaction: owner.expect("an operation of an open transaction"),
-                    is_write,
-                    key,
-                    value,
-                });
+            READ | WRITE | APPEND | LIST_READ => {
+                let owner = owner.expect("an operation of an open transaction");
+                let (key, action) = Action::of_record(record.kind, &payload[session_size..]);
+                self.enter(owner, key, action)?;
             }
             CLOSE => {
                 let status = Status::of_byte(payload[session_size]).ok_or(8)?;
@@ -274,6 +363,53 @@ impl Trace {
             _ => {}
         }
         Ok(())
+    }
+
+    /// Checks one operation of an open transaction from row 8 on, and enters it.
+    fn enter(&mut self, transaction: u8, key: u32, action: Action) -> Result<(), u8> {
+        let is_lawful = match &action {
+            Action::Read(_) => true,
+            Action::Write(value) | Action::Append(value) => *value != 0,
+            Action::ReadList(values) => values.len() <= MAX_LIST,
+        };
+        if !is_lawful {
+            return Err(8);
+        }
+        if self.operations.len() == MAX_OPERATIONS {
+            return Err(9);
+        }
+        let number = self.operations.len() as u16 + 1;
+        // An append of a write's key and value repeats nothing: its key is mixed.
+        let repeated = match action {
+            Action::Write(value) => self.writes.insert((key, value), number),
+            Action::Append(value) => self.appends.insert((key, value), number),
+            Action::Read(_) | Action::ReadList(_) => None,
+        };
+        if repeated.is_some() {
+            return Err(10);
+        }
+        if self.mixes(key, action.sort()) {
+            return Err(17);
+        }
+        self.operations.push(Operation {
+            transaction,
+            key,
+            action,
+        });
+        Ok(())
+    }
+
+    /// Whether an operation that makes this of its key mixes it with an earlier one.
+    fn mixes(&mut self, key: u32, sort: Sort) -> bool {
+        if self.sorts.is_none() && sort == Sort::List {
+            let earlier = self.operations.iter();
+            self.sorts = Some(earlier.map(|o| (o.key, o.action.sort())).collect());
+        }
+        let earlier = self
+            .sorts
+            .as_mut()
+            .and_then(|sorts| sorts.insert(key, sort));
+        earlier.is_some_and(|earlier| earlier != sort)
     }
 }
 
@@ -327,7 +463,33 @@ impl Open {
     }
 }
 
-/// Key and value from the 12 bytes of a read or a write that have them.
+/// Whether a list read, given with its session, has as many bytes as its own number
+/// asks for, however great that is: "length 14 plus 8 a value".
+fn has_its_number(payload: &[u8]) -> bool {
+    match payload {
+        [_, _, _, _, _, _, low, high, values @ ..] => {
+            let number = usize::from(u16::from_le_bytes([*low, *high]));
+            values.len() == VALUE_SIZE * number
+        }
+        _ => false,
+    }
+}
+
+/// Key and values from the bytes of a list read behind its session.
+fn key_and_values(fields: &[u8]) -> (u32, Vec<u64>) {
+    let (key, number_and_values) = fields.split_at(4);
+    let (_, values) = number_and_values.split_at(2);
+    let (values, _) = values.as_chunks();
+    (
+        u32::from_le_bytes(key.try_into().expect("4 bytes")),
+        values
+            .iter()
+            .map(|value| u64::from_le_bytes(*value))
+            .collect(),
+    )
+}
+
+/// Key and value from the 12 bytes of a read, a write or an append that have them.
 pub fn key_and_value(payload: &[u8]) -> (u32, u64) {
     let (key, value) = payload.split_at(4);
     (
@@ -379,6 +541,21 @@ pub fn records(bytes: &[u8]) -> impl Iterator<Item = Record<'_>> {
         offset += record.size();
         Some(record)
     })
+}
+
+/// The place of the first of them that is an append or a list read, if one is.
+pub fn first_list_record(bytes: &[u8]) -> Option<usize> {
+    let mut offset = 0;
+    records(bytes).find_map(|record| {
+        let place = offset;
+        offset += record.size();
+        matches!(record.kind, APPEND | LIST_READ).then_some(place)
+    })
+}
+
+/// Whether there is an append or a list read among them.
+pub fn has_list_records(bytes: &[u8]) -> bool {
+    first_list_record(bytes).is_some()
 }
 
 /// Whether there is a note among them.

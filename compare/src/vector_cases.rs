@@ -589,16 +589,17 @@ impl Plan {
         let mut whole = |(place, planned): (usize, &Planned)| {
             let mut reads: Vec<Access> = Vec::new();
             for &source in &planned.sources {
-                reads.push(access(false, step * own_key(source), Some(source)));
+                let value = value_of(Some(source));
+                reads.push(Access::read(step * own_key(source), value));
             }
             for &(key, writer) in &planned.reads {
-                reads.push(access(false, step * key as u32, writer));
+                reads.push(Access::read(step * key as u32, value_of(writer)));
             }
             random.shuffle(&mut reads);
             let mut operations = reads;
             let shared = planned.writes.map(|key| key as u32);
             for key in shared.into_iter().chain([own_key(place)]) {
-                operations.push(access(true, step * key, Some(place)));
+                operations.push(Access::write(step * key, value_of(Some(place))));
             }
             Whole {
                 session: number(planned.session),
@@ -720,13 +721,9 @@ fn own_key(place: usize) -> u32 {
     (SHARED + place) as u32
 }
 
-/// A read or a write of what this transaction writes, or of what nobody wrote.
-fn access(is_write: bool, key: u32, writer: Option<usize>) -> Access {
-    Access {
-        is_write,
-        key,
-        value: writer.map_or(0, |place| place as u64 + 1),
-    }
+/// What this transaction writes, or what is read where nobody wrote.
+fn value_of(writer: Option<usize>) -> u64 {
+    writer.map_or(0, |place| place as u64 + 1)
 }
 
 /// What a plan has come to when reads of shared keys are answered.

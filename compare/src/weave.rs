@@ -4,7 +4,7 @@
 use crate::encode::Writer;
 use crate::random::Random;
 use crate::report::{Finding, Verdict};
-use crate::trace::{self, Edition, Operation, Status, Trace};
+use crate::trace::{self, Action, Edition, Operation, Sort, Status, Trace};
 
 /// A transaction with all that is its own.
 #[derive(Clone, Debug, PartialEq, Eq)]
@@ -14,19 +14,30 @@ pub struct Whole {
     pub operations: Vec<Access>,
 }
 
-/// A read or a write, whoever does it.
-#[derive(Clone, Copy, Debug, PartialEq, Eq)]
+/// An operation, whoever does it.
+#[derive(Clone, Debug, PartialEq, Eq)]
 pub struct Access {
-    pub is_write: bool,
     pub key: u32,
-    pub value: u64,
+    pub action: Action,
 }
 
 impl Access {
+    pub fn read(key: u32, value: u64) -> Access {
+        let action = Action::Read(value);
+        Access { key, action }
+    }
+
+    pub fn write(key: u32, value: u64) -> Access {
+        let action = Action::Write(value);
+        Access { key, action }
+    }
+
     pub fn put(&self, writer: &mut Writer, session: u16) {
-        match self.is_write {
-            true => writer.write_in(session, self.key, self.value),
-            false => writer.read_in(session, self.key, self.value),
+        match &self.action {
+            Action::Read(value) => writer.read_in(session, self.key, *value),
+            Action::Write(value) => writer.write_in(session, self.key, *value),
+            Action::Append(value) => writer.append_in(session, self.key, *value),
+            Action::ReadList(values) => writer.read_list_in(session, self.key, values),
         }
     }
 }
@@ -43,21 +54,23 @@ pub fn wholes(trace: &Trace) -> Vec<Whole> {
         })
         .collect();
     for operation in &trace.operations {
-        let Operation {
-            transaction,
-            is_write,
-            key,
-            value,
-        } = *operation;
-        wholes[usize::from(transaction) - 1]
-            .operations
-            .push(Access {
-                is_write,
-                key,
-                value,
-            });
+        let whole = &mut wholes[usize::from(operation.transaction) - 1];
+        whole.operations.push(Access {
+            key: operation.key,
+            action: operation.action.clone(),
+        });
     }
     wholes
+}
+
+/// The same transactions with their operations on single values only.
+pub fn without_lists(wholes: &[Whole]) -> Vec<Whole> {
+    let mut without = wholes.to_vec();
+    for whole in &mut without {
+        let operations = &mut whole.operations;
+        operations.retain(|access| access.action.sort() == Sort::Single);
+    }
+    without
 }
 
 /// The transactions one after another.
@@ -167,7 +180,8 @@ pub struct Judged<'a> {
 impl Judged<'_> {
     /// Whether another trace with the same transactions, opened in the same
     /// order and each with the same operations in its own order, gets the same
-    /// answer but for operation numbers, and so for the order of findings.
+    /// answer but for operation numbers, and so for the order of findings. Those
+    /// on lists may be other ones, or none.
     pub fn is_like(&self, other: &Judged) -> bool {
         let mut pairs = self.verdicts.iter().zip(other.verdicts);
         pairs.all(|(one, two)| match (one, two) {
@@ -212,7 +226,8 @@ struct Placeless {
     write: Option<OwnNumber>,
 }
 
-/// An operation by its transaction and its number among those of that one.
+/// An operation on a single value by its transaction and its number among those of
+/// that one.
 type OwnNumber = (u8, usize);
 
 struct OwnNumbers(Vec<OwnNumber>);
@@ -222,7 +237,8 @@ impl OwnNumbers {
         let mut counts = vec![0; trace.transactions.len() + 1];
         let number = |operation: &Operation| {
             let count = &mut counts[usize::from(operation.transaction)];
-            *count += 1;
+            // One on a list has the number of the one before it, and is in no finding.
+            *count += usize::from(operation.action.sort() == Sort::Single);
             (operation.transaction, *count)
         };
         OwnNumbers(trace.operations.iter().map(number).collect())

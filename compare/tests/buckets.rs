@@ -3,7 +3,7 @@
 use ferozhak_compare::cases::Case;
 use ferozhak_compare::random::Random;
 use ferozhak_compare::report::{Level, Verdict};
-use ferozhak_compare::trace::{Edition, Trace};
+use ferozhak_compare::trace::{Action, Edition, Trace};
 use ferozhak_compare::weave::{self, Whole};
 use ferozhak_compare::{brute, bucket_cases, generate, graph, judge_one, judge_text};
 use std::collections::{BTreeSet, HashMap};
@@ -12,13 +12,14 @@ use std::collections::{BTreeSet, HashMap};
 /// finds the write of each read.
 fn judged_by_buckets(trace: &Trace, modulus: u32) -> String {
     let mut written = HashMap::new();
-    let mut wholes: Vec<Whole> = weave::wholes(trace);
+    let mut wholes: Vec<Whole> = weave::without_lists(&weave::wholes(trace));
     for operation in wholes.iter_mut().flat_map(|whole| &mut whole.operations) {
         // Another value for each key and value, or writes would be repeated.
-        if operation.value != 0 {
-            let next = written.len() as u64 + 1;
-            let pair = (operation.key, operation.value);
-            operation.value = *written.entry(pair).or_insert(next);
+        if let Action::Read(value) | Action::Write(value) = &mut operation.action {
+            if *value != 0 {
+                let next = written.len() as u64 + 1;
+                *value = *written.entry((operation.key, *value)).or_insert(next);
+            }
         }
         operation.key %= modulus;
     }

@@ -298,7 +298,13 @@ fn what_is_moved_is_as_it_has_to_be() {
         let own = move_to(trace.edition, &bytes, AMPLE);
         assert_eq!(own.as_ref(), Ok(&bytes), "{name}");
         let wanted = moving::other(trace.edition);
-        let moved = move_to(wanted, &bytes, AMPLE).unwrap();
+        let moved = match move_to(wanted, &bytes, AMPLE) {
+            Ok(moved) => moved,
+            Err(refusal) => {
+                moving::check_stayed(wanted, &bytes, &trace, &refusal).unwrap();
+                continue;
+            }
+        };
         assert_eq!(first_serial(&moved), first_serial(&bytes), "{name}");
         moving::check(wanted, &bytes, &trace, &moved).unwrap();
         if trace.edition == Edition::One {
@@ -483,9 +489,9 @@ fn compare_moves(scribe: &str, stream: &str, traces: usize) -> (String, bool) {
 
 #[test]
 fn the_comparison_finds_no_difference_from_itself() {
-    let (summary, differs) = compare_moves(SCRIBE, &format!("{JUDGE} --stream"), 1_500);
+    let (summary, differs) = compare_moves(SCRIBE, &format!("{JUDGE} --stream"), 2_000);
     assert!(!differs, "{summary}");
-    assert!(summary.starts_with("1500 traces of seed 8"), "{summary}");
+    assert!(summary.starts_with("2000 traces of seed 8"), "{summary}");
     // Traces that differ in their notes only were among what was asked.
     for line in ["also with other texts", "also without notes"] {
         let (_, count) = summary.split_once(line).expect(line);

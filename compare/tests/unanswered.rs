@@ -165,13 +165,13 @@ impl<'a> Readers<'a> {
     }
 
     /// The reads of values of `t`, with their indexes.
-    fn reads_of(&self, t: u8) -> Vec<(usize, Operation)> {
-        let author = |write| self.trace.operation(write).transaction;
-        let operations = self.trace.operations.iter().copied().enumerate();
-        operations
-            .filter(|(_, op)| !op.is_write)
-            .filter(|(_, op)| self.trace.find_write(op.key, op.value).map(author) == Some(t))
-            .collect()
+    fn reads_of(&self, t: u8) -> Vec<(usize, &Operation)> {
+        let is_of = |op: &Operation| {
+            let write = self.trace.find_write(op.key, op.action.read()?)?;
+            Some(self.trace.operation(write).transaction)
+        };
+        let operations = self.trace.operations.iter().enumerate();
+        operations.filter(|(_, op)| is_of(op) == Some(t)).collect()
     }
 
     /// The others that read a value of `t`.

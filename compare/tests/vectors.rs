@@ -6,7 +6,7 @@ use ferozhak_compare::encode::Writer;
 use ferozhak_compare::graph::{self, BasicPairs, History};
 use ferozhak_compare::random::Random;
 use ferozhak_compare::report::Level;
-use ferozhak_compare::trace::{Edition, Status, Trace, MAX_TRANSACTIONS};
+use ferozhak_compare::trace::{Action, Edition, Status, Trace, MAX_TRANSACTIONS};
 use ferozhak_compare::vectors::Vectors;
 use ferozhak_compare::{brute, generate, judge_one, judge_trace, text, vector_cases, weave};
 use std::collections::{BTreeMap, BTreeSet};
@@ -38,7 +38,7 @@ fn aimed_traces(seed: u64, count: u64) -> impl Iterator<Item = (Vec<u8>, Trace)>
 
 /// The same transactions opened in another order: as blocks, or woven together.
 fn rearranged(random: &mut Random, trace: &Trace) -> Trace {
-    let mut wholes = weave::wholes(trace);
+    let mut wholes = weave::without_lists(&weave::wholes(trace));
     random.shuffle(&mut wholes);
     let bytes = match random.percent(50) {
         true => weave::blocks(Edition::One, 0, &wholes),
@@ -443,21 +443,21 @@ impl Known<'_> {
     /// session before one that is known to a reader of that key: its number alone
     /// would have it known.
     fn has_no_rival(&self, status: Status) -> bool {
-        let keys = |t: u8, is_write: bool| -> BTreeSet<u32> {
+        let keys = |t: u8, is_wanted: fn(&Action) -> bool| -> BTreeSet<u32> {
             let own = self.trace.operations.iter().filter(|o| o.transaction == t);
-            own.filter(|o| o.is_write == is_write)
+            own.filter(|o| is_wanted(&o.action))
                 .map(|o| o.key)
                 .collect()
         };
         let latest = |b: u8, session| self.vectors.of(b).map_or(0, |v| v.latest(session));
         let is_none = |a: &u8| !self.counted.contains(a) && self.status(*a) == status;
         self.all().filter(is_none).any(|a| {
-            let written = keys(a, true);
+            let written = keys(a, |action| action.written().is_some());
             let mut knowing = self
                 .counted
                 .iter()
                 .filter(|&&b| latest(b, self.session(a)) > a);
-            knowing.any(|&b| !written.is_disjoint(&keys(b, false)))
+            knowing.any(|&b| !written.is_disjoint(&keys(b, |action| action.read().is_some())))
         })
     }
 

@@ -2,22 +2,24 @@
 //! independent judge's two deciders with each other, the programs that write and
 //! move traces with the independent writer and mover, the verdicts of traces with
 //! those of the moved ones, the programs that decide about traces, by the calls of
-//! the upper library, with the independent decisions, and what is said of claimed
-//! orders with the independent answers.
+//! the upper library, with the independent decisions, what is said of claimed orders
+//! with the independent answers, and what is said of lists with what is said of them
+//! here.
 
 use ferozhak_compare::cases::{self, Case};
 use ferozhak_compare::encode::Writer;
 use ferozhak_compare::generate::{self, Origin};
+use ferozhak_compare::listing::listing_of;
 use ferozhak_compare::moves;
 use ferozhak_compare::process::{behind_length, kept, run_once, spawn};
 use ferozhak_compare::random::Random;
 use ferozhak_compare::report::{self, Finding, Level, Verdict};
 use ferozhak_compare::scribes::Way;
-use ferozhak_compare::trace::{Edition, Refusal, Status, Trace};
+use ferozhak_compare::trace::{has_list_records, Edition, Refusal, Status, Trace};
 use ferozhak_compare::vectors::Vectors;
 use ferozhak_compare::weave::{self, Judged};
 use ferozhak_compare::workers::{self, add_each, Difference, Extent, Tally};
-use ferozhak_compare::{brute, calls, claims, daemon, graph, laws, scribes};
+use ferozhak_compare::{brute, calls, claims, daemon, graph, laws, lists, scribes};
 use ferozhak_compare::{judge_text, judge_trace, Answer};
 use std::io::{self, BufRead, BufReader, Write};
 use std::process::{Child, ChildStdin, ChildStdout, ExitCode};
@@ -28,7 +30,7 @@ const USAGE: &str = "Usage:
   compare --self [options]             compares the Rust judge's two deciders only, also on what counts as committed
                                        and on the writes of unclean reads, and its answers of the same transactions
                                        in both editions and woven together in another way, and what leads to what
-                                       with what vectors say, and what is said of claimed orders
+                                       with what vectors say, and what is said of claimed orders and of lists
   compare --scribe COMMAND [options]   compares the program `scribe` with the Rust writer and mover: many items a run
   compare --writer COMMAND [options]   the same with the program `writer`: a run for each sequence of steps
   compare --rewrite COMMAND [options]  the same with the program `rewrite`: a run for each trace
@@ -49,13 +51,16 @@ const USAGE: &str = "Usage:
                                        answers of the Rust judge, with all that the buffer holds: many items a run
   compare --claim COMMAND [options]    the same with the program `claim`: a run for each claim, and some with arguments
                                        that say none
+  compare --lists COMMAND [options]    compares what the program `lists` says of traces, most of them with lists, with
+                                       the two answers of the Rust judge: a run for each trace
 A COMMAND is a program and its arguments, parted by spaces.
 Half of the random traces are of edition 2, with transactions that overlap.
 Options:
   --traces N    at least this many traces (default 100000); with --scribe, --writer, --rewrite, --to-1 and
                 --to-2 this many random sequences and as many random traces, besides the known cases
-                (default 300 for all of these but --scribe); with --calls, --claims, --claim and --daemon this
-                many random traces, besides the known cases (default 120 for --claim, 2000 for --daemon)
+                (default 300 for all of these but --scribe); with --calls, --claims, --claim, --lists and
+                --daemon this many random traces, besides the known cases (default 120 for --claim, 300 for
+                --lists, 2000 for --daemon)
   --seed S      the seed of the random traces (default 1)
   --threads K   how many threads, each running one program at a time (default 1); not with --daemon, which
                 has its own
@@ -72,6 +77,8 @@ enum Compared {
     Claims(String),
     /// The command of the program `claim`.
     Claim(String),
+    /// The command of the program `lists`.
+    Lists(String),
     Daemon(daemon::Programs),
 }
 
@@ -128,6 +135,7 @@ fn main() -> ExitCode {
         Compared::Calls(command) => calls::compare(command, extent),
         Compared::Claims(command) => claims::compare_calls(command, extent),
         Compared::Claim(command) => claims::compare_program(command, extent),
+        Compared::Lists(command) => lists::compare(command, extent),
         Compared::Daemon(programs) => daemon::compare(programs, extent),
     };
     if let Some(difference) = &difference {
@@ -161,6 +169,7 @@ fn parse_options(mut words: impl Iterator<Item = String>) -> Result<Options, Str
             "--calls" => compared = Some(Compared::Calls(value)),
             "--claims" => compared = Some(Compared::Claims(value)),
             "--claim" => compared = Some(Compared::Claim(value)),
+            "--lists" => compared = Some(Compared::Lists(value)),
             "--moves" => beside_stream = Some(BesideStream::Moves(value)),
             "--daemon" => beside_stream = Some(BesideStream::Daemon(value)),
             "--traces" => traces = Some(value.parse().map_err(wrong)?),
@@ -182,14 +191,14 @@ fn parse_options(mut words: impl Iterator<Item = String>) -> Result<Options, Str
             return Err("give one of --judge COMMAND, --stream COMMAND, --self, \
                         --scribe COMMAND, --writer COMMAND, --rewrite COMMAND, \
                         --to-1 COMMAND, --to-2 COMMAND, --calls COMMAND, \
-                        --claims COMMAND and --claim COMMAND, or --stream COMMAND \
-                        and one of --moves COMMAND and --daemon COMMAND"
+                        --claims COMMAND, --claim COMMAND and --lists COMMAND, or \
+                        --stream COMMAND and one of --moves COMMAND and --daemon COMMAND"
                 .into())
         }
     };
     // A run for each item takes its time.
     let usual = match compared {
-        Compared::Writers(scribes::Program::Once(..)) => 300,
+        Compared::Writers(scribes::Program::Once(..)) | Compared::Lists(_) => 300,
         Compared::Claim(_) => 120,
         // So does a file for each trace.
         Compared::Daemon(_) => 2_000,
@@ -270,7 +279,8 @@ impl Subject {
                 .and_then(|()| check_orders(trace, verdicts, summary))
                 .and_then(|()| check_choices(trace, verdicts, summary))
                 .and_then(|()| self.check_vectors(trace, summary))
-                .and_then(|()| self.check_claims(trace, verdicts, summary));
+                .and_then(|()| self.check_claims(trace, verdicts, summary))
+                .and_then(|()| self.check_lists(trace));
             if let Err(Deciders {
                 tried,
                 brute,
@@ -332,6 +342,16 @@ impl Subject {
         Ok(())
     }
 
+    /// What is said of lists is what has to be said of them.
+    fn check_lists(&self, trace: &Trace) -> Result<(), Deciders> {
+        let listing = listing_of(trace);
+        lists::check_listing(&self.bytes, trace, &listing).map_err(|message| Deciders {
+            tried: "what has to hold of lists",
+            brute: message,
+            graph: format!("{listing:?}\n"),
+        })
+    }
+
     /// What the program prints is what the Rust judge prints.
     fn check_program(self, judge: &mut Judge, ours: String) -> Result<(), Box<Difference>> {
         let theirs = match judge.judge(&self.bytes) {
@@ -344,8 +364,9 @@ impl Subject {
     }
 
     /// The same transactions get the same text as blocks of either edition, and
-    /// the same answer but for operation numbers however they overlap. The
-    /// program is asked of some of these traces too.
+    /// the same answer but for operation numbers however they overlap, and without
+    /// their lists, which edition 1 has not. The program is asked of some of these
+    /// traces too.
     fn check_relatives(
         &self,
         trace: &Trace,
@@ -368,7 +389,7 @@ impl Subject {
                     .differs(name, said, "the trace", ours));
             }
         }
-        if one != two {
+        if one != two && !trace.has_lists() {
             let relative = self.relative(names[1], &relatives[1]);
             return Err(relative.differs(names[1], two, names[0], one));
         }
@@ -407,8 +428,8 @@ impl Subject {
     }
 }
 
-/// The transactions of a trace as blocks of edition 1, as blocks of edition 2,
-/// and woven together at random.
+/// The transactions of a trace as blocks of edition 1, without lists, as blocks of
+/// edition 2, and woven together at random.
 fn relatives(trace: &Trace, stream: usize) -> [Vec<u8>; 3] {
     let mut random = Random::new(2, stream as u64);
     let wholes = weave::wholes(trace);
@@ -416,7 +437,7 @@ fn relatives(trace: &Trace, stream: usize) -> [Vec<u8>; 3] {
     let most = random.from_to(2, 16);
     let turns = weave::at_random(&mut random, most, 50);
     [
-        weave::blocks(Edition::One, serial, &wholes),
+        weave::blocks(Edition::One, serial, &weave::without_lists(&wholes)),
         weave::blocks(Edition::Two, serial, &wholes),
         weave::weave(Writer::edition_2(serial), &wholes, turns),
     ]
@@ -682,6 +703,9 @@ struct Editions {
     overlapping: usize,
     /// The same, with eight.
     overlapping_8: usize,
+    /// With lists, and those of them that are not refused.
+    lists: usize,
+    lists_read: usize,
     /// Refusals by edition and number.
     refusals: [[usize; Refusal::NUMBERS]; 2],
 }
@@ -699,12 +723,17 @@ impl Editions {
             Ok(_) => {}
         }
         self.two += usize::from(edition == Edition::Two);
+        let has_lists = has_list_records(bytes);
+        self.lists += usize::from(has_lists);
+        self.lists_read += usize::from(has_lists && answer.is_ok());
     }
 
     fn add(&mut self, other: &Editions) {
         self.two += other.two;
         self.overlapping += other.overlapping;
         self.overlapping_8 += other.overlapping_8;
+        self.lists += other.lists;
+        self.lists_read += other.lists_read;
         for (to, from) in self.refusals.iter_mut().zip(&other.refusals) {
             add_each(to, from);
         }
@@ -719,19 +748,26 @@ impl Editions {
                  transactions open at once, {} have eight",
                 self.two, self.overlapping, self.overlapping_8
             ),
+            format!(
+                "with lists: {} traces, {} of them not refused",
+                self.lists, self.lists_read
+            ),
             "refusals by edition (1 and 12 to 14 cannot be given by the program):".into(),
         ];
-        for number in 2..=11 {
+        // Edition 1 has no lists.
+        let of_lists = Some(17);
+        for number in (2..=11).chain(of_lists) {
             let (one, two) = (one[number], two[number]);
             lines.push(format!("  {number:>2} {one:>9} {two:>9}"));
         }
-        for (edition, refusals) in [(1, one), (2, two)] {
+        for (edition, refusals, more) in [(1, one, None), (2, two, of_lists)] {
             let missing: Vec<String> = (2..=11)
+                .chain(more)
                 .filter(|&number| refusals[number] == 0)
                 .map(|number| number.to_string())
                 .collect();
             lines.push(match missing.is_empty() {
-                true => format!("  edition {edition}: every one from 2 to 11 occurred"),
+                true => format!("  edition {edition}: every one occurred that can"),
                 false => format!("  edition {edition}: did not occur: {}", missing.join(" ")),
             });
         }

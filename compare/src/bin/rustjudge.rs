@@ -3,10 +3,11 @@
 //! little-endian); standard output is the answer, or each answer before a line
 //! `--`. If the last trace of a stream is cut, what there is of it is judged.
 //!
-//! With `--calls` it answers items as a program that makes the calls of the upper
-//! library, with `--daemon` it decides about the files of a directory as the program
-//! `daemon`, and with `--claim` it says what the program `claim` does of a claimed order
-//! on the trace.
+//! With `--lists` it says what the program `lists` does of the trace's lists. With
+//! `--calls` it answers items as a program that makes the calls of the upper library,
+//! with `--daemon` it decides about the files of a directory as the program `daemon`,
+//! and with `--claim` it says what the program `claim` does of a claimed order on the
+//! trace.
 
 use ferozhak_compare::claiming::{self, claim};
 use ferozhak_compare::report::Level;
@@ -15,14 +16,14 @@ use std::io::{self, BufReader, BufWriter, Read, Write};
 use std::path::Path;
 use std::process::ExitCode;
 
-const USAGE: &str =
-    "usage: rustjudge [--stream | --calls | --daemon LEVEL DIRECTORY | --claim rc|ra|tcc T..]";
+const USAGE: &str = "usage: rustjudge [--stream | --lists | --calls | --daemon LEVEL DIRECTORY | --claim rc|ra|tcc T..]";
 
 fn main() -> ExitCode {
     let words: Vec<String> = std::env::args().skip(1).collect();
     let words: Vec<&str> = words.iter().map(String::as_str).collect();
     let done = match words[..] {
-        [] => Some(run()),
+        [] => Some(run(ferozhak_compare::judge_text)),
+        ["--lists"] => Some(run(ferozhak_compare::list_text)),
         ["--stream"] => Some(stream()),
         ["--calls"] => Some(calls::serve(
             BufReader::new(io::stdin().lock()),
@@ -47,9 +48,10 @@ fn main() -> ExitCode {
     }
 }
 
-fn run() -> io::Result<()> {
+/// Prints what is said of the one trace on standard input.
+fn run(said: fn(&[u8]) -> String) -> io::Result<()> {
     let bytes = ferozhak_compare::read_bounded(io::stdin().lock())?;
-    io::stdout().write_all(ferozhak_compare::judge_text(&bytes).as_bytes())
+    io::stdout().write_all(said(&bytes).as_bytes())
 }
 
 fn stream() -> io::Result<()> {

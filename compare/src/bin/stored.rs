@@ -6,7 +6,7 @@
 
 use ferozhak_compare::process::{behind_length, kept};
 use ferozhak_compare::scribes::{Way, AMPLE};
-use ferozhak_compare::trace::{EDITION, MAX_TRANSACTIONS};
+use ferozhak_compare::trace::{APPEND, EDITION, LIST_READ, MAX_TRANSACTIONS};
 use ferozhak_compare::writing::{self, Step};
 use ferozhak_compare::{cases, text};
 use std::path::Path;
@@ -80,6 +80,7 @@ fn items() -> Vec<Item> {
     items.extend(edition_2());
     items.extend(moves());
     items.extend(notes());
+    items.extend(lists());
     items
 }
 
@@ -253,4 +254,41 @@ fn notes() -> Vec<Item> {
     ]
     .map(|(notation, room)| (Way::ToEdition2, room, encode(notation)))
     .into()
+}
+
+/// Steps of the kinds of lists, and traces with lists: they stay in edition 2, have no
+/// steps, and are refused where a key has single values too.
+fn lists() -> Vec<Item> {
+    let step = |kind| Step {
+        kind,
+        ..Step::write(1, 5)
+    };
+    let steps = [APPEND, LIST_READ].map(|kind| {
+        let steps = [Step::open(1), step(kind), Step::close(1)];
+        (Way::Steps, AMPLE, writing::input_of(0, &steps))
+    });
+    let mut items: Vec<Item> = steps.into();
+    let read =
+        encode("edition 2; T1 w9=5 a1=5 ..; T2 l1=5 r9=5 a1=6; T1 .. aborted; T3 l1=5,6 l2=");
+    let needed = read.len() as u16;
+    for (way, room) in [
+        (Way::List, AMPLE),
+        (Way::Rewrite, AMPLE),
+        (Way::ToEdition1, AMPLE),
+        (Way::ToEdition1, 0),
+        (Way::ToEdition2, needed),
+        (Way::ToEdition2, needed - 1),
+    ] {
+        items.push((way, room, read.clone()));
+    }
+    let traces = Way::ALL.into_iter().filter(|&way| way != Way::Steps);
+    for way in traces {
+        for notation in [
+            "edition 2; T1 w1=5; T2 a1=6",
+            "edition 2; T1 l1= aborted; T2 r1=0",
+        ] {
+            items.push((way, 0, encode(notation)));
+        }
+    }
+    items
 }

@@ -9,7 +9,7 @@ use std::process::ExitCode;
 const USAGE: &str = "Usage:
   tracetext encode < text > trace    the bytes of a trace from its text
   tracetext decode < trace > text    the text of a trace that is not refused
-  tracetext operations < trace       its reads and writes, a line each, by number
+  tracetext operations < trace       its operations, a line each, by number
   tracetext steps < text > steps     the first serial and the steps, as `writer` reads them; of edition 1
   tracetext --help                   this, and how the text is written
 ";

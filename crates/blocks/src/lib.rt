@@ -6,6 +6,7 @@ ghost use mathlib.Core.Bool.{false};
 ghost use mathlib.Core.List.{[], _∷_};
 ghost use Prim.Native.Nat.{_+_};
 ghost use Rattle.rules.specs.History.{tx, op, opCount, isOpen};
+ghost use Rattle.rules.proofs.Singles.{ReadsSingle};
 ghost use Rattle.table.specs.Table.{historyOf, Held, HasTx, HasOp};
 ghost use Rattle.writing.specs.Listing.{opStep};
 ghost use Rattle.writing.specs.Forms.{mark, txBlock, blocksOf};
@@ -46,15 +47,15 @@ pub fn put_before(
 
 // Operation i as an event.
 fn op_step(h: &[u64], i: usize) -> Event
-    requires { ⌜ HasOp (now h) i ⌝ }
+    requires { ⌜ HasOp (now h) i × ReadsSingle (historyOf (now h)) ⌝ }
     ensures { λ r. ⌜ r ≡ opStep (op (historyOf (now (h .entry))) i) ⌝ }
 {
-    let key = table::key_of(h, i) as u32;
+    let key = table::key_of(h, i);
     let value = table::value_of(h, i);
     if table::is_write(h, i) {
         return Event::Write(key, value);
     }
-    Event::Read(key, value)
+    Event::Read(key as u32, value)
 }
 
 // ── a transaction ──
@@ -69,7 +70,7 @@ fn put_ops(
     out: &mut [u8],
     place: Place,
 ) -> Place
-    requires { ⌜ HasTx (now h) t × (session ≡ tx (historyOf (now h)) t .session) × RoomBefore form (now out) place (opMarks (historyOf (now h)) t (opCount (historyOf (now h)) + 1)) ⌝ }
+    requires { ⌜ HasTx (now h) t × ReadsSingle (historyOf (now h)) × (session ≡ tx (historyOf (now h)) t .session) × RoomBefore form (now out) place (opMarks (historyOf (now h)) t (opCount (historyOf (now h)) + 1)) ⌝ }
     ensures { λ r. ⌜ PutBefore form first (now (out .entry)) place (now (out .exit)) r (opMarks (historyOf (now (h .entry))) t (opCount (historyOf (now (h .entry))) + 1)) ⌝ }
 {
     let mut from = place;
@@ -83,7 +84,7 @@ fn put_ops(
 
 // Its close, its operations, its open.
 fn put_tx(h: &[u64], t: usize, form: Form, first: u32, out: &mut [u8], place: Place) -> Place
-    requires { ⌜ HasTx (now h) t × (isOpen (historyOf (now h)) t ≡ false) × RoomBefore form (now out) place (txBlock (historyOf (now h)) t) ⌝ }
+    requires { ⌜ HasTx (now h) t × ReadsSingle (historyOf (now h)) × (isOpen (historyOf (now h)) t ≡ false) × RoomBefore form (now out) place (txBlock (historyOf (now h)) t) ⌝ }
     ensures { λ r. ⌜ PutBefore form first (now (out .entry)) place (now (out .exit)) r (txBlock (historyOf (now (h .entry))) t) ⌝ }
 {
     let status = table::status_of(h, t) as u16;
@@ -97,7 +98,7 @@ fn put_tx(h: &[u64], t: usize, form: Form, first: u32, out: &mut [u8], place: Pl
 
 // "transactions become blocks in order of opening": from the last one down.
 pub fn put_txs(h: &[u64], form: Form, first: u32, out: &mut [u8], place: Place) -> Place
-    requires { ⌜ Held (now h) × NoneOpen (historyOf (now h)) × RoomBefore form (now out) place (blocksOf (historyOf (now h))) ⌝ }
+    requires { ⌜ Held (now h) × ReadsSingle (historyOf (now h)) × NoneOpen (historyOf (now h)) × RoomBefore form (now out) place (blocksOf (historyOf (now h))) ⌝ }
     ensures { λ r. ⌜ PutBefore form first (now (out .entry)) place (now (out .exit)) r (blocksOf (historyOf (now (h .entry)))) ⌝ }
 {
     let mut from = place;

@@ -1,12 +1,12 @@
 -- A record is read the same where its bytes are the same but for the status of a close.
 use Prim.Native.Nat.{ℕ}
-use mathlib.Core.Path.{_≡_, ap}
+use mathlib.Core.Path.{_≡_, ap, sym}
 use mathlib.Core.Bool.{true}
 use mathlib.Core.List.{List}
 use lib.ListN.{getD}
 use Rattle.rules.specs.Records.{isSecond}
 use Rattle.demand1.specs.Rows.{session}
-use Rattle.demand1.proofs.Events.{Framed}
+use Rattle.demand1.proofs.Events.{Framed, wrong-still}
 use Rattle.demand1.proofs.Agree.{agree-kind, SameHead, agree-len}
 
 -- the same bytes have the same byte at each place
@@ -27,6 +27,8 @@ agree-framed x f =
         there = rw (agree-len x, x .header .long) (f .sized .there);
         known = rw (agree-kind (x .header)) (f .sized .known);
         no-note = rw (x .second, agree-kind (x .header)) (f .sized .no-note);
+        append-second = rw (x .second, agree-kind (x .header)) (f .sized .append-second);
+        list-second = rw (x .second, agree-kind (x .header)) (f .sized .list-second);
       };
-      fits = rw (x .second, agree-kind (x .header), agree-len x) (f .fits);
+      fits = rw (x .second, agree-kind (x .header), agree-len x) (λ w. f .fits (wrong-still (λ k l. sym (x .counts k l)) w));
     }

@@ -13,7 +13,7 @@ use Rattle.base.specs.Base.{pick, numbered}
 use Rattle.base.proofs.Tests.{ifso, split, pick-on, pick-off}
 use Rattle.base.proofs.Chains.{last-same}
 use Rattle.base.proofs.Numbered.{numbered-length, numbered-at, numbered-more}
-use Rattle.rules.specs.History.{History, Tx, Op, zeroth, noTx, tx, op, txCount, opCount, size, isOpen, current, isOpenOf, openOf, anyOpen, writesValue, writeOf, opened, closed, withOp}
+use Rattle.rules.specs.History.{History, Tx, Op, zeroth, noTx, tx, op, txCount, opCount, size, isOpen, current, isOpenOf, openOf, anyOpen, writesValue, writeOf, clashes, mixesKey, opened, closed, withOp}
 use Rattle.rules.proofs.History.{open-count, open-txs, open-old, open-new, close-count, close-whole, close-other}
 use Rattle.demand1.specs.Lawful.{IsOp, IsWrite, IsTx, Over, says-aborted, says-committed, says-unanswered, LawfulHistory}
 use Rattle.demand1.proofs.Events.{same-or}
@@ -67,6 +67,10 @@ module _ (f : ℕ → Bool) (h : History) where
   pub chosen-write : (x v : ℕ) → writeOf (chosen f h) x v ≡ writeOf h x v
   unfolding chosen writeOf writesValue op
   chosen-write x v = refl
+
+  pub chosen-mixes : (x : ℕ) → mixesKey (chosen f h) x ≡ mixesKey h x
+  unfolding chosen mixesKey clashes op
+  chosen-mixes x = refl
 
   abbrev then : ℕ → Tx
   then t = record { session = tx h t .session; status = statusBy f t (tx h t .status) }

@@ -14,7 +14,7 @@ use Rattle.rules.specs.Records.{isSecond, fieldsAt, eventAt}
 use Rattle.rules.specs.Reading.{State, eventIn, met, refusalNo, isEnd, after}
 use Rattle.rules.proofs.Walking.{by-turn}
 use Rattle.demand1.specs.Rows.{kind, status, Passes}
-use Rattle.demand1.proofs.Events.{Framed, Shape, open-record, read-record, write-record, close-record, end-record, note-record, edition-record, passes-framed, shape, close-length, close-event}
+use Rattle.demand1.proofs.Events.{Framed, Shape, open-record, read-record, write-record, close-record, end-record, note-record, edition-record, append-record, list-record, passes-framed, shape, close-length, close-event}
 use Rattle.demand1.proofs.Steps.{after-within}
 use Rattle.choices.specs.Choices.{outcomeOf, isUnansweredClose, chosenAt, chosenFrom}
 use Rattle.choices.proofs.Turns.{none-refuses}
@@ -34,6 +34,8 @@ module _ {s : List ℕ} {at : ℕ} (w : Framed s at) where
       go (end-record k e) = absurd (false≢true (rw e at t))
       go (note-record k e) = absurd (false≢true (rw e at t))
       go (edition-record k e) = absurd (false≢true (rw e at t))
+      go (append-record k e) = absurd (false≢true (rw e at t))
+      go (list-record k e) = absurd (false≢true (rw e at t))
 
   pub close-unanswered : kind s at ≡ 4 → status s at ≡ 2 → isUnansweredClose (eventAt s at) ≡ true
   unfolding isUnansweredClose

@@ -10,7 +10,7 @@ use borrow.Author.Tests.{ltb-false, eqb-true, eqb-false, le-ltb}
 use Rattle.base.proofs.Tests.{ifso, pick-of}
 use Rattle.rules.specs.History.{History}
 use Rattle.rules.specs.Records.{isSecond, sessionAt, eventAt}
-use Rattle.rules.specs.Reading.{misplaced, unlawful, excess, repeats, stepRows, entered, isEnd, notesBehind, State, eventIn, metBy, met, refusalNo, after, refused, read, finished}
+use Rattle.rules.specs.Reading.{misplaced, unlawful, excess, repeats, stepRows, mixes, mixRows, entered, isEnd, notesBehind, State, eventIn, metBy, met, refusalNo, after, refused, read, finished}
 use Rattle.rules.specs.declared.Event.{Event}
 use Rattle.rules.specs.declared.Event.the-variants.{Open, Read, Write, Close, End, Note, Other}
 use Rattle.rules.proofs.Meeting.{met-first, met-second}
@@ -18,7 +18,7 @@ use Rattle.demand1.specs.Rows.{Passes}
 use Rattle.demand1.proofs.Agree.{agree-len, agree-serial, agree-frame}
 use Rattle.demand1.proofs.Refusals.{refusal-none}
 use Rattle.choices.specs.Choices.{statusBy, chosen, chosenReading, isUnansweredClose}
-use Rattle.choices.proofs.Chosen.{outcome-most, status-chosen, status-kept, chosen-op-count, chosen-count, chosen-write, chosen-current, chosen-open-of, chosen-any, chosen-with-op, chosen-opened, chosen-closed}
+use Rattle.choices.proofs.Chosen.{outcome-most, status-chosen, status-kept, chosen-op-count, chosen-count, chosen-write, chosen-mixes, chosen-current, chosen-open-of, chosen-any, chosen-with-op, chosen-opened, chosen-closed}
 use Rattle.choices.proofs.Agree.{SameFront}
 
 -- ── a turn of the walk ──
@@ -96,7 +96,18 @@ module _ (f : ℕ → Bool) where
   by-rows h u t Note = refl
   by-rows h u t Other = refl
 
-  -- .. ask the same of a history with the chosen outcomes
+  -- row 17
+  by-mixed : (h : History) (t : ℕ) (e : Event) → mixRows h (eventBy t e) ≡ mixRows h e
+  unfolding eventBy mixRows mixes
+  by-mixed h t (Open s) = refl
+  by-mixed h t (Read x v) = refl
+  by-mixed h t (Write x v) = refl
+  by-mixed h t (Close c) = refl
+  by-mixed h t (End n) = refl
+  by-mixed h t Note = refl
+  by-mixed h t Other = refl
+
+  -- all ask the same of a history with the chosen outcomes
   chosen-rows : (h : History) (u : ℕ) (e : Event) → stepRows (chosen f h) u e ≡ stepRows h u e
   unfolding stepRows misplaced unlawful excess repeats
   chosen-rows h u (Open s) = rw (chosen-count f h)
@@ -106,6 +117,16 @@ module _ (f : ℕ → Bool) where
   chosen-rows h u (End n) = rw (chosen-count f h)
   chosen-rows h u Note = refl
   chosen-rows h u Other = refl
+
+  chosen-mixed : (h : History) (e : Event) → mixRows (chosen f h) e ≡ mixRows h e
+  unfolding mixRows mixes
+  chosen-mixed h (Open s) = refl
+  chosen-mixed h (Read x v) = rw (chosen-mixes f h x)
+  chosen-mixed h (Write x v) = rw (chosen-mixes f h x)
+  chosen-mixed h (Close c) = refl
+  chosen-mixed h (End n) = refl
+  chosen-mixed h Note = refl
+  chosen-mixed h Other = refl
 
   -- which open transaction is met
   chosen-met : (h : History) (n : ℕ) (d e : Event) → isEnd d ≡ isEnd e → metBy (chosen f h) n d ≡ metBy h n e
@@ -155,17 +176,19 @@ module _ (f : ℕ → Bool) where
 
     -- the rows that refuse it, by its event
     same-refusal : {e : Event} → eventAt b (st .at) ≡ e → isEnd e ≡ isEnd (eventIn s st)
-        → stepRows h (met s st) e ≡ stepRows h (met s st) (eventIn s st) → refusalNo b (chosenState st) ≡ refusalNo s st
+        → stepRows h (met s st) e ≡ stepRows h (met s st) (eventIn s st) → mixRows h e ≡ mixRows h (eventIn s st) → refusalNo b (chosenState st) ≡ refusalNo s st
     unfolding refusalNo
-    same-refusal {e} q d r = rw (agree-frame (x .head) (st .serial), met-same (ap isEnd q ∙ d), q, chosen-rows h (met s st) e, r)
+    same-refusal {e} q d r m =
+        rw (agree-frame (x .head) (st .serial), met-same (ap isEnd q ∙ d), q, chosen-rows h (met s st) e, chosen-mixed h e, r, m)
 
     pub refusal-same : eventAt b (st .at) ≡ eventAt s (st .at) → refusalNo b (chosenState st) ≡ refusalNo s st
-    refusal-same q = same-refusal q refl refl
+    refusal-same q = same-refusal q refl refl refl
 
     -- its event is that of s with the chosen outcome
     module _ (q : eventAt b (st .at) ≡ eventBy (met s st) (eventAt s (st .at))) where
       pub refusal-by : refusalNo b (chosenState st) ≡ refusalNo s st
-      refusal-by = same-refusal q (by-end (met s st) (eventIn s st)) (by-rows h (met s st) (met s st) (eventIn s st))
+      refusal-by =
+          same-refusal q (by-end (met s st) (eventIn s st)) (by-rows h (met s st) (met s st) (eventIn s st)) (by-mixed h (met s st) (eventIn s st))
 
       pub end-by : isEnd (eventIn b (chosenState st)) ≡ isEnd (eventIn s st)
       end-by = ap isEnd q ∙ by-end (met s st) (eventIn s st)

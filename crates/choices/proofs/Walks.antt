@@ -55,6 +55,9 @@ module _ (f : ℕ → Bool) (s : List ℕ) where
             header = near (st .at) (st .at + 8) (omega arith) (omega arith) (λ i l _ q. omega arith);
             second = g .second;
             says = λ k. front (λ c. absurd (omega arith));
+            counts =
+                λ k _.
+                agree-le (near (st .at + 14) (st .at + 16) (omega arith) (omega arith) (λ i l c _. omega arith)) 2 (st .at + 14) (omega arith) (omega arith);
           };
           of-session = λ e. front (λ _. e);
         }

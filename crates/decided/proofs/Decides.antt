@@ -33,7 +33,7 @@ module _ (s : List ℕ) (level : ℕ) (fs ps os : List ℕ) where
     refused : {n p : ℕ} → Declines s level (length fs) (length ps) (length os) n p → Demanded (declining n p)
 
   -- its numbers are small
-  refusal-small : {n p : ℕ} → n ≤ 14 → p ≤ 65536 → InFourBytes (declining n p)
+  refusal-small : {n p : ℕ} → n ≤ 17 → p ≤ 65536 → InFourBytes (declining n p)
   refusal-small l m = record { findings = omega arith; pairs = omega arith; order = omega arith; no = omega arith; place = omega arith }
 
   declined-small : {n p : ℕ} → Declines s level (length fs) (length ps) (length os) n p → InFourBytes (declining n p)

@@ -1,17 +1,19 @@
 -- A record is read the same where its bytes are the same.
-use Prim.Native.Nat.{ℕ, zero, suc, _+_, _-_, _<_, _≤_}
+use Prim.Native.Nat.{ℕ, zero, suc, _+_, _-_, _*_, _<_, _≤_}
 use mathlib.Core.Path.{_≡_, refl}
+use mathlib.Core.Bool.{false}
 use mathlib.Core.List.{List}
+use mathlib.Core.Logic.{⊎-elim}
 use native.Mathlib.Omega.{arith}
 use lib.Dec.{eqb}
 use lib.ListN.{length, getD, take, drop, length-take, length-drop}
 use lib.Seq.{getD-take, getD-drop, ext-getD}
-use borrow.Author.Tests.{eqb-true}
-use Rattle.base.specs.Base.{_and_}
-use Rattle.base.proofs.Tests.{ifso}
+use borrow.Author.Tests.{eqb-true, ne-eqb}
+use Rattle.base.specs.Base.{_and_, pick}
+use Rattle.base.proofs.Tests.{ifso, and-no-right, split}
 use Rattle.rules.specs.Numbers.{le, part}
-use Rattle.rules.specs.Records.{nextAt, isSecond, eventAt, breaks, isOtherEdition, frameRows}
-use Rattle.demand1.specs.Rows.{len, kind, serial, edition}
+use Rattle.rules.specs.Records.{nextAt, isSecond, isListRead, eventAt, breaks, isMisfit, isOtherEdition, frameRows}
+use Rattle.demand1.specs.Rows.{len, kind, serial, number, edition}
 
 -- s and b are equally long, and have the same bytes from a to before e
 pub record Agree (s b : List ℕ) (a e : ℕ) : Type 0 where
@@ -57,11 +59,13 @@ pub agree-second : {s b : List ℕ} → Agree s b 0 8 → isSecond b ≡ isSecon
 unfolding isSecond
 agree-second x = rw (x .long, agree-kind x)
 
--- the records of s and b at `at` have the same header in traces of the same edition; a kind 16 record says the same
+-- the records of s and b at `at` have the same header in traces of the same edition; a kind 16 record says the same, and a list read that is long enough to have
+-- a number has the same
 pub record SameHead (s b : List ℕ) (at : ℕ) : Type 0 where
   pub header : Agree s b at (at + 8)
   pub second : isSecond b ≡ isSecond s
   pub says : kind s at ≡ 16 → edition b at ≡ edition s at
+  pub counts : kind s at ≡ 24 → 14 ≤ len s at → number b at ≡ number s at
 
 module _ {s b : List ℕ} {at : ℕ} (x : SameHead s b at) where
   -- its length
@@ -73,10 +77,21 @@ module _ {s b : List ℕ} {at : ℕ} (x : SameHead s b at) where
   unfolding isOtherEdition _and_
   agree-edition = ifso (eqb (kind s at) 16) (λ t. rw (x .says (eqb-true (kind s at) 16 t))) (λ t. rw t)
 
+  -- .. and has no number; a list read that is too short for one has a wrong length, whatever it would be
+  agree-fit : isMisfit (isSecond s) (kind s at) (len s at) (number b at) ≡ isMisfit (isSecond s) (kind s at) (len s at) (number s at)
+  unfolding isMisfit isListRead pick
+  agree-fit =
+      ifso (eqb (kind s at) 24)
+      (λ t.
+      ⊎-elim
+      (λ (l : len s at < 14). rw (ne-eqb (len s at) (14 + 8 * number b at) (λ e. omega arith), ne-eqb (len s at) (14 + 8 * number s at) (λ e. omega arith)))
+      (λ l. rw (x .counts (eqb-true (kind s at) 24 t) l)) (split (len s at) 14))
+      (λ t. rw (t, and-no-right (isSecond s) false refl))
+
   -- rows 3 to 6, and a kind 16 record's
   pub agree-frame : (n : ℕ) → frameRows (isSecond b) b at n ≡ frameRows (isSecond s) s at n
   unfolding frameRows breaks
-  agree-frame n = rw (x .header .long, x .second, agree-len, agree-kind (x .header), agree-serial (x .header), agree-edition)
+  agree-frame n = rw (x .header .long, x .second, agree-len, agree-kind (x .header), agree-serial (x .header), agree-fit, agree-edition)
 
   -- .. and its payload too
   pub agree-event : Agree s b at (nextAt s at) → eventAt b at ≡ eventAt s at

@@ -10,9 +10,9 @@ use Rattle.rules.specs.History.{History, Op, tx, op, txCount, opCount, empty, o
 use Rattle.rules.specs.Records.{isSecond}
 use Rattle.rules.specs.Reading.{State}
 use Rattle.demand1.specs.Lawful.{IsOp, IsWrite, IsTx, Over, says-aborted, says-committed, says-unanswered, LawfulHistory}
-use Rattle.demand1.specs.Rows.{kind, session, status, opIn, Inside, OpenOf, Misplaced, Passes, inPlace, valueLawful, withinLimit, newWrite, open-inside, read-outside, write-outside, close-outside, end-inside, end-with-open, in-first, in-second, written-0, status-above-2, open-128th, read-1025th, write-1025th, Whose, the-latest, of-its-session, Next, after-open, after-read, after-write, after-close, after-note, after-edition, Reaches, start, on, ReadInto, to-the-end, HasHistory}
+use Rattle.demand1.specs.Rows.{kind, session, status, opIn, appendIn, listIn, Inside, OpenOf, Misplaced, Passes, inPlace, valueLawful, withinLimit, newWrite, open-inside, read-outside, write-outside, close-outside, end-inside, end-with-open, in-first, in-second, written-0, appended-0, status-above-2, open-128th, read-1025th, write-1025th, append-1025th, list-1025th, write-again, append-again, list-again, Whose, the-latest, of-its-session, Next, after-open, after-read, after-write, after-append, after-list, after-close, after-note, after-edition, Reaches, start, on, ReadInto, to-the-end, HasHistory}
 use Rattle.rules.proofs.History.{with-op-count, with-op-old, with-op-new, open-count, open-old, open-new, close-count, close-this, close-other}
-use Rattle.demand1.proofs.Events.{same-or, at-least, below}
+use Rattle.demand1.proofs.Events.{same-or, at-least, below, passes-framed, list-behind}
 use Rattle.demand1.proofs.Steps.{inside}
 
 -- ── operations ──
@@ -190,6 +190,11 @@ module _ (s : List ℕ) (st : State) (p : Passes s st) (g : Growing (isSecond s)
   whose-tx (the-latest e) m = record { from = inside s st p e m .0; to = omega arith }
   whose-tx (of-its-session e o) m = o .is-tx
 
+  -- .. which in edition 2 its session has
+  in-second-tx : {t : ℕ} → Whose s st t → isSecond s ≡ true → IsTx (st .history) t
+  in-second-tx (the-latest e) q = absurd (clash q e)
+  in-second-tx (of-its-session e o) q = o .is-tx
+
   -- a passing record leaves the history growing
   grown : {x : State} → Next s st x → Growing (isSecond s) (x .history)
   unfolding opened closed
@@ -203,7 +208,13 @@ module _ (s : List ℕ) (st : State) (p : Passes s st) (g : Growing (isSecond s)
       (λ w. absurd (clash w refl))
   grown (after-write {t} k w) =
       grown-op (opIn s (st .at) t true) g (whose-tx w (write-outside k)) (below _ 1024 (λ l. p withinLimit (write-1025th k l)))
-      (λ _ z. p valueLawful (written-0 k z)) (λ _ i w. p newWrite (record { writes = k; by = i; earlier = w }))
+      (λ _ z. p valueLawful (written-0 k z)) (λ _ i w. p newWrite (write-again k w))
+  grown (after-append {t} k w) =
+      grown-op (appendIn s (st .at) t) g (in-second-tx w (passes-framed p .sized .append-second k)) (below _ 1024 (λ l. p withinLimit (append-1025th k l)))
+      (λ _ z. p valueLawful (appended-0 k z)) (λ _ i w. p newWrite (append-again k w))
+  grown (after-list {t} k w) =
+      grown-op (listIn s (st .at) t) g (in-second-tx w (passes-framed p .sized .list-second k)) (below _ 1024 (λ l. p withinLimit (list-1025th k l)))
+      (λ _ z. omega (arith, list-behind (passes-framed p) k)) (λ _ i w. p newWrite (list-again k w))
   grown (after-close {t} k w) =
       let h = st .history in
       record {

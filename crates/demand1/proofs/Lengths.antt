@@ -2,7 +2,7 @@
 use Prim.Native.Nat.{ℕ, _+_, _<_, _≤_}
 use mathlib.Core.Path.{_≡_, ap}
 use mathlib.Core.List.{List, [], _∷_}
-use mathlib.Core.Logic.{_⊎_, inl, inr}
+use mathlib.Core.Logic.{_⊎_, inl, inr, ⊎-elim}
 use native.Mathlib.Omega.{arith}
 use lib.ListN.{length, length-append}
 use Rattle.base.specs.Base.{pick, listed, those}
@@ -81,24 +81,24 @@ lawful-reading s e = lawful-history (has-read e)
 
 -- ── a refusal ──
 
--- rows 2 to 11
-pub refused-numbers : {s : List ℕ} {n p : ℕ} → Refuses s n p → (2 ≤ n) × (n ≤ 11)
-refused-numbers (too-long l) = (omega arith, omega arith)
-refused-numbers (at-record {c = c} l r f) = (omega (arith, number-least c), omega (arith, number-most c))
-refused-numbers (bytes-behind l r p k b) = (omega arith, omega arith)
+-- rows 2 to 11, and 17
+pub refused-numbers : {s : List ℕ} {n p : ℕ} → Refuses s n p → ((2 ≤ n) × (n ≤ 11)) ⊎ (n ≡ 17)
+refused-numbers (too-long l) = inl (omega arith, omega arith)
+refused-numbers (at-record {c = c} l r f) = ⊎-elim (λ m. inl (omega (arith, number-least c), omega arith)) inr (number-most c)
+refused-numbers (bytes-behind l r p k b) = inl (omega arith, omega arith)
 
 refused-place : {s : List ℕ} {n p : ℕ} → Refuses s n p → p ≤ 32768
 refused-place (too-long l) = omega arith
 refused-place (at-record l r f) = omega (arith, reached-within r)
 refused-place (bytes-behind l r p k b) = omega arith
 
-pub refused-small : {s : List ℕ} {n p : ℕ} → Refuses s n p → (n ≤ 11) × (p ≤ 32768)
-refused-small r = (refused-numbers r .1, refused-place r)
+pub refused-small : {s : List ℕ} {n p : ℕ} → Refuses s n p → (n ≤ 17) × (p ≤ 32768)
+refused-small r = (⊎-elim (λ m. omega (arith, m .1)) (λ e. omega arith) (refused-numbers r), refused-place r)
 
--- "15 is no longer given": a table whose numbers end before it, or go on with 16, does not have it
-pub not-15 : {low high n : ℕ} → high ≤ 14 → ((low ≤ n) × (n ≤ high)) ⊎ (n ≡ 16) → n ≡ 15 → ⊥
+-- "15 is no longer given": a table whose numbers end before it, or go on with 16 or 17, does not have it
+pub not-15 : {low high n : ℕ} → high ≤ 14 → ((low ≤ n) × (n ≤ high)) ⊎ (16 ≤ n) → n ≡ 15 → ⊥
 not-15 h (inl m) e = omega (arith, m .1)
 not-15 h (inr q) e = omega arith
 
 pub refused-never-15 : {s : List ℕ} {n p : ℕ} → Refuses s n p → n ≡ 15 → ⊥
-refused-never-15 r = not-15 (omega arith) (inl (refused-numbers r))
+refused-never-15 r = not-15 {low = 2} (omega arith) (⊎-elim inl (λ e. inr (omega arith)) (refused-numbers r))

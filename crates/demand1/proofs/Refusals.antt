@@ -3,14 +3,14 @@ use Prim.Native.Nat.{ℕ, suc, _<_, _≤_}
 use mathlib.Core.Path.{_≡_, refl, ap, sym, _∙_}
 use mathlib.Core.Bool.{Bool, true}
 use mathlib.Core.List.{List, [], _∷_, _++_}
-use mathlib.Core.Logic.{⊎-elim, _↔_}
+use mathlib.Core.Logic.{_⊎_, inl, inr, ⊎-elim, _↔_}
 use native.Mathlib.Omega.{arith}
 use lib.ListN.{getD}
 use Rattle.base.specs.Base.{Row, row, firstFit}
 use Rattle.base.proofs.Tests.{ifso, clash, split}
 use Rattle.rules.specs.Records.{isSecond, frameRows}
-use Rattle.rules.specs.Reading.{State, eventIn, met, refusalNo, stepRows}
-use Rattle.demand1.specs.Rows.{Check, lengthField, lengthLow, bytesThere, serialFollows, kindKnown, lengthFits, editionFirst, editionIs2, inPlace, valueLawful, withinLimit, newWrite, rank, numberOf, Fails, NoneFails, Passes, FirstFailing}
+use Rattle.rules.specs.Reading.{State, eventIn, met, refusalNo, stepRows, mixRows}
+use Rattle.demand1.specs.Rows.{Check, lengthField, lengthLow, bytesThere, serialFollows, kindKnown, lengthFits, editionFirst, editionIs2, inPlace, valueLawful, withinLimit, newWrite, oneSort, rank, numberOf, Fails, NoneFails, Passes, FirstFailing}
 use Rattle.demand1.specs.Tests.{test}
 use Rattle.demand1.proofs.Events.{Clear}
 use Rattle.demand1.proofs.Checks.{check-row}
@@ -20,29 +20,30 @@ use Rattle.demand1.proofs.Checks.{check-row}
 -- the check at a place
 abbrev checkOf : ℕ → Check
 checkOf n =
-    getD (lengthField ∷ lengthLow ∷ bytesThere ∷ serialFollows ∷ kindKnown ∷ lengthFits ∷ editionFirst ∷ editionIs2 ∷ inPlace ∷ valueLawful ∷ withinLimit ∷ newWrite ∷ []) n lengthField
+    getD (lengthField ∷ lengthLow ∷ bytesThere ∷ serialFollows ∷ kindKnown ∷ lengthFits ∷ editionFirst ∷ editionIs2 ∷ inPlace ∷ valueLawful ∷ withinLimit ∷ newWrite ∷ oneSort ∷ []) n lengthField
 
 -- a check's place in the order, and its number
 record Placed (c : Check) : Type 0 where
   pub is : checkOf (rank c) ≡ c
-  pub below : rank c < 12
+  pub below : rank c < 13
   pub least : 3 ≤ numberOf c
-  pub most : numberOf c ≤ 10
+  pub most : (numberOf c ≤ 10) ⊎ (numberOf c ≡ 17)
 
 -- each has one
 placed : (c : Check) → Placed c
-placed lengthField = record { is = refl; below = omega arith; least = omega arith; most = omega arith }
-placed lengthLow = record { is = refl; below = omega arith; least = omega arith; most = omega arith }
-placed bytesThere = record { is = refl; below = omega arith; least = omega arith; most = omega arith }
-placed serialFollows = record { is = refl; below = omega arith; least = omega arith; most = omega arith }
-placed kindKnown = record { is = refl; below = omega arith; least = omega arith; most = omega arith }
-placed lengthFits = record { is = refl; below = omega arith; least = omega arith; most = omega arith }
-placed editionFirst = record { is = refl; below = omega arith; least = omega arith; most = omega arith }
-placed editionIs2 = record { is = refl; below = omega arith; least = omega arith; most = omega arith }
-placed inPlace = record { is = refl; below = omega arith; least = omega arith; most = omega arith }
-placed valueLawful = record { is = refl; below = omega arith; least = omega arith; most = omega arith }
-placed withinLimit = record { is = refl; below = omega arith; least = omega arith; most = omega arith }
-placed newWrite = record { is = refl; below = omega arith; least = omega arith; most = omega arith }
+placed lengthField = record { is = refl; below = omega arith; least = omega arith; most = inl (omega arith) }
+placed lengthLow = record { is = refl; below = omega arith; least = omega arith; most = inl (omega arith) }
+placed bytesThere = record { is = refl; below = omega arith; least = omega arith; most = inl (omega arith) }
+placed serialFollows = record { is = refl; below = omega arith; least = omega arith; most = inl (omega arith) }
+placed kindKnown = record { is = refl; below = omega arith; least = omega arith; most = inl (omega arith) }
+placed lengthFits = record { is = refl; below = omega arith; least = omega arith; most = inl (omega arith) }
+placed editionFirst = record { is = refl; below = omega arith; least = omega arith; most = inl (omega arith) }
+placed editionIs2 = record { is = refl; below = omega arith; least = omega arith; most = inl (omega arith) }
+placed inPlace = record { is = refl; below = omega arith; least = omega arith; most = inl (omega arith) }
+placed valueLawful = record { is = refl; below = omega arith; least = omega arith; most = inl (omega arith) }
+placed withinLimit = record { is = refl; below = omega arith; least = omega arith; most = inl (omega arith) }
+placed newWrite = record { is = refl; below = omega arith; least = omega arith; most = inl (omega arith) }
+placed oneSort = record { is = refl; below = omega arith; least = omega arith; most = inr refl }
 
 -- a place has one check
 same-rank : (c d : Check) → rank c ≡ rank d → c ≡ d
@@ -55,8 +56,8 @@ number-least c = placed c .least
 pub number-positive : (c : Check) → 0 < numberOf c
 number-positive c = omega (arith, number-least c)
 
--- and none is above 10
-pub number-most : (c : Check) → numberOf c ≤ 10
+-- and none is above 10 but 17
+pub number-most : (c : Check) → (numberOf c ≤ 10) ⊎ (numberOf c ≡ 17)
 number-most c = placed c .most
 
 -- ── the first that fails ──
@@ -96,7 +97,7 @@ module _ (F : Check → Type 0) (passes : Check → Bool) (tells : (c : Check) �
       }
 
   -- no row is left
-  pub told-end : Clear F 12 → RowTold []
+  pub told-end : Clear F 13 → RowTold []
   unfolding firstFit
   told-end q = record { is = passing (λ c. q c (placed c .below)) }
 
@@ -124,10 +125,10 @@ module _ (s : List ℕ) (st : State) where
   FirstOf = First (Fails s st) (test s st) (check-row s st)
 
   pub first : FirstOf (refusalNo s st)
-  unfolding refusalNo frameRows stepRows
+  unfolding refusalNo frameRows stepRows mixRows
   first = rows .is
     where
-      rows : RowTold (Fails s st) (test s st) (check-row s st) (frameRows (isSecond s) s (st .at) (st .serial) ++ stepRows (st .history) (met s st) (eventIn s st))
+      rows : RowTold (Fails s st) (test s st) (check-row s st) (frameRows (isSecond s) s (st .at) (st .serial) ++ stepRows (st .history) (met s st) (eventIn s st) ++ mixRows (st .history) (eventIn s st))
       rows =
           told-row (Fails s st) (test s st) (check-row s st) lengthField (λ d l _. omega arith)
           (λ p1. told-row (Fails s st) (test s st) (check-row s st) lengthLow p1
@@ -140,7 +141,8 @@ module _ (s : List ℕ) (st : State) where
           (λ p8. told-row (Fails s st) (test s st) (check-row s st) inPlace p8
           (λ p9. told-row (Fails s st) (test s st) (check-row s st) valueLawful p9
           (λ p10. told-row (Fails s st) (test s st) (check-row s st) withinLimit p10
-          (λ p11. told-row (Fails s st) (test s st) (check-row s st) newWrite p11 (told-end (Fails s st) (test s st) (check-row s st)))))))))))))
+          (λ p11. told-row (Fails s st) (test s st) (check-row s st) newWrite p11
+          (λ p12. told-row (Fails s st) (test s st) (check-row s st) oneSort p12 (told-end (Fails s st) (test s st) (check-row s st))))))))))))))
 
   -- no row refuses a record exactly if it passes every check
   pub refusal-none : (refusalNo s st ≡ 0) ↔ Passes s st

@@ -13,7 +13,7 @@ use Rattle.rules.specs.Records.{isSecond}
 use Rattle.rules.specs.Reading.{State}
 use Rattle.rules.proofs.History.{with-op-tx, open-count, open-old, open-new, close-count, close-this, close-other}
 use Rattle.demand1.specs.Lawful.{IsTx}
-use Rattle.demand1.specs.Rows.{kind, session, OpenOf, OneOpenEach, open-again, in-second, status-above-2, Passes, inPlace, valueLawful, the-latest, of-its-session, Next, after-open, after-read, after-write, after-close, after-note, after-edition, Reaches, start, on}
+use Rattle.demand1.specs.Rows.{kind, session, OpenOf, OneOpenEach, open-again, in-second, status-above-2, Passes, inPlace, valueLawful, the-latest, of-its-session, Next, after-open, after-read, after-write, after-append, after-list, after-close, after-note, after-edition, Reaches, start, on}
 use Rattle.demand1.proofs.Events.{same-or, at-least}
 
 -- "Edition 2 of the trace begins with a kind 16 record"
@@ -63,6 +63,8 @@ one-more s st second p one (after-open k) n t u a b =
     m = session s (st .at)
 one-more s st second p one (after-read k w) n t u a b = one n t u (with-open (st .history) _ a) (with-open (st .history) _ b)
 one-more s st second p one (after-write k w) n t u a b = one n t u (with-open (st .history) _ a) (with-open (st .history) _ b)
+one-more s st second p one (after-append k w) n t u a b = one n t u (with-open (st .history) _ a) (with-open (st .history) _ b)
+one-more s st second p one (after-list k w) n t u a b = one n t u (with-open (st .history) _ a) (with-open (st .history) _ b)
 one-more s st second p one (after-close k (the-latest e)) n t u a b = absurd (clash second e)
 one-more s st second p one (after-close k (of-its-session {t = c} e o)) n t u a b =
     let l = at-least _ 2 (λ g. p valueLawful (status-above-2 k g)) in

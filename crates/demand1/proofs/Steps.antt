@@ -1,19 +1,20 @@
 -- What a passing record leaves is what the reading computes.
 use Prim.Native.Nat.{ℕ, _+_, _≤_}
-use mathlib.Core.Path.{_≡_, refl}
+use mathlib.Core.Path.{_≡_, refl, ap, _∙_}
 use mathlib.Core.Bool.{true, false}
 use mathlib.Core.List.{List}
 use mathlib.Core.Logic.{⊎-elim}
 use native.Mathlib.Omega.{arith}
 use lib.ListN.{length}
 use Rattle.base.proofs.Tests.{clash, ifso, split}
-use Rattle.rules.specs.History.{openOf, withOp, closed}
+use Rattle.rules.specs.History.{openOf, listKey, withOp, closed}
 use Rattle.rules.specs.Records.{isSecond}
 use Rattle.rules.specs.Reading.{State, after, entered, notesBehind, isEnd, eventIn, met}
+use Rattle.rules.specs.declared.Event.the-variants.{Write}
 use Rattle.rules.proofs.Meeting.{met-first, met-second, met-session}
-use Rattle.demand1.specs.Rows.{kind, session, status, Inside, OpenOf, OneOpenEach, Misplaced, Astray, in-first, in-second, Passes, inPlace, read-outside, read-of-none, write-outside, write-of-none, close-outside, close-of-none, Whose, the-latest, of-its-session, opIn, moved, Next, after-open, after-read, after-write, after-close, after-note, after-edition}
+use Rattle.demand1.specs.Rows.{kind, session, key, status, number, Inside, OpenOf, OneOpenEach, Misplaced, Astray, in-first, in-second, Passes, inPlace, valueLawful, number-33, read-outside, read-of-none, write-outside, write-of-none, append-of-none, list-of-none, close-outside, close-of-none, Whose, the-latest, of-its-session, opIn, appendIn, listIn, moved, Next, after-open, after-read, after-write, after-append, after-list, after-close, after-note, after-edition}
 use Rattle.demand1.proofs.Histories.{inside-current, inside-or-not, open-found, open-known}
-use Rattle.demand1.proofs.Events.{passes-framed, Shape, open-record, read-record, write-record, close-record, end-record, note-record, edition-record, shape, open-event, read-event, write-event, close-event, end-event, note-event, edition-event}
+use Rattle.demand1.proofs.Events.{at-least, passes-framed, Shape, open-record, read-record, write-record, close-record, end-record, note-record, edition-record, append-record, list-record, shape, open-event, read-event, write-event, close-event, end-event, note-event, edition-event, append-event, list-event, list-place}
 
 -- one transaction at most is meant
 pub whose-one : {s : List ℕ} {st : State} {t u : ℕ} → (isSecond s ≡ true → OneOpenEach (st .history)) → Whose s st t → Whose s st u → t ≡ u
@@ -40,6 +41,8 @@ module _ (s : List ℕ) (st : State) (p : Passes s st) where
       go (end-record k e) = absurd (d k)
       go (note-record k e) = rw e
       go (edition-record k e) = rw e
+      go (append-record k e) = rw e
+      go (list-record k e) = rw e
 
   -- ── a record that belongs to a transaction ──
 
@@ -56,11 +59,15 @@ module _ (s : List ℕ) (st : State) (p : Passes s st) where
       ⊎-elim (λ l. open-found h n l) (λ z. absurd (p inPlace (in-second e (m (λ t o. omega (arith, z, open-known h o)))))) (split 0 (openOf h n))
 
   -- the one that is met
+  of-second : isSecond s ≡ true → (kind s (st .at) ≡ 5 → ⊥)
+      → (((t : ℕ) → OpenOf (st .history) (session s (st .at)) t → ⊥) → Astray (kind s (st .at)) (session s (st .at)) (st .history)) → Whose s st (met s st)
+  of-second e d a = rw (met-second s st e, met-session (st .history) (session s (st .at)) (eventIn s st) (not-end d)) (of-its-session e (its-own e a))
+
   belongs : (kind s (st .at) ≡ 5 → ⊥) → ((Inside (st .history) → ⊥) → Misplaced (kind s (st .at)) (st .history))
       → (((t : ℕ) → OpenOf (st .history) (session s (st .at)) t → ⊥) → Astray (kind s (st .at)) (session s (st .at)) (st .history)) → Whose s st (met s st)
   belongs d m a =
       ifso (isSecond s)
-      (λ e. rw (met-second s st e, met-session (st .history) (session s (st .at)) (eventIn s st) (not-end d)) (of-its-session e (its-own e a)))
+      (λ e. of-second e d a)
       (λ e. rw (met-first s st e, inside-current (st .history) (inside e m)) (the-latest e))
 
   pub read-of : kind s (st .at) ≡ 2 → Whose s st (met s st)
@@ -68,6 +75,13 @@ module _ (s : List ℕ) (st : State) (p : Passes s st) where
 
   pub write-of : kind s (st .at) ≡ 3 → Whose s st (met s st)
   write-of k = belongs (λ e. omega arith) (write-outside k) (write-of-none k)
+
+  -- appends and list reads are of edition 2
+  pub append-of : kind s (st .at) ≡ 23 → Whose s st (met s st)
+  append-of k = of-second (passes-framed p .sized .append-second k) (λ e. omega arith) (append-of-none k)
+
+  pub list-of : kind s (st .at) ≡ 24 → Whose s st (met s st)
+  list-of k = of-second (passes-framed p .sized .list-second k) (λ e. omega arith) (list-of-none k)
 
   pub close-of : kind s (st .at) ≡ 4 → Whose s st (met s st)
   close-of k = belongs (λ e. omega arith) (close-outside k) (close-of-none k)
@@ -82,6 +96,20 @@ module _ (s : List ℕ) (st : State) (p : Passes s st) where
   unfolding after entered notesBehind
   write-after k = rw (write-event (passes-framed p) k)
 
+  append-after : kind s (st .at) ≡ 23 → moved s st (withOp (st .history) (appendIn s (st .at) (met s st))) (st .notes) ≡ after s st
+  unfolding after entered notesBehind
+  append-after k = rw (append-event (passes-framed p) k)
+
+  -- a list read that passes has a lawful number, so that its offset is held
+  pub list-held : kind s (st .at) ≡ 24 → eventIn s st ≡ Write (listKey (key s (st .at))) (st .at)
+  list-held k =
+      list-event (passes-framed p) k
+      ∙ ap (Write (listKey (key s (st .at)))) (list-place (st .at) (number s (st .at)) (at-least _ _ (λ l. p valueLawful (number-33 k l))))
+
+  list-after : kind s (st .at) ≡ 24 → moved s st (withOp (st .history) (listIn s (st .at) (met s st))) (st .notes) ≡ after s st
+  unfolding after entered notesBehind
+  list-after k = rw (list-held k)
+
   close-after : kind s (st .at) ≡ 4 → moved s st (closed (st .history) (met s st) (status s (st .at))) (st .notes) ≡ after s st
   unfolding after entered notesBehind
   close-after k = rw (close-event (passes-framed p) k)
@@ -92,6 +120,8 @@ module _ (s : List ℕ) (st : State) (p : Passes s st) where
   next-is one (after-open k) = rw (open-event (passes-framed p) k)
   next-is one (after-read k w) = rw (whose-one one w (read-of k)) (read-after k)
   next-is one (after-write k w) = rw (whose-one one w (write-of k)) (write-after k)
+  next-is one (after-append k w) = rw (whose-one one w (append-of k)) (append-after k)
+  next-is one (after-list k w) = rw (whose-one one w (list-of k)) (list-after k)
   next-is one (after-close k w) = rw (whose-one one w (close-of k)) (close-after k)
   next-is one (after-note k) = rw (note-event s (st .at) k)
   next-is one (after-edition k) = rw (edition-event (passes-framed p) k)
@@ -108,6 +138,8 @@ module _ (s : List ℕ) (st : State) (p : Passes s st) where
       go (end-record k e) = absurd (d k)
       go (note-record k e) = rw e (after-note k)
       go (edition-record k e) = rw (e) (after-edition k)
+      go (append-record k e) = rw (← append-after k) (after-append k (append-of k))
+      go (list-record k e) = rw (← list-after k) (after-list k (list-of k))
 
   -- the end leaves history and notes as they are
   pub end-after : kind s (st .at) ≡ 5 → (after s st .history ≡ st .history) × (after s st .notes ≡ st .notes)
@@ -124,6 +156,8 @@ pub next-not-end : {s : List ℕ} {st x : State} → Next s st x → kind s (st 
 next-not-end (after-open k) e = omega arith
 next-not-end (after-read k w) e = omega arith
 next-not-end (after-write k w) e = omega arith
+next-not-end (after-append k w) e = omega arith
+next-not-end (after-list k w) e = omega arith
 next-not-end (after-close k w) e = omega arith
 next-not-end (after-note k) e = omega arith
 next-not-end (after-edition k) e = omega arith

@@ -1,16 +1,16 @@
--- Document 01's table of refusals, with document 02's second edition, as conditions in their own terms, apart from the functions that compute. The theorems
--- say that the two agree.
-use Prim.Native.Nat.{ℕ, _+_, _%_, _^_, _<_, _≤_}
+-- Document 01's table of refusals, with document 02's second edition and its lists, as conditions in their own terms, apart from the functions that compute.
+-- The theorems say that the two agree.
+use Prim.Native.Nat.{ℕ, _+_, _*_, _%_, _^_, _<_, _≤_}
 use mathlib.Core.Path.{_≡_}
 use mathlib.Core.Bool.{Bool, true, false}
 use mathlib.Core.List.{List}
 use mathlib.Core.Logic.{_⊎_}
 use lib.ListN.{length}
 use Rattle.rules.specs.Numbers.{le}
-use Rattle.rules.specs.History.{History, Op, tx, txCount, opCount, opened, closed, withOp}
+use Rattle.rules.specs.History.{History, Op, tx, op, txCount, opCount, appendKey, listKey, plainKey, opened, closed, withOp}
 use Rattle.rules.specs.Records.{isSecond, fieldsAt}
 use Rattle.rules.specs.Reading.{State, begin}
-use Rattle.demand1.specs.Lawful.{IsTx, IsWrite}
+use Rattle.demand1.specs.Lawful.{IsOp, IsTx, IsWrite}
 
 -- ── a record's fields, by their offsets ──
 
@@ -24,7 +24,7 @@ module _ (s : List ℕ) (at : ℕ) where
   abbrev pub serial : ℕ
   serial = le 4 s (at + 4)
 
-  -- of an open; in edition 2 also of a read, a write or a close, which "have the session before their other fields"
+  -- of an open; in edition 2 also of an operation or a close, which "have the session before their other fields"
   abbrev pub session : ℕ
   session = le 2 s (at + 8)
 
@@ -40,6 +40,10 @@ module _ (s : List ℕ) (at : ℕ) where
 
   abbrev pub endNumber : ℕ
   endNumber = le 2 s (at + 8)
+
+  -- of a list read, "a 2-byte number" behind the session and the key
+  abbrev pub number : ℕ
+  number = le 2 s (at + 14)
 
   -- what a kind 16 record says
   abbrev pub edition : ℕ
@@ -68,7 +72,7 @@ OneOpenEach h = (n t u : ℕ) → OpenOf h n t → OpenOf h n u → t ≡ u
 -- ── the checks of a record, in the document's order ──
 
 pub data Check : Type 0 where
-  lengthField lengthLow bytesThere serialFollows kindKnown lengthFits editionFirst editionIs2 inPlace valueLawful withinLimit newWrite : Check
+  lengthField lengthLow bytesThere serialFollows kindKnown lengthFits editionFirst editionIs2 inPlace valueLawful withinLimit newWrite oneSort : Check
 
 -- the number that each gives
 abbrev pub numberOf : Check → ℕ
@@ -84,6 +88,7 @@ numberOf inPlace = 7
 numberOf valueLawful = 8
 numberOf withinLimit = 9
 numberOf newWrite = 10
+numberOf oneSort = 17
 
 -- its place in the order. The two of a kind 16 record are no other record's, so that 7 and 8 keep their order
 abbrev pub rank : Check → ℕ
@@ -99,6 +104,7 @@ rank inPlace = 8
 rank valueLawful = 9
 rank withinLimit = 10
 rank newWrite = 11
+rank oneSort = 12
 
 -- where F says which checks fail: none does; c is the first that does
 abbrev pub NoneFails : (Check → Type 0) → Type 0
@@ -108,24 +114,32 @@ pub record FirstFailing (F : Check → Type 0) (c : Check) : Type 0 where
   pub fails : F c
   pub none-before : (d : Check) → rank d < rank c → F d → ⊥
 
--- the kinds are 1 to 6 and 16; "6 for a note in edition 2"
+-- "In edition 2 add append (kind 23 ..) and list read (kind 24 ..)"
+pub data OfLists (second : Bool) (k : ℕ) : Type 0 where
+  appends : second ≡ true → k ≡ 23 → OfLists second k
+  lists : second ≡ true → k ≡ 24 → OfLists second k
+
+-- the kinds are 1 to 6 and 16, and in edition 2 those of lists; "6 for a note in edition 2"
 pub data UnknownKind (second : Bool) (k : ℕ) : Type 0 where
   below-1 : k < 1 → UnknownKind second k
-  above-6 : 6 < k → (k ≡ 16 → ⊥) → UnknownKind second k
+  above-6 : 6 < k → (k ≡ 16 → ⊥) → (OfLists second k → ⊥) → UnknownKind second k
   note-in-second : second ≡ true → k ≡ 6 → UnknownKind second k
 
--- the length that the tables give each kind: "Read and write (length 20) and close (length 9)" in edition 2
-pub data WrongLength (second : Bool) (k n : ℕ) : Type 0 where
-  open-not-8 : k ≡ 1 → (n ≡ 8 → ⊥) → WrongLength second k n
-  read-not-18 : second ≡ false → k ≡ 2 → (n ≡ 18 → ⊥) → WrongLength second k n
-  read-not-20 : second ≡ true → k ≡ 2 → (n ≡ 20 → ⊥) → WrongLength second k n
-  write-not-18 : second ≡ false → k ≡ 3 → (n ≡ 18 → ⊥) → WrongLength second k n
-  write-not-20 : second ≡ true → k ≡ 3 → (n ≡ 20 → ⊥) → WrongLength second k n
-  close-not-7 : second ≡ false → k ≡ 4 → (n ≡ 7 → ⊥) → WrongLength second k n
-  close-not-9 : second ≡ true → k ≡ 4 → (n ≡ 9 → ⊥) → WrongLength second k n
-  end-not-8 : k ≡ 5 → (n ≡ 8 → ⊥) → WrongLength second k n
-  note-above-70 : k ≡ 6 → 70 < n → WrongLength second k n
-  edition-not-8 : k ≡ 16 → (n ≡ 8 → ⊥) → WrongLength second k n
+-- the length n that the tables give each kind: "Read and write (length 20) and close (length 9)" in edition 2, "append (.. length 20 ..) and list read (.. length
+-- 14 plus 8 a value)", where m is the number of a list read
+pub data WrongLength (second : Bool) (k n m : ℕ) : Type 0 where
+  open-not-8 : k ≡ 1 → (n ≡ 8 → ⊥) → WrongLength second k n m
+  read-not-18 : second ≡ false → k ≡ 2 → (n ≡ 18 → ⊥) → WrongLength second k n m
+  read-not-20 : second ≡ true → k ≡ 2 → (n ≡ 20 → ⊥) → WrongLength second k n m
+  write-not-18 : second ≡ false → k ≡ 3 → (n ≡ 18 → ⊥) → WrongLength second k n m
+  write-not-20 : second ≡ true → k ≡ 3 → (n ≡ 20 → ⊥) → WrongLength second k n m
+  close-not-7 : second ≡ false → k ≡ 4 → (n ≡ 7 → ⊥) → WrongLength second k n m
+  close-not-9 : second ≡ true → k ≡ 4 → (n ≡ 9 → ⊥) → WrongLength second k n m
+  end-not-8 : k ≡ 5 → (n ≡ 8 → ⊥) → WrongLength second k n m
+  note-above-70 : k ≡ 6 → 70 < n → WrongLength second k n m
+  edition-not-8 : k ≡ 16 → (n ≡ 8 → ⊥) → WrongLength second k n m
+  append-not-20 : second ≡ true → k ≡ 23 → (n ≡ 20 → ⊥) → WrongLength second k n m
+  list-not-its : second ≡ true → k ≡ 24 → (n ≡ 14 + 8 * m → ⊥) → WrongLength second k n m
 
 -- edition 1: "open inside a transaction; read, write or close outside one; end inside one"
 pub data Misplaced (k : ℕ) (h : History) : Type 0 where
@@ -140,6 +154,8 @@ pub data Astray (k n : ℕ) (h : History) : Type 0 where
   open-again : {t : ℕ} → k ≡ 1 → OpenOf h n t → Astray k n h
   read-of-none : k ≡ 2 → ((t : ℕ) → OpenOf h n t → ⊥) → Astray k n h
   write-of-none : k ≡ 3 → ((t : ℕ) → OpenOf h n t → ⊥) → Astray k n h
+  append-of-none : k ≡ 23 → ((t : ℕ) → OpenOf h n t → ⊥) → Astray k n h
+  list-of-none : k ≡ 24 → ((t : ℕ) → OpenOf h n t → ⊥) → Astray k n h
   close-of-none : k ≡ 4 → ((t : ℕ) → OpenOf h n t → ⊥) → Astray k n h
   end-with-open : {m t : ℕ} → k ≡ 5 → OpenOf h m t → Astray k n h
 
@@ -148,24 +164,50 @@ pub data OutOfPlace (second : Bool) (k n : ℕ) (h : History) : Type 0 where
   in-first : second ≡ false → Misplaced k h → OutOfPlace second k n h
   in-second : second ≡ true → Astray k n h → OutOfPlace second k n h
 
--- "written value 0; status above 1; end number wrong", where v, c and n are the value, the status and the end number;
--- of the status document 02 says: "8 now begins at status 3"
-pub data Unlawful (k v c n : ℕ) (h : History) : Type 0 where
-  written-0 : k ≡ 3 → v ≡ 0 → Unlawful k v c n h
-  status-above-2 : k ≡ 4 → 2 < c → Unlawful k v c n h
-  end-wrong : k ≡ 5 → (n ≡ txCount h → ⊥) → Unlawful k v c n h
+-- "written value 0; status above 1; end number wrong", where v, c, n and m are the value, the status, the end number and the number of a list read;
+-- of the status document 02 says: "8 now begins at status 3", of lists: "8 for number 33 and up or an appended 0"
+pub data Unlawful (k v c n m : ℕ) (h : History) : Type 0 where
+  written-0 : k ≡ 3 → v ≡ 0 → Unlawful k v c n m h
+  status-above-2 : k ≡ 4 → 2 < c → Unlawful k v c n m h
+  end-wrong : k ≡ 5 → (n ≡ txCount h → ⊥) → Unlawful k v c n m h
+  appended-0 : k ≡ 23 → v ≡ 0 → Unlawful k v c n m h
+  number-33 : k ≡ 24 → 33 ≤ m → Unlawful k v c n m h
 
--- "128th open, or 1,025th operation"
+-- "128th open, or 1,025th operation"; appends and list reads are "both numbered and limited as operations"
 pub data Excess (k : ℕ) (h : History) : Type 0 where
   open-128th : k ≡ 1 → 127 ≤ txCount h → Excess k h
   read-1025th : k ≡ 2 → 1024 ≤ opCount h → Excess k h
   write-1025th : k ≡ 3 → 1024 ≤ opCount h → Excess k h
+  append-1025th : k ≡ 23 → 1024 ≤ opCount h → Excess k h
+  list-1025th : k ≡ 24 → 1024 ≤ opCount h → Excess k h
 
--- "a write repeats a key and value that an earlier write has, in any transaction"
-pub record Repeated (k x v : ℕ) (h : History) : Type 0 where
-  pub writes : k ≡ 3
+-- "a write repeats a key and value that an earlier write has, in any transaction"; "10 also for a repeated append". A list read, which is held as a write of its
+-- offset p, would repeat one that stands where it stands: no trace has that (`list-read-new`)
+pub data Repeated (k x v p : ℕ) (h : History) : Type 0 where
+  write-again : {i : ℕ} → k ≡ 3 → IsWrite h x v i → Repeated k x v p h
+  append-again : {i : ℕ} → k ≡ 23 → IsWrite h (appendKey x) v i → Repeated k x v p h
+  list-again : {i : ℕ} → k ≡ 24 → IsWrite h (listKey x) p i → Repeated k x v p h
+
+-- the key that the operation of a record is held with, by its kind k and its key x
+pub data HeldKey (k x : ℕ) : ℕ → Type 0 where
+  held-read : k ≡ 2 → HeldKey k x x
+  held-write : k ≡ 3 → HeldKey k x x
+  held-append : k ≡ 23 → HeldKey k x (appendKey x)
+  held-list : k ≡ 24 → HeldKey k x (listKey x)
+
+-- of the keys that two operations are held with, one is of single values and the other of lists
+pub data OtherSort (a b : ℕ) : Type 0 where
+  after-lists : 2 ^ 32 ≤ a → b < 2 ^ 32 → OtherSort a b
+  after-single : a < 2 ^ 32 → 2 ^ 32 ≤ b → OtherSort a b
+
+-- "17, a key with single values and lists": an earlier operation, in any transaction, has the record's key and is of the other sort
+pub record Mixed (k x : ℕ) (h : History) : Type 0 where
+  pub held : ℕ
+  pub holds : HeldKey k x held
   pub by : ℕ
-  pub earlier : IsWrite h x v by
+  pub is-op : IsOp h by
+  pub same-key : plainKey (op h by .key) ≡ plainKey held
+  pub other-sort : OtherSort (op h by .key) held
 
 -- the check fails at the record that a state has come to. Where the trace ends at a record's boundary, "no end record came": no length field is left
 abbrev pub Fails : List ℕ → State → Check → Type 0
@@ -174,13 +216,15 @@ Fails s st lengthLow = len s (st .at) < 6
 Fails s st bytesThere = length s < behind s (st .at)
 Fails s st serialFollows = (0 < st .at) × (serial s (st .at) ≡ st .serial → ⊥)
 Fails s st kindKnown = UnknownKind (isSecond s) (kind s (st .at))
-Fails s st lengthFits = WrongLength (isSecond s) (kind s (st .at)) (len s (st .at))
+Fails s st lengthFits = WrongLength (isSecond s) (kind s (st .at)) (len s (st .at)) (number s (st .at))
 Fails s st editionFirst = (kind s (st .at) ≡ 16) × (0 < st .at)
 Fails s st editionIs2 = (kind s (st .at) ≡ 16) × (edition s (st .at) ≡ 2 → ⊥)
 Fails s st inPlace = OutOfPlace (isSecond s) (kind s (st .at)) (session s (st .at)) (st .history)
-Fails s st valueLawful = Unlawful (kind s (st .at)) (value s (st .at)) (status s (st .at)) (endNumber s (st .at)) (st .history)
+Fails s st valueLawful =
+    Unlawful (kind s (st .at)) (value s (st .at)) (status s (st .at)) (endNumber s (st .at)) (number s (st .at)) (st .history)
 Fails s st withinLimit = Excess (kind s (st .at)) (st .history)
-Fails s st newWrite = Repeated (kind s (st .at)) (key s (st .at)) (value s (st .at)) (st .history)
+Fails s st newWrite = Repeated (kind s (st .at)) (key s (st .at)) (value s (st .at)) (st .at) (st .history)
+Fails s st oneSort = Mixed (kind s (st .at)) (key s (st .at)) (st .history)
 
 abbrev pub Passes : List ℕ → State → Type 0
 Passes s st = NoneFails (Fails s st)
@@ -191,7 +235,7 @@ Passes s st = NoneFails (Fails s st)
 abbrev pub moved : List ℕ → State → History → ℕ → State
 moved s st h notes = record { at = behind s (st .at); serial = (serial s (st .at) + 1) % 2 ^ 32; history = h; notes = notes }
 
--- the transaction that a read, a write or a close belongs to: in edition 1, "Transactions do not overlap", the latest opened; in edition 2 the open one of
+-- the transaction that an operation or a close belongs to: in edition 1, "Transactions do not overlap", the latest opened; in edition 2 the open one of
 -- its session
 pub data Whose (s : List ℕ) (st : State) : ℕ → Type 0 where
   the-latest : isSecond s ≡ false → Whose s st (txCount (st .history))
@@ -201,11 +245,20 @@ pub data Whose (s : List ℕ) (st : State) : ℕ → Type 0 where
 abbrev pub opIn : List ℕ → ℕ → ℕ → Bool → Op
 opIn s at t w = record { tx = t; isWrite = w; key = key s at; value = value s at }
 
+-- .. that an append is: "session, key, value"; that a list read is, whose list stands in its record
+abbrev pub appendIn : List ℕ → ℕ → ℕ → Op
+appendIn s at t = record { tx = t; isWrite = true; key = appendKey (key s at); value = value s at }
+
+abbrev pub listIn : List ℕ → ℕ → ℕ → Op
+listIn s at t = record { tx = t; isWrite = true; key = listKey (key s at); value = at }
+
 -- the state behind the record, which is not the end
 pub data Next (s : List ℕ) (st : State) : State → Type 0 where
   after-open : kind s (st .at) ≡ 1 → Next s st (moved s st (opened (st .history) (session s (st .at))) (st .notes))
   after-read : {t : ℕ} → kind s (st .at) ≡ 2 → Whose s st t → Next s st (moved s st (withOp (st .history) (opIn s (st .at) t false)) (st .notes))
   after-write : {t : ℕ} → kind s (st .at) ≡ 3 → Whose s st t → Next s st (moved s st (withOp (st .history) (opIn s (st .at) t true)) (st .notes))
+  after-append : {t : ℕ} → kind s (st .at) ≡ 23 → Whose s st t → Next s st (moved s st (withOp (st .history) (appendIn s (st .at) t)) (st .notes))
+  after-list : {t : ℕ} → kind s (st .at) ≡ 24 → Whose s st t → Next s st (moved s st (withOp (st .history) (listIn s (st .at) t)) (st .notes))
   after-close : {t : ℕ} → kind s (st .at) ≡ 4 → Whose s st t → Next s st (moved s st (closed (st .history) t (status s (st .at))) (st .notes))
   after-note : kind s (st .at) ≡ 6 → Next s st (moved s st (st .history) (st .notes + 1))
   after-edition : kind s (st .at) ≡ 16 → Next s st (moved s st (st .history) (st .notes))

@@ -1,8 +1,8 @@
--- Judging is refused exactly on rows 1 to 14, and a refusal changes no buffer.
+-- Judging is refused exactly on rows 1 to 14 and 17, and a refusal changes no buffer.
 use Prim.Native.Nat.{ℕ, suc, _≤_}
 use mathlib.Core.Path.{_≡_, refl, ap, sym}
 use mathlib.Core.List.{List}
-use mathlib.Core.Logic.{_↔_, inl}
+use mathlib.Core.Logic.{_↔_, _⊎_, inl, inr, ⊎-elim}
 use native.Mathlib.Omega.{arith}
 use lib.ListN.{length}
 use Rattle.rules.specs.Outcome.{declines, Report, declining, Outcome, outcome, judged}
@@ -86,14 +86,14 @@ module _ (s : List ℕ) (level : ℕ) (fs ps os : List ℕ) where
 
 -- ── the numbers of the table ──
 
--- rows 1 to 14
-pub declined-numbers : {s : List ℕ} {level f p o n at : ℕ} → Declines s level f p o n at → (1 ≤ n) × (n ≤ 14)
-declined-numbers (no-level d) = (omega arith, omega arith)
-declined-numbers (reading-refused a b r) = let m = refused-numbers r in (omega (arith, m .0), omega (arith, m .1))
-declined-numbers (findings-short a b r x c l) = (omega arith, omega arith)
-declined-numbers (pairs-short a b r x c g d l) = (omega arith, omega arith)
-declined-numbers (order-short a b r x y c l) = (omega arith, omega arith)
+-- rows 1 to 14, and 17
+pub declined-numbers : {s : List ℕ} {level f p o n at : ℕ} → Declines s level f p o n at → ((1 ≤ n) × (n ≤ 14)) ⊎ (n ≡ 17)
+declined-numbers (no-level d) = inl (omega arith, omega arith)
+declined-numbers (reading-refused a b r) = ⊎-elim (λ m. inl (omega (arith, m .0), omega (arith, m .1))) inr (refused-numbers r)
+declined-numbers (findings-short a b r x c l) = inl (omega arith, omega arith)
+declined-numbers (pairs-short a b r x c g d l) = inl (omega arith, omega arith)
+declined-numbers (order-short a b r x y c l) = inl (omega arith, omega arith)
 
 -- "15 is no longer given"
 pub declined-never-15 : {s : List ℕ} {level f p o n at : ℕ} → Declines s level f p o n at → n ≡ 15 → ⊥
-declined-never-15 d = not-15 (omega arith) (inl (declined-numbers d))
+declined-never-15 d = not-15 {low = 1} (omega arith) (⊎-elim inl (λ e. inr (omega arith)) (declined-numbers d))

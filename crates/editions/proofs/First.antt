@@ -1,23 +1,26 @@
 -- "Any other trace is edition 1": such a trace is read and judged as before there was another edition. A record of kind 16 alone fares otherwise, since it was
--- unknown and is known now: such a trace is refused still, at the same place, and with 4 or 7 in place of 6.
+-- unknown and is known now: such a trace is refused still, at the same place, and with 4 or 7 in place of 6. Row 17 refuses none:
+-- four bytes spell a key below 2^32, so that none is of lists. Of a list whose entries are no bytes this would be wrong.
 use Prim.Native.Nat.{ℕ, zero, suc, _+_, _<_, _≤_}
 use mathlib.Core.Path.{_≡_, refl, ap, sym, _∙_}
 use mathlib.Core.Bool.{Bool, true, false}
 use mathlib.Core.List.{List, [], _∷_, _++_}
 use mathlib.Core.Logic.{_⊎_, inl, inr, ⊎-elim, _↔_}
 use native.Mathlib.Omega.{arith}
-use lib.ListN.{length}
+use lib.ListN.{length, getD}
 use lib.Dec.{ltb, eqb}
 use borrow.Author.Tests.{ltb-false, eqb-true, eqb-false, eq-eqb, lt-ltb, le-leb}
 use Rattle.base.specs.Base.{_and_, _or_, pick, Row, row, firstFit}
-use Rattle.base.proofs.Tests.{ifso, clash, both, split}
+use Rattle.base.proofs.Tests.{ifso, clash, both, pick-both, split}
 use Rattle.base.proofs.Rows.{RowsCounted, fit-append, fit-behind, fit-most, fit-none, fit-unfit}
 use Rattle.rules.specs.Numbers.{le}
 use Rattle.rules.specs.History.{History, current}
-use Rattle.rules.specs.Records.{lenAt, kindAt, nextAt, isSecond, eventAt, breaks, isUnknown, isMisfit, isLate, isOtherEdition, frameRows}
-use Rattle.rules.specs.Reading.{State, begin, eventIn, stepRows, isEnd, met, refusalNo, after, Reading, refused, read, finished, walk, reading}
+use Rattle.rules.specs.Records.{lenAt, kindAt, payloadAt, nextAt, isSecond, isAppend, isListRead, numberAt, eventOf, eventAt, breaks, isUnknown, isMisfit, isLate, isOtherEdition, frameRows}
+use Rattle.rules.specs.Reading.{State, begin, eventIn, stepRows, mixRows, isEnd, met, refusalNo, after, Reading, refused, read, finished, walk, reading}
 use Rattle.rules.specs.Outcome.{judged}
+use Rattle.rules.proofs.Numbers.{le-small, part-each}
 use Rattle.rules.proofs.Meeting.{met-first}
+use Rattle.rules.proofs.Singles.{Singles, Single, singles-none, single-unmixed, singles-entered}
 use Rattle.editions.specs.First.{firstUnknown, firstMisfit, firstEvent, firstRows, firstNo, firstAfter, firstWalk, firstReading, firstJudged}
 
 -- rows behind the same ones
@@ -72,10 +75,23 @@ module _ (s : List ℕ) where
   unfolding finished
   same-finished st = kept-pick (ltb (st .at) (length s)) (same (refused 11 (st .at)) (λ n. omega arith)) (same (read (st .history) (st .notes)) (λ n. omega arith))
 
-module _ (s : List ℕ) (first : isSecond s ≡ false) where
+-- the key of an operation of edition 1 is one with single values, where the payload has bytes
+single-event : (at k : ℕ) (p : List ℕ) → ((i : ℕ) → getD p i 0 < 256) → Single (eventOf false at k p)
+unfolding eventOf isAppend isListRead _and_ pick Single
+single-event at k p b =
+    pick-both Single (eqb k 1) tt
+    (pick-both Single (eqb k 2) (le-small 4 p 0 b)
+    (pick-both Single (eqb k 3) (le-small 4 p 0 b)
+    (pick-both Single (eqb k 4) tt (pick-both Single (eqb k 5) tt (pick-both Single (eqb k 6) tt tt)))))
+
+module _ (s : List ℕ) (bytes : (i : ℕ) → getD s i 0 < 256) (first : isSecond s ≡ false) where
   -- ── one record ──
 
   module _ (st : State) where
+    -- if it is an operation, its key is one with single values
+    single : Single (firstEvent s st)
+    single = single-event (st .at) (kindAt s (st .at)) (payloadAt s (st .at)) (part-each (st .at + 8) (nextAt s (st .at)) s bytes)
+
     -- the open transaction that it meets, its event, and the state behind it
     met-same : met s st ≡ current (st .history)
     met-same = met-first s st first
@@ -106,10 +122,10 @@ module _ (s : List ℕ) (first : isSecond s ≡ false) where
     abbrev now : List Row
     now =
         row (isUnknown false (kindAt s (st .at))) 6
-        ∷ row (isMisfit false (kindAt s (st .at)) (lenAt s (st .at))) 4
+        ∷ row (isMisfit false (kindAt s (st .at)) (lenAt s (st .at)) (numberAt s (st .at))) 4
         ∷ row (isLate (kindAt s (st .at)) (st .at)) 7
         ∷ row (isOtherEdition (kindAt s (st .at)) (le 2 s (st .at + 8))) 8
-        ∷ steps
+        ∷ (steps ++ mixRows (st .history) (firstEvent s st))
 
     no-now : refusalNo s st ≡ firstFit (shared ++ now)
     unfolding refusalNo frameRows
@@ -123,17 +139,22 @@ module _ (s : List ℕ) (first : isSecond s ≡ false) where
     abbrev Turn : Type 0
     Turn = Kept s (refused (refusalNo s st) (st .at)) (refused (firstNo s st) (st .at))
 
+    -- row 17 does not fit
+    steps-same : Singles (st .history) → firstFit (steps ++ mixRows (st .history) (firstEvent s st)) ≡ firstFit steps
+    unfolding stepRows mixRows firstFit
+    steps-same u = rw (single-unmixed (st .history) u (firstEvent s st) single) (fit-front steps (row false 17 ∷ []) [] refl)
+
     -- any other kind than 16: the rows say the same
-    rows-same : eqb (kindAt s (st .at)) 16 ≡ false → firstFit now ≡ firstFit then
-    unfolding isUnknown isMisfit isLate isOtherEdition firstUnknown firstMisfit firstFit _and_ pick
-    rows-same o =
+    rows-same : Singles (st .history) → eqb (kindAt s (st .at)) 16 ≡ false → firstFit now ≡ firstFit then
+    unfolding isAppend isListRead isUnknown isMisfit isLate isOtherEdition firstUnknown firstMisfit firstFit _and_ _or_ pick
+    rows-same u o =
         rw o
         (fit-front (row (firstUnknown (kindAt s (st .at))) 6 ∷ row (firstMisfit (kindAt s (st .at)) (lenAt s (st .at))) 4 ∷ [])
-        (row false 7 ∷ row false 8 ∷ steps) steps refl)
+        (row false 7 ∷ row false 8 ∷ (steps ++ mixRows (st .history) (firstEvent s st))) steps (steps-same u))
 
-    turn-other : eqb (kindAt s (st .at)) 16 ≡ false → Turn
-    turn-other o =
-        let e : refusalNo s st ≡ firstNo s st = no-now ∙ fit-front shared now then (rows-same o) ∙ sym no-then in
+    turn-other : Singles (st .history) → eqb (kindAt s (st .at)) 16 ≡ false → Turn
+    turn-other u o =
+        let e : refusalNo s st ≡ firstNo s st = no-now ∙ fit-front shared now then (rows-same u o) ∙ sym no-then in
         rw e (same s (refused (firstNo s st) (st .at)) (λ n k. eqb-false _ _ o k))
 
     -- a row that did not change refuses it
@@ -184,8 +205,8 @@ module _ (s : List ℕ) (first : isSecond s ≡ false) where
     here : {n m : ℕ} → n ≡ m → refused n (st .at) ≡ refused m (st .at)
     here e = ap (λ (x : ℕ). refused x (st .at)) e
 
-    turn : Turn
-    turn =
+    turn : Singles (st .history) → Turn
+    turn u =
         ifso (eqb (kindAt s (st .at)) 16)
         (λ t.
         let k = eqb-true (kindAt s (st .at)) 16 t in
@@ -199,7 +220,12 @@ module _ (s : List ℕ) (first : isSecond s ≡ false) where
           is = ⊎-elim (λ e. inl (here e)) (λ e. inr (here e)) (is-late k none);
         }))
         (split 0 (firstFit shared)))
-        turn-other
+        (turn-other u)
+
+    -- behind it all keys are with single values still
+    after-single : Singles (st .history) → Singles (firstAfter s st .history)
+    unfolding firstAfter
+    after-single u = singles-entered (st .history) u (current (st .history)) (firstEvent s st) single
 
   -- ── the walk ──
 
@@ -210,22 +236,22 @@ module _ (s : List ℕ) (first : isSecond s ≡ false) where
       let b : 0 < firstNo s st = omega (arith, ap noOf (l .was .0)) in
       rw (lt-ltb 0 (refusalNo s st) (late-refused s l), lt-ltb 0 (firstNo s st) b) l
 
-  walk-kept : (f : ℕ) (st : State) → Kept s (walk f s st) (firstWalk f s st)
+  walk-kept : (f : ℕ) (st : State) → Singles (st .history) → Kept s (walk f s st) (firstWalk f s st)
   unfolding walk firstWalk
-  walk-kept zero st = same s (refused 3 (st .at)) (λ n. omega arith)
-  walk-kept (suc f) st =
+  walk-kept zero st u = same s (refused 3 (st .at)) (λ n. omega arith)
+  walk-kept (suc f) st u =
       ⊎-elim
       (λ (x : Same s (refused (refusalNo s st) (st .at)) (refused (firstNo s st) (st .at))).
       let e : refusalNo s st ≡ firstNo s st = ap noOf (x .is) in
       rw (e, event-same st, after-same st)
       (kept-pick s (ltb 0 (firstNo s st)) (inl (record { is = refl; none = x .none }))
-      (kept-pick s (isEnd (firstEvent s st)) (same-finished s (firstAfter s st)) (walk-kept f (firstAfter s st)))))
+      (kept-pick s (isEnd (firstEvent s st)) (same-finished s (firstAfter s st)) (walk-kept f (firstAfter s st) (after-single st u)))))
       (λ l. inr (walk-late f st l))
-      (turn st)
+      (turn st u)
 
   kept : Kept s (reading s) (firstReading s)
   unfolding reading firstReading
-  kept = kept-pick s (ltb 32768 (length s)) (same s (refused 2 32768) (λ n. omega arith)) (walk-kept (length s + 1) begin)
+  kept = kept-pick s (ltb 32768 (length s)) (same s (refused 2 32768) (λ n. omega arith)) (walk-kept (length s + 1) begin singles-none)
 
   -- ── what follows ──
 

@@ -29,9 +29,9 @@ firstUnknown kind = ltb kind 1 or ltb 6 kind
 unfoldable pub firstMisfit : ℕ → ℕ → Bool
 firstMisfit kind len = ltb len (getD firstLows kind 0) or ltb (getD firstHighs kind 0) len
 
--- its columns "kind" and "payload", of the record that a state has come to: `eventOf false` is document 01's table
+-- its columns "kind" and "payload", of the record that a state has come to: `eventOf false` is document 01's table, wherever the record stands
 abbrev pub firstEvent : List ℕ → State → Event
-firstEvent s st = eventOf false (kindAt s (st .at)) (payloadAt s (st .at))
+firstEvent s st = eventOf false (st .at) (kindAt s (st .at)) (payloadAt s (st .at))
 
 -- ── reading ──
 

@@ -3,10 +3,10 @@ use Prim.Native.Nat.{ℕ, _<_, _≤_}
 use mathlib.Core.Path.{_≡_, refl, ap, sym, _∙_}
 use mathlib.Core.Bool.{Bool, false, true}
 use mathlib.Core.List.{List}
-use mathlib.Core.Logic.{⊎-elim}
+use mathlib.Core.Logic.{_⊎_, inl, inr, ⊎-elim}
 use native.Mathlib.Omega.{arith}
 use lib.ListN.{length}
-use borrow.Author.Tests.{lt-ltb, le-ltb}
+use borrow.Author.Tests.{eq-eqb, ne-eqb, lt-ltb, le-ltb}
 use Rattle.base.proofs.Tests.{ifso, clash, split, pick-on, pick-off}
 use Rattle.rules.specs.History.{History}
 use Rattle.rules.specs.Reading.{Reading, refused, read, reading}
@@ -16,7 +16,7 @@ use Rattle.rules.specs.declared.Answer.the-variants.{Refused, Rejected, Accepte
 use Rattle.rules.proofs.Outcome.{is-accepted, found-rejected, Came, came-no-level, came-refused, came-short, came-short-pairs, came-rejected, came-short-order, came-accepted, came}
 use Rattle.rules.proofs.Lists.{findings-long, pairs-long}
 use Rattle.demand1.proofs.Readings.{refuses-iff}
-use Rattle.demand1.proofs.Lengths.{lawful-reading, order-few, refused-small}
+use Rattle.demand1.proofs.Lengths.{lawful-reading, order-few, refused-numbers}
 use Rattle.deciding.specs.Deciding.{acceptedRead, isAcceptedAt, strongest}
 use Rattle.deciding.specs.declared.Strongest.the-variants.{NoLevel, ReadCommitted, ReadAtomicity, Causal}
 use Rattle.ferozhak.specs.Calls.{withoutLists, seenRead, seenAt, belowCausal}
@@ -25,13 +25,18 @@ use Rattle.ferozhak.specs.declared.Seen.the-variants.{Here, NotHere, Now
 
 -- ── a refusal without room for lists ──
 
-pub refused-below : (n : ℕ) → n < 13 → withoutLists n ≡ Nowhere
+pub refused-pairs : (n : ℕ) → n ≡ 13 → withoutLists n ≡ NotHere
 unfolding withoutLists
-refused-below n l = pick-on _ _ _ (lt-ltb n 13 l)
+refused-pairs n e = pick-on _ _ _ (eq-eqb n 13 e)
 
-pub refused-from : (n : ℕ) → 13 ≤ n → withoutLists n ≡ NotHere
+pub refused-else : (n : ℕ) → (n ≡ 13 → ⊥) → withoutLists n ≡ Nowhere
 unfolding withoutLists
-refused-from n l = pick-off _ _ _ (le-ltb n 13 l)
+refused-else n d = pick-off _ _ _ (ne-eqb n 13 d)
+
+-- a trace that is not read is not refused with that number
+never-13 : {n : ℕ} → ((2 ≤ n) × (n ≤ 11)) ⊎ (n ≡ 17) → n ≡ 13 → ⊥
+never-13 (inl m) e = omega (arith, m .1)
+never-13 (inr q) e = omega arith
 
 -- ── the answer ──
 
@@ -94,9 +99,9 @@ module _ (s : List ℕ) where
     -- empty, and an order is never too long for 128 bytes
     by-came : {x : Outcome} → Came s level fs ps os x → madeOf (x .report .verdict) (x .report .no) ≡ seenAt s level
     by-came (came-no-level d) = absurd (d (low, high))
-    by-came (came-refused {n} {p} a b e) = refused-below n (omega (arith, refused-small (refuses-iff s n p .0 e) .0)) ∙ sym (seen-refused level e)
-    by-came (came-short {h} a b e t l) = refused-below 12 (omega arith) ∙ sym (seen-nowhere level e (omega (arith, l, findings-long h)))
-    by-came (came-short-pairs {h} a b e t g l) = refused-from 13 (omega arith) ∙ sym (seen-not level e t (omega (arith, g, findings-long h)))
+    by-came (came-refused {n} {p} a b e) = refused-else n (never-13 (refused-numbers (refuses-iff s n p .0 e))) ∙ sym (seen-refused level e)
+    by-came (came-short {h} a b e t l) = refused-else 12 (λ q. omega arith) ∙ sym (seen-nowhere level e (omega (arith, l, findings-long h)))
+    by-came (came-short-pairs {h} a b e t g l) = refused-pairs 13 refl ∙ sym (seen-not level e t (omega (arith, g, findings-long h)))
     by-came (came-rejected {h} a b e t g k) =
         absurd (clash (is-accepted h level (omega (arith, g, findings-long h)) (omega (arith, k, pairs-long h level))) t)
     by-came (came-short-order a b e t l) = absurd (omega (arith, order-few (lawful-reading s e) level))

@@ -1,7 +1,7 @@
 -- What the functions behind the calls say of their parts.
 use Prim.Native.Nat.{ℕ}
 use mathlib.Core.List.{List}
-use lib.Dec.{ltb}
+use lib.Dec.{ltb, eqb}
 use lib.ListN.{length}
 use Rattle.base.specs.Base.{pick}
 use Rattle.rules.specs.Reading.{Reading, refused, read, reading}
@@ -25,9 +25,10 @@ seenRead (read h notes) level = pick (isAccepted h level) Here (pick (ltb 0 (len
 unfoldable pub seenAt : List ℕ → ℕ → Seen
 seenAt s level = seenRead (reading s) level
 
--- what a refusal with this number shows where no room for lists was lent: 2 to 11 are the trace's own, 12 is an unclean read's, and neither hangs on the level
+-- what a refusal with this number shows where no room for lists was lent: 13 is that of pairs, which hang on the level; 2 to 11 and 17 are the trace's own, 12
+-- is an unclean read's, and neither does
 unfoldable pub withoutLists : ℕ → Seen
-withoutLists n = pick (ltb n 13) Nowhere NotHere
+withoutLists n = pick (eqb n 13) NotHere Nowhere
 
 -- the strongest of levels 2 and 1 that accepts the trace
 abbrev pub belowCausal : List ℕ → Strongest

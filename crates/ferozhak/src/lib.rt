@@ -220,14 +220,14 @@ fn look(h: &[u64], k: &[u8], level: u8) -> Seen
     }
 }
 
-// What a refusal shows where no room for lists was lent. 12 says that a read is unclean, and so it is at every level.
+// What a refusal shows where no room for lists was lent. 13 says that pairs are listed at this level; 12 that a read is unclean, and so it is at every level.
 fn without_lists(no: u8) -> Seen
     ensures { λ r. ⌜ r ≡ withoutLists no ⌝ }
 {
-    if no < 13 {
-        return Seen::Nowhere;
+    if no == 13 {
+        return Seen::NotHere;
     }
-    Seen::NotHere
+    Seen::Nowhere
 }
 
 // ── the third call ──

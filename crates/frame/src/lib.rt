@@ -1,13 +1,14 @@
 // One record of a trace: its fields, the framing checks in the document's order, and what its payload says.
 ghost use mathlib.Core.Path.{_≡_};
-ghost use mathlib.Core.Bool.{false};
-ghost use Prim.Native.Nat.{_+_, _≤_};
+ghost use mathlib.Core.Bool.{true, false};
+ghost use Prim.Native.Nat.{_+_, _≤_, _<_};
 ghost use lib.ListN.{length, getD};
 ghost use lib.Dec.{ltb};
 ghost use Rattle.base.specs.Base.{_or_, firstFit};
 ghost use Rattle.rules.specs.Numbers.{le};
-ghost use Rattle.rules.specs.Records.{lenAt, nextAt, payloadAt, isSecond, fieldsFrom, lows, breaks, isUnknown, isMisfit, isLate, isOtherEdition, frameRows};
-ghost use Rattle.frame.specs.Framing.{kindRows, stated, sessionIn, statedOf, statedAt, Fit, framing};
+ghost use Rattle.rules.specs.Records.{lenAt, nextAt, payloadAt, isSecond, fieldsFrom, numberAt, listPlace as placeOf, breaks, isUnknown, isMisfit, isLate, isOtherEdition, frameRows};
+ghost use Rattle.rules.specs.History.{appendKey, listKey};
+ghost use Rattle.frame.specs.Framing.{kindRows, lengths, ListKind, Above, stated, sessionIn, statedOf, statedAt, Says, SaysAnywhere, SoundFramed, LongEnough, Fit, framing};
 use rules::Event;
 
 // "all little-endian": the numbers that 2, 4 and 8 bytes spell.
@@ -97,7 +98,7 @@ fn read_open(p: &[u8]) -> Stated
 // Kind 2, read: key, 4; value, 8.
 fn read_read(p: &[u8], second: bool) -> Stated
     requires { ⌜ fieldsFrom second + 12 ≤ length (now p) ⌝ }
-    ensures { λ r. ⌜ r ≡ stated (sessionIn second (now (p .entry))) (Event.Read (le 4 (now (p .entry)) (fieldsFrom second)) (le 8 (now (p .entry)) (fieldsFrom second + 4))) ⌝ }
+    ensures { λ r. ⌜ SaysAnywhere r (stated (sessionIn second (now (p .entry))) (Event.Read (le 4 (now (p .entry)) (fieldsFrom second)) (le 8 (now (p .entry)) (fieldsFrom second + 4)))) ⌝ }
 {
     let from = fields_from(second);
     Stated {
@@ -109,12 +110,12 @@ fn read_read(p: &[u8], second: bool) -> Stated
 // Kind 3, write: key, 4; value, 8.
 fn read_write(p: &[u8], second: bool) -> Stated
     requires { ⌜ fieldsFrom second + 12 ≤ length (now p) ⌝ }
-    ensures { λ r. ⌜ r ≡ stated (sessionIn second (now (p .entry))) (Event.Write (le 4 (now (p .entry)) (fieldsFrom second)) (le 8 (now (p .entry)) (fieldsFrom second + 4))) ⌝ }
+    ensures { λ r. ⌜ SaysAnywhere r (stated (sessionIn second (now (p .entry))) (Event.Write (le 4 (now (p .entry)) (fieldsFrom second)) (le 8 (now (p .entry)) (fieldsFrom second + 4)))) ⌝ }
 {
     let from = fields_from(second);
     Stated {
         session: session_in(p, second),
-        event: Event::Write(u32_at(p, from), u64_at(p, from + 4)),
+        event: Event::Write(u32_at(p, from) as u64, u64_at(p, from + 4)),
     }
 }
 
@@ -141,6 +142,41 @@ fn read_end(p: &[u8]) -> Stated
     }
 }
 
+// Kind 23, append: session, 2; key, 4; value, 8. It is held as a write to a key above those of single values.
+fn read_append(p: &[u8]) -> Stated
+    requires { ⌜ 14 ≤ length (now p) ⌝ }
+    ensures { λ r. ⌜ SaysAnywhere r (stated (le 2 (now (p .entry)) 0) (Event.Write (appendKey (le 4 (now (p .entry)) 2)) (le 8 (now (p .entry)) 6))) ⌝ }
+{
+    Stated {
+        session: u16_at(p, 0),
+        event: Event::Write(4294967296 + u32_at(p, 2) as u64, u64_at(p, 6)),
+    }
+}
+
+// What is held of a list read at `at`: its offset, or, of "number 33 and up", 0.
+fn list_place(at: usize, n: u16) -> u64
+    ensures { λ r. ⌜ r ≡ placeOf at n ⌝ }
+{
+    if 32 < n {
+        return 0;
+    }
+    at as u64
+}
+
+// Kind 24, list read: session, 2; key, 4; number, 2. Its values stay where they stand.
+fn read_list(p: &[u8], at: usize) -> Stated
+    requires { ⌜ 8 ≤ length (now p) ⌝ }
+    ensures { λ r. ⌜ Says at r (stated (le 2 (now (p .entry)) 0) (Event.Write (listKey (le 4 (now (p .entry)) 2)) (placeOf at (le 2 (now (p .entry)) 6)))) ⌝ }
+{
+    Stated {
+        session: u16_at(p, 0),
+        event: Event::Write(
+            8589934592 + u32_at(p, 2) as u64,
+            list_place(at, u16_at(p, 6)),
+        ),
+    }
+}
+
 // Kind 16: the number of the edition, 2 bytes.
 fn read_edition(p: &[u8]) -> u16
     requires { ⌜ 2 ≤ length (now p) ⌝ }
@@ -149,10 +185,25 @@ fn read_edition(p: &[u8]) -> u16
     u16_at(p, 0)
 }
 
-// What the payload p of a record of this kind says. A note's text has no part in judging; kind 16's number is checked by row 8, and is no event.
-fn stated_of(second: bool, kind: u16, p: &[u8]) -> Stated
-    requires { ⌜ getD (lows second) kind 0 ≤ length (now p) + 6 ⌝ }
-    ensures { λ r. ⌜ r ≡ statedOf second kind (now (p .entry)) ⌝ }
+// What the payload p of a record above kind 6 at `at` says: an append, a list read, or the record that says the edition.
+fn stated_above(at: usize, kind: u16, p: &[u8]) -> Stated
+    requires { ⌜ Above kind × LongEnough true kind (length (now p) + 6) ⌝ }
+    ensures { λ r. ⌜ Says at r (statedOf true at kind (now (p .entry))) ⌝ }
+{
+    match kind {
+        23 => read_append(p),
+        24 => read_list(p, at),
+        _ => Stated {
+            session: 0,
+            event: Event::Other,
+        },
+    }
+}
+
+// What the payload p of a record of this kind at `at` says. A note's text has no part in judging; kind 16's number is checked by row 8, and is no event.
+fn stated_of(second: bool, at: usize, kind: u16, p: &[u8]) -> Stated
+    requires { ⌜ LongEnough second kind (length (now p) + 6) ⌝ }
+    ensures { λ r. ⌜ Says at r (statedOf second at kind (now (p .entry))) ⌝ }
 {
     match kind {
         1 => read_open(p),
@@ -164,19 +215,16 @@ fn stated_of(second: bool, kind: u16, p: &[u8]) -> Stated
             session: 0,
             event: Event::Note,
         },
-        _ => Stated {
-            session: 0,
-            event: Event::Other,
-        },
+        _ => stated_above(at, kind, p),
     }
 }
 
 // What the record at `at` says, whose framing passed.
 fn stated_at(s: &[u8], at: usize, second: bool) -> Stated
     requires { ⌜ Fit second (now s) at ⌝ }
-    ensures { λ r. ⌜ r ≡ statedAt second (now (s .entry)) at ⌝ }
+    ensures { λ r. ⌜ Says at r (statedAt second (now (s .entry)) at) ⌝ }
 {
-    stated_of(second, u16_at(s, at + 2), payload_at(s, at))
+    stated_of(second, at, u16_at(s, at + 2), payload_at(s, at))
 }
 
 // Row 5, "serial doesn't follow"; "The first serial is free".
@@ -190,7 +238,18 @@ fn breaks_off(s: &[u8], at: usize, expected: u32) -> bool
     u32_at(s, at + 4) != expected
 }
 
-// Row 6, "unknown kind": the kinds are 1 to 6, but "6 for a note in edition 2", and 16.
+// Whether a kind above 5, but 16, is unknown in edition 2: not one of lists.
+fn is_unknown_above(kind: u16) -> bool
+    requires { ⌜ (5 < kind) × (kind ≡ 16 → ⊥) ⌝ }
+    ensures { λ r. ⌜ r ≡ isUnknown true kind ⌝ }
+{
+    if kind == 23 {
+        return false;
+    }
+    kind != 24
+}
+
+// Row 6, "unknown kind": the kinds are 1 to 6, but "6 for a note in edition 2", and 16, and in edition 2 those of lists.
 fn is_unknown(second: bool, kind: u16) -> bool
     ensures { λ r. ⌜ r ≡ isUnknown second kind ⌝ }
 {
@@ -201,15 +260,40 @@ fn is_unknown(second: bool, kind: u16) -> bool
         return true;
     }
     if second {
-        return 5 < kind;
+        if 5 < kind {
+            return is_unknown_above(kind);
+        }
+        return false;
     }
     6 < kind
 }
 
 // The length of kinds 1 to 5, in each edition. Only a note has more than one.
-const LENGTHS: [usize; 6] = [0, 8, 18, 18, 7, 8];
+fn first_length(kind: usize) -> usize
+    requires { ⌜ (1 ≤ kind) × (kind < 6) ⌝ }
+    ensures { λ r. ⌜ r ≡ getD (lengths false) kind 0 ⌝ }
+{
+    match kind {
+        1 => 8,
+        2 => 18,
+        3 => 18,
+        4 => 7,
+        _ => 8,
+    }
+}
 
-const SECOND_LENGTHS: [usize; 6] = [0, 8, 20, 20, 9, 8];
+fn second_length(kind: usize) -> usize
+    requires { ⌜ (1 ≤ kind) × (kind < 6) ⌝ }
+    ensures { λ r. ⌜ r ≡ getD (lengths true) kind 0 ⌝ }
+{
+    match kind {
+        1 => 8,
+        2 => 20,
+        3 => 20,
+        4 => 9,
+        _ => 8,
+    }
+}
 
 fn is_outside(len: usize, low: usize, high: usize) -> bool
     ensures { λ r. ⌜ r ≡ (ltb len low or ltb high len) ⌝ }
@@ -220,21 +304,46 @@ fn is_outside(len: usize, low: usize, high: usize) -> bool
     high < len
 }
 
+// Whether the length of a list read at `at` is not "14 plus 8 a value", by its own number, which it has if it is as long as that takes.
+fn is_list_misfit(s: &[u8], at: usize, len: usize) -> bool
+    requires { ⌜ (len ≡ lenAt (now s) at) × (nextAt (now s) at ≤ length (now s)) ⌝ }
+    ensures { λ r. ⌜ r ≡ isMisfit true 24 len (numberAt (now (s .entry)) at) ⌝ }
+{
+    if len < 14 {
+        return true;
+    }
+    len != 14 + 8 * (u16_at(s, at + 14) as usize)
+}
+
+// .. of an append or a list read.
+fn is_misfit_above(s: &[u8], at: usize, kind: usize, len: usize) -> bool
+    requires { ⌜ ListKind kind × (len ≡ lenAt (now s) at) × (nextAt (now s) at ≤ length (now s)) ⌝ }
+    ensures { λ r. ⌜ r ≡ isMisfit true kind len (numberAt (now (s .entry)) at) ⌝ }
+{
+    if kind == 23 {
+        return len != 20;
+    }
+    is_list_misfit(s, at, len)
+}
+
 // Row 4, length "not this kind's".
-fn is_misfit(second: bool, kind: usize, len: usize) -> bool
-    requires { ⌜ isUnknown second kind ≡ false ⌝ }
-    ensures { λ r. ⌜ r ≡ isMisfit second kind len ⌝ }
+fn is_misfit(s: &[u8], at: usize, second: bool, kind: usize, len: usize) -> bool
+    requires { ⌜ (isUnknown second kind ≡ false) × (len ≡ lenAt (now s) at) × (nextAt (now s) at ≤ length (now s)) ⌝ }
+    ensures { λ r. ⌜ r ≡ isMisfit second kind len (numberAt (now (s .entry)) at) ⌝ }
 {
     if kind == 16 {
         return len != 8;
     }
     if second {
-        return len != SECOND_LENGTHS[kind];
+        if 5 < kind {
+            return is_misfit_above(s, at, kind, len);
+        }
+        return len != second_length(kind);
     }
     if kind == 6 {
         return is_outside(len, 6, 70);
     }
-    len != LENGTHS[kind]
+    len != first_length(kind)
 }
 
 // Row 7, "a kind 16 that isn't first".
@@ -268,7 +377,7 @@ fn kind_no(s: &[u8], at: usize, second: bool) -> u8
     if is_unknown(second, kind) {
         return 6;
     }
-    if is_misfit(second, kind as usize, len) {
+    if is_misfit(s, at, second, kind as usize, len) {
         return 4;
     }
     if is_late(kind, at) {
@@ -312,7 +421,7 @@ pub enum Framed {
 // The record at `at`, where `expected` is the serial that has to come, in edition 2 or not.
 pub fn frame_at(s: &[u8], at: usize, expected: u32, second: bool) -> Framed
     requires { ⌜ at ≤ length (now s) ⌝ }
-    ensures { λ r. ⌜ r ≡ framing second (now (s .entry)) at expected ⌝ }
+    ensures { λ r. ⌜ (r ≡ framing second (now (s .entry)) at expected) × SoundFramed at r ⌝ }
 {
     let no = frame_no(s, at, expected, second);
     if 0 < no {

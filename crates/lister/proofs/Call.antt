@@ -10,6 +10,7 @@ use Rattle.base.proofs.Fill.{Appended}
 use Rattle.rules.specs.History.{History, tx, txCount, opCount, isOpen}
 use Rattle.rules.specs.Records.{isSecond}
 use Rattle.rules.specs.Reading.{read, reading}
+use Rattle.rules.proofs.Singles.{ReadsSingle}
 use Rattle.demand1.proofs.Readings.{has-read}
 use Rattle.demand1.proofs.Lawful.{over-most, lawful-history}
 use Rattle.table.specs.Table.{historyOf}
@@ -53,13 +54,14 @@ module _ {h : History} (w : Listable h) {n k : ℕ} (q : k ≡ 2 * txCount h + o
 
 -- ── the trace's reading ──
 
-listable : (s : List ℕ) → isSecond s ≡ false → {h : History} {notes : ℕ} → reading s ≡ read h notes → Listable h
+listable : (s : List ℕ) → isSecond s ≡ false → {h : History} {notes : ℕ} → ReadsSingle h → reading s ≡ read h notes → Listable h
 unfolding isOpen
-listable s first {h} e =
+listable s first {h} k e =
     let r = has-read e in
     let w = lawful-history r in
     record {
       none-open = λ t a b. ne-eqb (tx h t .status) 3 (λ i. omega (arith, over-most (w .is-over t (record { from = a; to = b }))));
+      reads = k;
       many = let g = read-grown first r in omega (arith, counts (g .0) .steps, open-none h (g .1));
       long = listing-length s first r;
     }
@@ -76,7 +78,7 @@ module _ {s g g₀ : List ℕ} {r : Out} (x : TraceRead r g g₀ s) where
     call-second t out = sym (listed-second s out (read-good x q) (sym e ∙ t))
 
     pub call-listable : b ≡ false → Listable (historyOf g)
-    call-listable t = listable s (sym e ∙ t) (read-good x q)
+    call-listable t = listable s (sym e ∙ t) (x .reads) (read-good x q)
 
     pub call-first : b ≡ false → {v : Said} (out : List ℕ) {out2 : List ℕ} → fillOf v out2 ≡ into (content (allBytes (historyOf g))) out → fillOf v out2 ≡ stepped s out
     call-first t out d = d ∙ sym (listed-first s out (read-good x q) (sym e ∙ t))

@@ -7,16 +7,17 @@ use native.Mathlib.Omega.{arith}
 use lib.Dec.{ltb}
 use borrow.Author.Tests.{ltb-false, lt-ltb, le-ltb}
 use Rattle.base.specs.Base.{pick}
-use Rattle.base.proofs.Tests.{ifso, pick-on, pick-off}
+use Rattle.base.proofs.Tests.{ifso, pick-on, pick-off, pick-both}
 use Rattle.base.proofs.Rows.{fit-here, fit-past}
-use Rattle.rules.specs.History.{History, txCount, current, empty}
+use Rattle.rules.specs.History.{History, txCount, current, isSingle, empty}
+use Rattle.rules.specs.Records.{writtenKey}
 use Rattle.rules.specs.Reading.{stepRows, entered}
 use Rattle.rules.specs.declared.Event.{Event}
 use Rattle.rules.specs.declared.Event.the-variants as E
 use Rattle.table.specs.Table.{historyOf, Held, HoldsHistory}
 use Rattle.steps.specs.declared.Next.{Next}
 use Rattle.steps.specs.declared.Next.the-variants.{Refuse}
-use Rattle.steps.specs.Steps.{goes, stepNo, Took}
+use Rattle.steps.specs.Steps.{goes, stepNo, Takable, Took}
 use Rattle.writing.specs.Steps.{stepCount, stepAt, stepsFrom, stepsIn}
 use Rattle.writing.specs.Writing.{isNoStep, writeRows, writeNo, endNo, bad, good, follow}
 use Rattle.writing.proofs.Rows.{taken}
@@ -32,7 +33,7 @@ goes-on : (e : Event) → numberIn (goes e) ≡ 0
 unfolding numberIn goes
 goes-on (E.Open s) = refl
 goes-on (E.Read x v) = refl
-goes-on (E.Write x v) = refl
+goes-on (E.Write x v) = pick-both (λ (n : Next). numberIn n ≡ 0) (isSingle x) refl refl
 goes-on (E.Close x) = refl
 goes-on (E.End n) = refl
 goes-on E.Note = refl
@@ -51,6 +52,11 @@ module _ {r : Next} {g2 g : List ℕ} {t : ℕ} {e : Event} (x : Took r g2 g t e
 
   took-history : stepNo (historyOf g) t e ≡ 0 → historyOf g2 ≡ entered (historyOf g) t e
   took-history z = x .history ∙ pick-off _ (historyOf g) (entered (historyOf g) t e) (le-ltb 0 (stepNo (historyOf g) t e) (omega (arith, z)))
+
+-- a step with a key of single values may be taken
+pub single-takable : {h : History} (e : Event) → writtenKey e < 4294967296 → Takable h e
+unfolding writtenKey
+single-takable e l = record { narrow = omega arith; new-place = λ x v q m. absurd (omega (arith, rw q at l)) }
 
 -- row 6 refuses, or leaves rows 7 to 10
 pub entered-none : {g : List ℕ} {e : Event} → isNoStep e ≡ true → Held g → Entered 6 g g e

@@ -7,7 +7,7 @@ use Rattle.rules.specs.Reading.{entered}
 use Rattle.rules.specs.declared.Event.{Event}
 use Rattle.table.specs.Table.{historyOf, Held}
 use Rattle.steps.specs.declared.Next.{Next}
-use Rattle.steps.specs.declared.Next.the-variants.{Go, Count, Done, Refuse}
+use Rattle.steps.specs.declared.Next.the-variants.{Go, Count, List as Lists, Done, Refuse}
 use Rattle.writing.specs.Steps.{stepsIn}
 use Rattle.writing.specs.Writing.{writeNo, endNo, Followed, bad, good, follow}
 use Rattle.maker.specs.declared.Course.{Course}
@@ -17,6 +17,7 @@ use Rattle.maker.specs.declared.Course.the-variants.{Good, Bad}
 unfoldable pub numberIn : Next → ℕ
 numberIn Go = 0
 numberIn Count = 0
+numberIn Lists = 0
 numberIn Done = 0
 numberIn (Refuse n) = n
 

@@ -1,9 +1,10 @@
 // A trace from steps: the steps are followed into a table, as a reading's records are; then, if no row refuses, a record is put for each.
 ghost use mathlib.Core.Path.{_≡_};
-ghost use Prim.Native.Nat.{_+_, _*_, _≤_};
+ghost use Prim.Native.Nat.{_+_, _*_, _≤_, _<_};
 ghost use lib.ListN.{length};
 ghost use Rattle.base.proofs.Fill.{Appended};
 ghost use Rattle.rules.specs.History.{txCount, opCount};
+ghost use Rattle.rules.specs.Records.{writtenKey};
 ghost use Rattle.table.specs.Table.{tableWords, historyOf, Held};
 ghost use Rattle.writing.specs.Filling.{fillOf, said};
 ghost use Rattle.writing.specs.Steps.{stepCount, stepOf, stepAt, stepsIn};
@@ -25,13 +26,13 @@ fn step_count(s: &[u8]) -> usize
 // "sixteen a step, little-endian: kind (2), session or status (2), key (4), value (8)"
 fn step_of(s: &[u8], at: usize) -> Event
     requires { ⌜ at + 16 ≤ length (now s) ⌝ }
-    ensures { λ r. ⌜ r ≡ stepOf (now (s .entry)) at ⌝ }
+    ensures { λ r. ⌜ (r ≡ stepOf (now (s .entry)) at) × (writtenKey r < 4294967296) ⌝ }
 {
     let kind = frame::u16_at(s, at);
     match kind {
         1 => Event::Open(frame::u16_at(s, at + 2)),
         2 => Event::Read(frame::u32_at(s, at + 4), frame::u64_at(s, at + 8)),
-        3 => Event::Write(frame::u32_at(s, at + 4), frame::u64_at(s, at + 8)),
+        3 => Event::Write(frame::u32_at(s, at + 4) as u64, frame::u64_at(s, at + 8)),
         4 => Event::Close(frame::u16_at(s, at + 2)),
         _ => Event::Other,
     }
@@ -40,7 +41,7 @@ fn step_of(s: &[u8], at: usize) -> Event
 // "A rest of fewer than sixteen bytes is a step of no kind"
 fn step_at(s: &[u8], at: usize) -> Event
     requires { ⌜ at ≤ length (now s) ⌝ }
-    ensures { λ r. ⌜ r ≡ stepAt (now (s .entry)) at ⌝ }
+    ensures { λ r. ⌜ (r ≡ stepAt (now (s .entry)) at) × (writtenKey r < 4294967296) ⌝ }
 {
     if s.len() - at < 16 {
         return Event::Other;
@@ -73,13 +74,14 @@ fn number_in(next: Next) -> u8
         Next::Refuse(no) => no,
         Next::Go => 0,
         Next::Count => 0,
+        Next::List => 0,
         Next::Done => 0,
     }
 }
 
 // A step goes into the table h, unless a row, 6 to 10, refuses it; that row's number, else 0.
 fn enter(event: Event, h: &mut [u64]) -> u8
-    requires { ⌜ Held (now h) ⌝ }
+    requires { ⌜ Held (now h) × (writtenKey event < 4294967296) ⌝ }
     ensures { λ r. ⌜ Entered r (now (h .exit)) (now (h .entry)) event ⌝ }
 {
     if is_no_step(event) {

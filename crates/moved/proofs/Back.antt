@@ -17,7 +17,7 @@ use Rattle.writing.specs.Forms.{mark, blocksOf, preamble, wholeOf}
 use Rattle.writing.proofs.Listed.{read-grown}
 use Rattle.written.specs.Writes.{AllBytes, recordAt}
 use Rattle.written.proofs.Slim.{le-below}
-use Rattle.written.proofs.Small.{slim-read}
+use Rattle.written.proofs.Small.{first-single, slim-read}
 use Rattle.written.proofs.Whole.{first-whole, wanted-edition}
 use Rattle.written.proofs.Retold.{own-bytes}
 use Rattle.moving.specs.Moving.{movedTrace, movedTo}
@@ -25,6 +25,7 @@ use Rattle.moving.proofs.Moving.{same-iff, moved-other}
 use Rattle.moved.specs.Records.{RecordsAre}
 use Rattle.moved.specs.Moved.{Moved, ComesOut, unchanged, was-moved, movedLength}
 use Rattle.moved.proofs.Records.{records-are}
+use Rattle.moved.proofs.Lists.{first-no-lists, none-is, records-no-lists}
 use Rattle.moved.proofs.Spelt.{records-one}
 use Rattle.moved.proofs.Moved.{is-moved}
 use Rattle.moved.proofs.Moves.{moved-fits}
@@ -46,7 +47,7 @@ module _ {s : List ℕ} (b : AllBytes s) (first : isSecond s ≡ false) {h : His
 
   its-records : RecordsAre comingBack (serial s 0) (wholeOf false h)
   unfolding movedTrace
-  its-records = records-are false (serial s 0) (le-below 4 s 4 b) (read-grown first r .0) (slim-read s b r)
+  its-records = records-are false (serial s 0) (le-below 4 s 4 b) (read-grown first r .0) (slim-read s b (first-single first) r)
 
   -- moved to edition 2, and that to edition 1
   module _ {x y : List ℕ} (m : Moved true s x) (k : Moved false x y) where
@@ -78,18 +79,19 @@ module _ {s : List ℕ} (b : AllBytes s) (first : isSecond s ≡ false) {h : His
   inBetween = movedTrace true (serial s 0) h
 
   is-between : Moved true s inBetween
-  is-between = is-moved true s b r not-second
+  is-between = is-moved true s b r not-second (first-no-lists first)
 
   pub goes-out : (x : List ℕ) → movedLength true h ≤ length x → movedTo true s x ≡ fillOf (answering (length inBetween)) (over inBetween x)
-  goes-out x l = moved-fits true s b x r not-second l
+  goes-out x l = moved-fits true s b x r not-second (first-no-lists first) l
 
   pub comes-back : (o : List ℕ) → movedTo false inBetween o ≡ into (content comingBack) o
   comes-back o =
       let m = is-between in
       let q = has-history (m .moved-reads) in
       let d : isSecond inBetween ≡ false → ⊥ = λ e. true≢false (sym (m .wanted) ∙ e) in
-      moved-other false inBetween o (read-has q) (is-false _ (λ t. d (same-iff (isSecond inBetween) false .0 t)))
-      ∙ ap (λ (y : List ℕ). into (content y) o) (back m (is-moved false inBetween (m .records .is-bytes) q d))
+      let u = records-no-lists (m .records) in
+      moved-other false inBetween o (read-has q) (is-false _ (λ t. d (same-iff (isSecond inBetween) false .0 t))) (none-is q u)
+      ∙ ap (λ (y : List ℕ). into (content y) o) (back m (is-moved false inBetween (m .records .is-bytes) q d u))
 
 -- without notes these are the trace's own records
 module _ {s : List ℕ} (b : AllBytes s) (first : isSecond s ≡ false) {h : History} (r : ReadInto s h 0) where

@@ -1,6 +1,7 @@
 pub mod Renumbered
 pub mod Records
 pub mod Spelt
+pub mod Lists
 pub mod Moved
 pub mod Moves
 pub mod Tally

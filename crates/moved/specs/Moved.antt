@@ -1,5 +1,5 @@
--- Document 02, requests Five and Six, in their own terms, apart from the functions that compute: what comes out of a move, when it is refused, and how many
--- notes are then told.
+-- Document 02, requests Five, Six and Eleven, in their own terms, apart from the functions that compute: what comes out of a move, when it is refused, and how
+-- many notes are then told.
 use Prim.Native.Nat.{ℕ, _+_, _*_, _<_, _≤_}
 use mathlib.Core.Path.{_≡_}
 use mathlib.Core.Bool.{Bool, true, false}
@@ -8,11 +8,12 @@ use lib.ListN.{length}
 use Rattle.rules.specs.History.{History, op, txCount, opCount}
 use Rattle.rules.specs.Records.{isSecond}
 use Rattle.demand1.specs.Lawful.{IsOp}
-use Rattle.demand1.specs.Rows.{serial, Refuses, ReadInto, HasHistory}
+use Rattle.demand1.specs.Rows.{kind, serial, OfLists, Refuses, ReadInto, HasHistory}
 use Rattle.writing.specs.Filling.{answering, said}
 use Rattle.writing.specs.Forms.{wholeOf}
 use Rattle.writing.specs.declared.Filled.{Filled}
 use Rattle.written.specs.Fills.{Fills}
+use Rattle.written.specs.Writes.{recordAt}
 use Rattle.renumbering.specs.Renumbering.{Renumbers}
 use Rattle.moving.specs.Renumbering.{newNumber, oldNumber}
 use Rattle.moving.specs.Tally.{talliedFill, filledOf}
@@ -52,11 +53,26 @@ abbrev pub movedLength : Bool → History → ℕ
 movedLength false h = 19 * txCount h + 20 * opCount h + 10
 movedLength true h = 21 * txCount h + 22 * opCount h + 20
 
+-- the record that stands behind k others is an append or a list read
+pub record ListRecord (s : List ℕ) (k : ℕ) : Type 0 where
+  pub there : recordAt s k < length s
+  pub of-lists : OfLists (isSecond s) (kind s (recordAt s k))
+
+-- .. and is the first of them; there is none
+pub record FirstList (s : List ℕ) (k : ℕ) : Type 0 where
+  pub is-list : ListRecord s k
+  pub none-before : (j : ℕ) → j < k → ListRecord s j → ⊥
+
+abbrev pub NoLists : List ℕ → Type 0
+NoLists s = (k : ℕ) → ListRecord s k → ⊥
+
 -- moving s, with a buffer of o bytes, is refused with this number and place: "Refusals: 01's for the input, then 16 for the output."
 pub data MoveDeclines (second : Bool) (s : List ℕ) (o : ℕ) : ℕ → ℕ → Type 0 where
   trace-refused : {n at : ℕ} → Refuses s n at → MoveDeclines second s o n at
   unchanged-short : {h : History} → isSecond s ≡ second → HasHistory s h → o < length s → MoveDeclines second s o 16 (length s)
-  moved-short : {h : History} → (isSecond s ≡ second → ⊥) → HasHistory s h → o < movedLength second h
+  -- "20, list kinds in a move to edition 1, place the first such record, before 16"
+  lists-declined : {h : History} {k : ℕ} → second ≡ false → HasHistory s h → FirstList s k → MoveDeclines second s o 20 (recordAt s k)
+  moved-short : {h : History} → (isSecond s ≡ second → ⊥) → HasHistory s h → NoLists s → o < movedLength second h
       → MoveDeclines second s o 16 (movedLength second h)
 
 -- what is promised of moving the trace s, in a buffer that held o

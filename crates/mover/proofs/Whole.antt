@@ -13,6 +13,7 @@ use Rattle.rules.specs.Records.{serialAt}
 use Rattle.rules.specs.Reading.{read, reading}
 use Rattle.rules.specs.Traces.{trace}
 use Rattle.rules.specs.declared.Event.the-variants.{End}
+use Rattle.rules.proofs.Singles.{ReadsSingle}
 use Rattle.demand1.specs.Lawful.{LawfulHistory}
 use Rattle.demand1.proofs.Readings.{has-read}
 use Rattle.demand1.proofs.Lawful.{over-most, lawful-history}
@@ -38,17 +39,18 @@ unfolding wholeOf preamble
 whole-many false h e = omega (arith, e, blocks-length h, length-append (blocksOf h) (mark 0 (End (txCount h)) ∷ []))
 whole-many true h e = omega (arith, e, blocks-length h, length-append (blocksOf h) (mark 0 (End (txCount h)) ∷ []))
 
-lawful-movable : (second : Bool) {h : History} → LawfulHistory h → Movable second h
+lawful-movable : (second : Bool) {h : History} → ReadsSingle h → LawfulHistory h → Movable second h
 unfolding isOpen asBlocks
-lawful-movable second {h} w =
+lawful-movable second {h} k w =
     record {
       none-open = λ t a b. ne-eqb (tx h t .status) 3 (λ i. omega (arith, over-most (w .is-over t (record { from = a; to = b }))));
+      reads = k;
       many = whole-many second h (omega (arith, counts (blocks-grown w) .steps, open-none (asBlocks h) (blocks-over w), blocks-count w));
       long = λ n k. whole-size second n k h (blocks-grown w) (blocks-over w) ∙ ap (wholeSize second (txCount h)) (blocks-count w);
     }
 
-pub movable : (second : Bool) (s : List ℕ) {h : History} {notes : ℕ} → reading s ≡ read h notes → Movable second h
-movable second s e = lawful-movable second (lawful-history (has-read e))
+pub movable : (second : Bool) (s : List ℕ) {h : History} {notes : ℕ} → ReadsSingle h → reading s ≡ read h notes → Movable second h
+movable second s k e = lawful-movable second k (lawful-history (has-read e))
 
 -- ── its parts, from the last to the first, where its form and its number of transactions are known from elsewhere ──
 

@@ -4,14 +4,14 @@ ghost use mathlib.Core.Bool.{true, false};
 ghost use Prim.Native.Nat.{_≤_};
 ghost use lib.ListN.{length};
 ghost use Rattle.rules.specs.History.{txCount, opCount};
-ghost use Rattle.rules.specs.Records.{serialAt};
+ghost use Rattle.rules.specs.Records.{serialAt, isSecond};
 ghost use Rattle.table.specs.Table.{historyOf, Held};
 ghost use Rattle.rules.specs.Reading.{reading, notesOf};
 ghost use Rattle.writing.specs.Filling.{Gives, content, into};
 ghost use Rattle.writing.specs.Forms.{formOf, preamble, wholeOf};
 ghost use Rattle.writing.proofs.Sizes.{wholeSize};
 ghost use Rattle.blocks.specs.Blocks.{PutBefore, RoomBefore};
-ghost use Rattle.moving.specs.Moving.{isSame, movedTrace, movedTo};
+ghost use Rattle.moving.specs.Moving.{isSame, movedTrace, isListKind, listFrom, firstList, movedTo};
 ghost use Rattle.moving.specs.Tally.{talliedFill, filledOf, withNotes, movedToSecond, GivesTallied};
 ghost use Rattle.mover.specs.Mover.{wholeCount, Movable};
 use blocks::Place;
@@ -127,9 +127,46 @@ fn put_moved(trace: &[u8], h: &[u64], notes: usize, second: bool, out: &mut [u8]
     Tallied::Length(n, notes)
 }
 
+// ── appends and list reads, which edition 1 has not ──
+
+fn is_list_kind(kind: u16) -> bool
+    ensures { λ r. ⌜ r ≡ isListKind kind ⌝ }
+{
+    if kind == 23 {
+        return true;
+    }
+    kind == 24
+}
+
+// "the first such record": its offset, from record to record; the trace's length where there is none.
+fn list_from(trace: &[u8]) -> usize
+    ensures { λ r. ⌜ r ≡ listFrom (length (now (trace .entry))) (now (trace .entry)) 0 ⌝ }
+{
+    let n = trace.len();
+    let mut at = 0;
+    while at + 4 <= n {
+        if is_list_kind(frame::u16_at(trace, at + 2)) {
+            return at;
+        }
+        at = at + 2 + frame::u16_at(trace, at) as usize;
+    }
+    n
+}
+
+// .. of a trace that is of edition 2 or is not.
+fn first_list(is: bool, trace: &[u8]) -> usize
+    requires { ⌜ is ≡ isSecond (now trace) ⌝ }
+    ensures { λ r. ⌜ r ≡ firstList (now (trace .entry)) ⌝ }
+{
+    if is {
+        return list_from(trace);
+    }
+    trace.len()
+}
+
 // ── the calls ──
 
-// To edition 2 or 1: "Refusals: 01's for the input, then 16 for the output."
+// To edition 2 or 1: "Refusals: 01's for the input, then 16 for the output."; "20, list kinds in a move to edition 1, .. before 16".
 fn move_to(second: bool, trace: &[u8], out: &mut [u8]) -> Tallied
     ensures { λ r. ⌜ talliedFill r (now (out .exit)) ≡ withNotes (movedTo second (now (trace .entry)) (now (out .entry))) (notesOf (reading (now (trace .entry)))) ⌝ }
 {
@@ -138,8 +175,13 @@ fn move_to(second: bool, trace: &[u8], out: &mut [u8]) -> Tallied
     match read {
         Out::Bad(no, place) => Tallied::Refused(no, place),
         Out::Good(notes) => {
-            if is_same(frame::is_second(trace), second) {
+            let is = frame::is_second(trace);
+            if is_same(is, second) {
                 return put_same(trace, notes, out);
+            }
+            let place = first_list(is, trace);
+            if place < trace.len() {
+                return Tallied::Refused(20, place);
             }
             put_moved(trace, &h, notes, second, out)
         }

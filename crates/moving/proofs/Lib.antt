@@ -4,5 +4,6 @@ pub mod Renumbered
 pub mod Growing
 pub mod Turns
 pub mod Grown
+pub mod Lists
 pub mod Moving
 pub mod Tally

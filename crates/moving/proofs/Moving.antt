@@ -1,9 +1,12 @@
 -- What moving a trace comes to, by the definition's cases.
-use Prim.Native.Nat.{ℕ}
+use Prim.Native.Nat.{ℕ, _<_}
 use mathlib.Core.Path.{_≡_, refl}
 use mathlib.Core.Bool.{Bool, true, false, true≢false, false≢true}
 use mathlib.Core.List.{List}
 use mathlib.Core.Logic.{_↔_}
+use native.Mathlib.Omega.{arith}
+use lib.ListN.{length}
+use borrow.Author.Tests.{lt-ltb, le-ltb}
 use Rattle.base.specs.Base.{pick}
 use Rattle.rules.specs.History.{History}
 use Rattle.rules.specs.Records.{serialAt, isSecond}
@@ -11,7 +14,7 @@ use Rattle.rules.specs.Reading.{refused, read, reading}
 use Rattle.writing.specs.declared.Filled.{Filled}
 use Rattle.writing.specs.Filling.{refusing, said, content, fillOf, Gives, into}
 use Rattle.writing.proofs.Within.{filled-within}
-use Rattle.moving.specs.Moving.{isSame, movedTrace, movedRead, movedTo}
+use Rattle.moving.specs.Moving.{isSame, movedTrace, firstList, movedRead, movedTo}
 
 -- the test of two editions
 pub same-iff : (a b : Bool) → (isSame a b ≡ true) ↔ (a ≡ b)
@@ -37,6 +40,11 @@ module _ (second : Bool) (s o : List ℕ) where
     unfolding movedTo movedRead pick
     moved-same t = rw (e, t)
 
-    pub moved-other : isSame (isSecond s) second ≡ false → movedTo second s o ≡ into (content (movedTrace second (serialAt s 0) h)) o
+    pub moved-other : isSame (isSecond s) second ≡ false → firstList s ≡ length s → movedTo second s o ≡ into (content (movedTrace second (serialAt s 0) h)) o
     unfolding movedTo movedRead pick
-    moved-other t = rw (e, t)
+    moved-other t z = rw (e, t, le-ltb (firstList s) (length s) (omega arith))
+
+    -- .. of the other, with lists
+    pub moved-lists : isSame (isSecond s) second ≡ false → firstList s < length s → movedTo second s o ≡ fillOf (refusing 20 (firstList s)) o
+    unfolding movedTo movedRead into pick
+    moved-lists t l = rw (e, t, lt-ltb (firstList s) (length s) l)

@@ -1,18 +1,18 @@
 -- Request Five's cases: both directions with their bytes, what comes out unchanged, every way of being refused, and what becomes of operation numbers, orders,
--- pairs and findings; and request Six's: how many notes there were. As in document 01's tables: a table and one statement each.
+-- pairs and findings; request Six's: how many notes there were; and request Eleven's: lists. As in document 01's tables: a table and one statement each.
 use Prim.Native.Nat.{ℕ}
 use mathlib.Core.Path.{_≡_, refl}
 use mathlib.Core.Bool.{Bool, true, false}
 use mathlib.Core.List.{List, [], _∷_, _++_, map}
 use Rattle.theory.specs.Order.{place}
 use Rattle.rules.specs.History.{History}
-use Rattle.rules.specs.Traces.{Item, trace, opens, r, w, closes, ends, note, edition, rOf, wOf, closesOf, block, T, U, whole, overlapping, read, pair, room}
+use Rattle.rules.specs.Traces.{Item, trace, opens, r, w, closes, ends, note, edition, rOf, wOf, closesOf, aOf, lOf, block, T, U, whole, overlapping, read, pair, room}
 use Rattle.rules.specs.Edges.{as-they-should}
 use Rattle.rules.specs.Cases.{Case, case, all, found, acceptsWith, rejectsWith}
 use Rattle.writing.specs.Filling.{Fill}
 use Rattle.writing.specs.Forms.{itemWith, formBytes, formed, txBlock, blocksOf, preamble, wholeOf}
 use Rattle.writing.specs.Cases.{refusedIn, filledIn, as-written}
-use Rattle.moving.specs.Moving.{isSame, movedTrace, movedRead, movedTo}
+use Rattle.moving.specs.Moving.{isSame, movedTrace, isListKind, listFrom, firstList, movedRead, movedTo}
 use Rattle.moving.specs.Tally.{withNotes, movedToSecond}
 use Rattle.moving.specs.Renumbering.{isOpOf, numbersOf, inBlocks, newNumber, oldNumber, asBlocks}
 
@@ -44,6 +44,13 @@ aroundBytes =
 
 abbrev aroundBlocks : List ℕ
 aroundBlocks = whole 3 (block 9 0 (w 1 5 ∷ []) ++ T 4 (w 1 6 ∷ r 2 0 ∷ []) ++ block 9 2 (w 1 7 ∷ r 1 6 ∷ []))
+
+-- an append, a list read of it and another of no values; single values before a list read, and an append behind it
+abbrev appended : List ℕ
+appended = overlapping 1 (opens 1 ∷ aOf 1 1 5 ∷ lOf 1 1 (5 ∷ []) ∷ lOf 1 2 [] ∷ closesOf 1 1 ∷ [])
+
+abbrev readFirst : List ℕ
+readFirst = overlapping 2 (opens 1 ∷ wOf 1 2 5 ∷ opens 2 ∷ rOf 2 2 5 ∷ lOf 2 1 [] ∷ aOf 1 1 7 ∷ closesOf 1 1 ∷ closesOf 2 0 ∷ [])
 
 -- ── the bytes ──
 
@@ -100,6 +107,16 @@ moveTable =
     ∷ moveCase false (P12overlapping 0) 167 (filledIn 167 (P12 0))
     ∷ moveCase false (P12 0) 166 (refusedIn 166 16 167)
     ∷ moveCase true (P12overlapping 0) 192 (refusedIn 192 16 193)
+    -- "20, list kinds in a move to edition 1, place the first such record, before 16": an append, a list read
+    ∷ moveCase false appended 250 (refusedIn 250 20 20)
+    ∷ moveCase false readFirst 250 (refusedIn 250 20 74)
+    ∷ moveCase false readFirst 0 (refusedIn 0 20 74)
+    -- to edition 2 such a trace comes out unchanged
+    ∷ comes true appended appended
+    ∷ comes true readFirst readFirst
+    -- "17, a key with single values and lists" is a refusal for the input
+    ∷ moveCase false (overlapping 1 (opens 1 ∷ aOf 1 1 5 ∷ wOf 1 1 6 ∷ closesOf 1 1 ∷ [])) 250 (refusedIn 250 17 42)
+    ∷ moveCase true (overlapping 1 (opens 1 ∷ wOf 1 1 6 ∷ lOf 1 1 [] ∷ closesOf 1 1 ∷ [])) 250 (refusedIn 250 17 42)
     ∷ []
 
 abbrev pub nowMoved : MoveCase → MoveCase
@@ -107,7 +124,7 @@ nowMoved c = moveCase (c .second) (c .bytes) (c .room) (movedTo (c .second) (c .
 
 -- this statement carries along what it unfolds
 unfoldable pub as-moved : map nowMoved moveTable ≡ moveTable
-unfolding as-written itemWith formBytes formed txBlock blocksOf preamble wholeOf isSame movedTrace movedRead movedTo place isOpOf numbersOf inBlocks newNumber oldNumber asBlocks
+unfolding as-written itemWith formBytes formed txBlock blocksOf preamble wholeOf isSame movedTrace isListKind listFrom firstList movedRead movedTo place isOpOf numbersOf inBlocks newNumber oldNumber asBlocks
 as-moved = refl
 
 -- ── the notes ──

@@ -18,7 +18,7 @@ use Rattle.theory.proofs.Ascending.{entry-place}
 use Rattle.rules.specs.History.{History}
 use Rattle.rules.specs.Records.{isSecond}
 use Rattle.rules.specs.Reading.{State}
-use Rattle.demand1.specs.Rows.{kind, behind, note-in-second, kindKnown, Next, after-open, after-read, after-write, after-close, after-note, after-edition, Reaches, start, on, ReadInto, to-the-end}
+use Rattle.demand1.specs.Rows.{kind, behind, note-in-second, kindKnown, Next, after-open, after-read, after-write, after-append, after-list, after-close, after-note, after-edition, Reaches, start, on, ReadInto, to-the-end}
 use Rattle.written.specs.Writes.{recordAt}
 use Rattle.noteless.specs.Texts.{IsNote, NoteCount}
 
@@ -40,6 +40,8 @@ unfolding tally pick
 next-tally (after-open k) = (refl, rw k (omega arith))
 next-tally (after-read k _) = (refl, rw k (omega arith))
 next-tally (after-write k _) = (refl, rw k (omega arith))
+next-tally (after-append k _) = (refl, rw k (omega arith))
+next-tally (after-list k _) = (refl, rw k (omega arith))
 next-tally (after-close k _) = (refl, rw k (omega arith))
 next-tally (after-note k) = (refl, rw k)
 next-tally (after-edition k) = (refl, rw k (omega arith))

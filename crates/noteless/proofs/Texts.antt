@@ -1,7 +1,7 @@
 -- No byte of a note's text reaches an answer: a trace with other texts is read, turned into steps, written again and moved to edition 2 as it was.
 use Prim.Native.Nat.{ℕ, zero, suc, _+_, _<_, _≤_}
 use mathlib.Core.Path.{_≡_, refl, ap, sym, _∙_}
-use mathlib.Core.Bool.{Bool, true}
+use mathlib.Core.Bool.{Bool, true, false}
 use mathlib.Core.List.{List}
 use mathlib.Core.Logic.{⊎-elim}
 use native.Mathlib.Omega.{arith}
@@ -9,7 +9,7 @@ use lib.ListN.{length}
 use lib.Dec.{ltb}
 use lib.Seq.{ext-getD}
 use Rattle.base.specs.Base.{pick}
-use Rattle.base.proofs.Tests.{ifso, split, pick-of, pick-alike}
+use Rattle.base.proofs.Tests.{ifso, split, pick-of}
 use Rattle.rules.specs.Numbers.{over}
 use Rattle.rules.specs.History.{History}
 use Rattle.rules.specs.Records.{isSecond, eventAt}
@@ -26,6 +26,7 @@ use Rattle.writing.specs.Rewriting.{again, rewritten, rewrittenRead, rewrittenW
 use Rattle.written.specs.Writes.{recordAt}
 use Rattle.moving.specs.Moving.{isSame, movedRead, movedTo}
 use Rattle.moving.specs.Tally.{movedToSecond}
+use Rattle.moving.proofs.Lists.{first-none}
 use Rattle.noteless.specs.Texts.{InText, OtherTexts}
 use Rattle.noteless.proofs.Counted.{records-apart, notes-counted, none-counted, second-none}
 
@@ -75,7 +76,13 @@ module _ {s b : List ℕ} (x : OtherTexts s b) where
 
   -- all that the rows of a record's frame look at
   same-head : (k : ℕ) → SameHead s b (recordAt s k)
-  same-head k = record { header = same-header k; second = same-second; says = λ e. same-front k (λ n. omega arith) }
+  same-head k =
+      record {
+        header = same-header k;
+        second = same-second;
+        says = λ e. same-front k (λ n. omega arith);
+        counts = λ e l. agree-le (same-record k (λ n. omega arith)) 2 (recordAt s k + 14) (omega arith) (omega arith);
+      }
 
   -- every record has the event that it had
   same-event : (k : ℕ) → eventAt b (recordAt s k) ≡ eventAt s (recordAt s k)
@@ -110,7 +117,7 @@ module _ {s b : List ℕ} (x : OtherTexts s b) where
     -- the same row refuses it, or none does
     same-refusal : refusalNo b st ≡ refusalNo s st
     unfolding refusalNo stepRows misplaced unlawful excess repeats
-    same-refusal = rw (agree-frame head (st .serial), same-step (stepRows (st .history)) (λ t u. refl))
+    same-refusal = rw (agree-frame head (st .serial), same-step (stepRows (st .history)) (λ t u. refl), event)
 
     -- it leaves the same state
     same-after : after b st ≡ after s st
@@ -182,23 +189,24 @@ module _ {s b : List ℕ} (x : OtherTexts s b) where
   same-moved (refused n p) q = refl
   same-moved (read h n) q =
       ifso (isSecond s) (λ e. ap (λ y. movedRead true y (read h n)) (second-same e (has-read q)))
-      (λ e. rw (same-second, e, same-first))
+      (λ e. rw (same-second, e, same-first, first-none b (same-second ∙ e), first-none s e, x .same-length))
 
   same-to-second : (o : List ℕ) → movedTo true b o ≡ movedTo true s o
   unfolding movedTo
   same-to-second o = rw (texts-reading, same-moved (reading s) refl)
 
   -- a move to edition 1 copies what is edition 1: its notes are in what comes out, so the bytes are its own, but the answer is the same
-  same-answer : (second : Bool) (r : Reading) (o : List ℕ) → into (movedRead second b r) o .answer ≡ into (movedRead second s r) o .answer
-  unfolding movedRead
-  same-answer second (refused n p) o = refl
-  same-answer second (read h n) o =
-      rw (same-second, same-first)
-      (length-answers _ _ o (pick-alike (λ (l k : List ℕ). length l ≡ length k) (isSame (isSecond s) second) (x .same-length) refl))
+  same-answer : (second : Bool) (r : Reading) → reading s ≡ r → (o : List ℕ) → into (movedRead second b r) o .answer ≡ into (movedRead second s r) o .answer
+  unfolding movedRead isSame pick
+  same-answer true r q o = ap (λ y. into y o .answer) (same-moved r q)
+  same-answer false (refused n p) q o = refl
+  same-answer false (read h n) q o =
+      ifso (isSecond s) (λ e. ap (λ y. into (movedRead false y (read h n)) o .answer) (second-same e (has-read q)))
+      (λ e. rw (same-second, e) (length-answers b s o (x .same-length)))
 
   pub texts-moved-answer : (second : Bool) (o : List ℕ) → movedTo second b o .answer ≡ movedTo second s o .answer
   unfolding movedTo
-  texts-moved-answer second o = rw texts-reading (same-answer second (reading s) o)
+  texts-moved-answer second o = rw texts-reading (same-answer second (reading s) refl o)
 
   -- so moving to edition 2 gives the same answer, the number of notes with it, and the same bytes
   pub texts-moved : (o : List ℕ) → movedToSecond b o ≡ movedToSecond s o

@@ -1,7 +1,7 @@
 -- A trace without its notes is read into the same history.
 use Prim.Native.Nat.{ℕ, _+_, _%_, _^_, _<_, _≤_}
 use mathlib.Core.Path.{_≡_, refl, ap, sym, _∙_}
-use mathlib.Core.Bool.{false}
+use mathlib.Core.Bool.{true, false}
 use mathlib.Core.List.{List, [], _++_, append-assoc}
 use native.Mathlib.Omega.{arith}
 use lib.ListN.{length, length-append}
@@ -12,7 +12,7 @@ use Rattle.rules.specs.Records.{isSecond, payloadAt}
 use Rattle.rules.specs.Reading.{State, begin, after}
 use Rattle.rules.specs.Traces.{Item, note, recordOf}
 use Rattle.rules.proofs.Traces.{record-length}
-use Rattle.demand1.specs.Rows.{len, kind, serial, behind, lengthField, editionFirst, Passes, Reaches, start, on, ReadInto, to-the-end, HasHistory}
+use Rattle.demand1.specs.Rows.{len, kind, serial, behind, note-in-second, lengthField, kindKnown, editionFirst, Passes, Reaches, start, on, ReadInto, to-the-end, HasHistory}
 use Rattle.demand1.proofs.Steps.{next-after}
 use Rattle.demand1.proofs.Readings.{read-short}
 use Rattle.written.proofs.Records.{record-len, record-kind, record-serial, record-payload, record-within, first-record}
@@ -104,6 +104,8 @@ module _ (s b : List ℕ) (short : length s ≤ 32768) (few : length b ≤ 32768
     pub at-is : st .at ≡ length front
     -- what is the first record of s is the first of b
     pub no-longer : length left ≤ length front
+    -- edition 2 has no notes, so that every record of s stands in b where it stood
+    pub in-place : isSecond s ≡ true → length left ≡ length front
     pub low : m < 2 ^ 32
     pub next : ℕ
     pub follows : 0 < length left → m ≡ next
@@ -116,11 +118,12 @@ module _ (s b : List ℕ) (short : length s ≤ 32768) (few : length b ≤ 32768
     note-here = rw (y .at-is) (here-kind s front c (note p) x is (omega arith))
 
     -- b has nothing for it
-    behind-note : BothRead (front ++ recordOf c (note p)) left m (after s st)
-    behind-note =
+    behind-note : Passes s st → BothRead (front ++ recordOf c (note p)) left m (after s st)
+    behind-note q =
         record {
           at-is = next-at s front c (note p) x is short st (y .at-is);
           no-longer = omega (arith, up-to front c (note p), y .no-longer);
+          in-place = λ t. absurd (q kindKnown (note-in-second t note-here));
           low = y .low;
           next = y .next;
           follows = y .follows;
@@ -146,6 +149,7 @@ module _ (s b : List ℕ) (short : length s ≤ 32768) (few : length b ≤ 32768
     copied =
         record {
           second-is = same;
+          place-is = λ t. y .in-place t ∙ sym (y .at-is);
           kind-is = kind-there ∙ sym kind-here;
           len-is = rw (y .at-is) (here-len b left m i z so few ∙ sym (here-len s front c i x is short));
           payload-is = rw (y .at-is) (here-payload b left m i z so few ∙ sym (here-payload s front c i x is short));
@@ -166,6 +170,7 @@ module _ (s b : List ℕ) (short : length s ≤ 32768) (few : length b ≤ 32768
         record {
           at-is = next-at s front c i x is short st (y .at-is);
           no-longer = omega (arith, up-to front c i, up-to left m i, y .no-longer);
+          in-place = λ t. omega (arith, up-to front c i, up-to left m i, y .in-place t);
           low = omega arith;
           next = (m + 1) % 2 ^ 32;
           follows = λ _. refl;
@@ -187,7 +192,7 @@ module _ (s b : List ℕ) (short : length s ≤ 32768) (few : length b ≤ 32768
   read-on none front left is so y a = absurd (next-passes a lengthField (omega (arith, y .at-is, ap length is ∙ length-append front [])))
   read-on (left-out {s = x} c p u) front left is so y a =
       let i = note p in
-      read-on u (front ++ recordOf c i) left (is-behind s front c i x is) so (behind-note c p x is y) (past-note (note-here c p x is y) a)
+      read-on u (front ++ recordOf c i) left (is-behind s front c i x is) so (behind-note c p x is y (next-passes a)) (past-note (note-here c p x is y) a)
   read-on (kept {m} {s = x} {b = z} c i w d u) front left is so y a =
       read-here c i w d x z is so y u
       (λ v q. read-on u (front ++ recordOf c i) (left ++ recordOf m i) (is-behind s front c i x is) (is-behind b left m i z so) v q) a
@@ -205,4 +210,4 @@ module _ {first : ℕ} {s b : List ℕ} (w : WithoutNotes first s b) {h : Histor
       let short = read-short (r .reads) in
       let u = w .records in
       read-on s b short (omega (arith, shorter u)) without-edition u [] [] refl refl
-      (record { at-is = refl; no-longer = omega arith; low = w .low; next = 0; follows = λ l. absurd (omega arith); reaches = start }) (all-ahead (r .reads))
+      (record { at-is = refl; no-longer = omega arith; in-place = λ _. refl; low = w .low; next = 0; follows = λ l. absurd (omega arith); reaches = start }) (all-ahead (r .reads))

@@ -33,11 +33,11 @@ pub fn put_number(out: &mut [u8], at: usize, width: usize, n: u64) -> usize
 }
 
 // A key and a value.
-fn put_pair(out: &mut [u8], at: usize, key: u32, value: u64) -> usize
+fn put_pair(out: &mut [u8], at: usize, key: u64, value: u64) -> usize
     requires { ⌜ at + length (bytes 4 key ++ bytes 8 value) ≤ length (now out) ⌝ }
     ensures { λ r. ⌜ Appended (now (out .entry)) at (now (out .exit)) r (bytes 4 key ++ bytes 8 value) ⌝ }
 {
-    let to = put_number(out, at, 4, key as u64);
+    let to = put_number(out, at, 4, key);
     put_number(out, to, 8, value)
 }
 
@@ -100,7 +100,7 @@ fn put_first(out: &mut [u8], at: usize, event: Event) -> usize
 {
     match event {
         Event::Open(session) => put_number(out, at, 2, session as u64),
-        Event::Read(key, value) => put_pair(out, at, key, value),
+        Event::Read(key, value) => put_pair(out, at, key as u64, value),
         Event::Write(key, value) => put_pair(out, at, key, value),
         Event::Close(status) => put_number(out, at, 1, status as u64),
         Event::End(txs) => put_number(out, at, 2, txs as u64),
@@ -166,7 +166,7 @@ pub fn put_record(
 // ── a step ──
 
 // "kind (2), session or status (2), key (4), value (8)"
-fn put_fields(out: &mut [u8], at: usize, kind: u64, second: u16, key: u32, value: u64) -> usize
+fn put_fields(out: &mut [u8], at: usize, kind: u64, second: u16, key: u64, value: u64) -> usize
     requires { ⌜ at + length (fieldBytes kind second key value) ≤ length (now out) ⌝ }
     ensures { λ r. ⌜ Appended (now (out .entry)) at (now (out .exit)) r (fieldBytes kind second key value) ⌝ }
 {
@@ -182,7 +182,7 @@ pub fn put_step(out: &mut [u8], at: usize, event: Event) -> usize
 {
     match event {
         Event::Open(session) => put_fields(out, at, 1, session, 0, 0),
-        Event::Read(key, value) => put_fields(out, at, 2, 0, key, value),
+        Event::Read(key, value) => put_fields(out, at, 2, 0, key as u64, value),
         Event::Write(key, value) => put_fields(out, at, 3, 0, key, value),
         Event::Close(status) => put_fields(out, at, 4, status, 0, 0),
         Event::End(_) => at,

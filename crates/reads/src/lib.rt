@@ -68,7 +68,7 @@ fn wrote_before(h: &[u64], x: u64, a: usize, i: usize) -> bool
 }
 
 // Whether transaction t writes x above operation a.
-fn wrote_after(h: &[u64], t: usize, x: u64, a: usize) -> bool
+pub fn wrote_after(h: &[u64], t: usize, x: u64, a: usize) -> bool
     requires { ⌜ HasTx (now h) t ⌝ }
     ensures { λ r. ⌜ r ≡ wroteBetween (historyOf (now (h .entry))) t x a (opCount (historyOf (now (h .entry))) + 1) ⌝ }
 {

@@ -2,6 +2,7 @@ pub mod Numbers
 pub mod Records
 pub mod Traces
 pub mod History
+pub mod Singles
 pub mod Origin
 pub mod Committed
 pub mod Meeting

@@ -1,13 +1,15 @@
 -- Laws of bytes as numbers, and of bytes that are written over others.
-use Prim.Native.Nat.{ℕ, zero, suc, _+_, _*_, _/_, _%_, _^_, _<_, _≤_}
+use Prim.Native.Nat.{ℕ, zero, suc, _+_, _-_, _*_, _/_, _%_, _^_, _<_, _≤_}
 use mathlib.Core.Path.{_≡_, refl, ap, sym, _∙_}
 use mathlib.Core.List.{List, [], _∷_, _++_, append-assoc, append-nil}
+use mathlib.Core.Logic.{⊎-elim}
 use native.Mathlib.Omega.{arith}
 use native.Mathlib.Numerals.{add-one, unary-clauses}
-use lib.ListN.{length, getD, take, drop, List·getD-append}
-use lib.Seq.{getD-append-add, getD-take, take-suc, take-all, take-append-seam, drop-append-seam, append-snoc}
+use lib.ListN.{length, getD, take, drop, length-take, List·getD-append, List·getD-eq-default}
+use lib.Seq.{getD-append-add, getD-take, getD-drop, take-suc, take-all, take-append-seam, drop-append-seam, append-snoc}
+use Rattle.base.proofs.Tests.{split}
 use Rattle.base.proofs.Fill.{Appended}
-use Rattle.rules.specs.Numbers.{le, bytes, over}
+use Rattle.rules.specs.Numbers.{le, bytes, part, over}
 
 -- ── numbers ──
 
@@ -41,6 +43,21 @@ pub le-take : (w i m : ℕ) (s : List ℕ) → i + w ≤ m → le w (take m s) i
 unfolding le
 le-take zero i m s l = refl
 le-take (suc w) i m s l = rw (getD-take m s i 0 (omega arith), le-take w (i + 1) m s (omega arith))
+
+-- w bytes spell a number below 256^w
+wider : (w x : ℕ) → x < 256 ^ w * 256 → x < 256 ^ suc w
+wider w x h = simp unary-clauses h
+
+pub le-small : (w : ℕ) (s : List ℕ) (at : ℕ) → ((i : ℕ) → getD s i 0 < 256) → le w s at < 256 ^ w
+unfolding le
+le-small zero s at b = omega arith
+le-small (suc w) s at b = wider w (getD s at 0 + 256 * le w s (at + 1)) (omega (arith, b at, le-small w s (at + 1) b))
+
+-- a part of a list of bytes has bytes
+pub part-each : (a e : ℕ) (s : List ℕ) → ((i : ℕ) → getD s i 0 < 256) → (i : ℕ) → getD (part a e s) i 0 < 256
+part-each a e s b i =
+    ⊎-elim (λ l. rw (getD-take (e - a) (drop a s) i 0 l, getD-drop a s i 0) (b (a + i)))
+    (λ (g : e - a ≤ i). rw (List·getD-eq-default (part a e s) 0 {n = i} (omega (arith, length-take (e - a) (drop a s)))) (omega arith)) (split i (e - a))
 
 -- the bytes of a number spell it
 pub le-bytes : (w n : ℕ) (s : List ℕ) → n < 256 ^ w → le w (bytes w n ++ s) 0 ≡ n

@@ -1,9 +1,9 @@
--- What a trace says: its transactions, numbered 1, 2, .. as they open, and its reads and writes, numbered 1, 2, .. over the whole trace.
-use Prim.Native.Nat.{ℕ, _+_}
+-- What a trace says: its transactions, numbered 1, 2, .. as they open, and its operations, numbered 1, 2, .. over the whole trace.
+use Prim.Native.Nat.{ℕ, _+_, _%_}
 use mathlib.Core.Bool.{Bool, false, not}
 use mathlib.Core.List.{List, [], _∷_, _++_}
 use lib.ListN.{length, getD}
-use lib.Dec.{eqb}
+use lib.Dec.{ltb, eqb}
 use Rattle.base.specs.Base.{_and_, pick, some, last, numbered}
 use Rattle.theory.specs.Reached.{reach}
 
@@ -109,6 +109,35 @@ vouches h a u = isUnanswered h u and not (eqb a u) and some 1 (opCount h + 1) (t
 -- set is meant. All others count as aborted."
 unfoldable pub committed : History → ℕ → Bool
 committed h t = reach (saysCommitted h) (vouches h) (size h) (size h) t
+
+-- ── keys of lists: document 02, "lists instead of single values" ──
+
+-- A key is a number below 2^32 in a trace. An append of v to x is held as a write of v to the key 2^32 + x; a list read of x as a write to the key 2^33 + x of
+-- the offset that its record has, where the list stands. No read and no write of single values has such a key, so that what speaks of these meets neither
+abbrev pub appendKey : ℕ → ℕ
+appendKey x = 4294967296 + x
+
+abbrev pub listKey : ℕ → ℕ
+listKey x = 8589934592 + x
+
+-- the key of an operation as the trace has it, from the key that it is held with; and whether it is one with single values
+abbrev pub plainKey : ℕ → ℕ
+plainKey k = k % 4294967296
+
+abbrev pub isSingle : ℕ → Bool
+isSingle k = ltb k 4294967296
+
+-- one is of single values and the other of lists
+unfoldable pub isOther : Bool → Bool → Bool
+isOther a b = pick a (not b) b
+
+-- operation i has the key of another, which is held with k, and is of the other sort
+unfoldable pub clashes : History → ℕ → ℕ → Bool
+clashes h k i = eqb (plainKey (op h i .key)) (plainKey k) and isOther (isSingle (op h i .key)) (isSingle k)
+
+-- .. some operation does, of whatever transaction: "a key with single values and lists"
+unfoldable pub mixesKey : History → ℕ → Bool
+mixesKey h k = some 1 (opCount h + 1) (clashes h k)
 
 -- ── how a history grows ──
 

@@ -14,28 +14,28 @@ pub record Overlap : Type 0 where
   pub bytes : List ℕ
   pub out : Reading
 
-abbrev overlap : List ℕ → Reading → Overlap
+abbrev pub overlap : List ℕ → Reading → Overlap
 overlap b x = record { bytes = b; out = x }
 
 -- the records behind the one that says edition 2, and the refusal
-abbrev refuses : List Item → ℕ → ℕ → Overlap
+abbrev pub refuses : List Item → ℕ → ℕ → Overlap
 refuses l n at = overlap (trace 0 (edition 2 ∷ l)) (refused n at)
 
 -- the same with bytes behind them
-abbrev refusesRaw : List Item → List ℕ → ℕ → ℕ → Overlap
+abbrev pub refusesRaw : List Item → List ℕ → ℕ → ℕ → Overlap
 refusesRaw l b n at = overlap (trace 0 l ++ b) (refused n at)
 
 -- n transactions, and what they are read into
-abbrev reads : ℕ → List Item → List Tx → List Op → Overlap
+abbrev pub reads : ℕ → List Item → List Tx → List Op → Overlap
 reads n l txs ops = overlap (overlapping n l) (read (record { txs = txs; ops = ops }) 0)
 
-abbrev a : ℕ → ℕ → Tx
+abbrev pub a : ℕ → ℕ → Tx
 a s c = record { session = s; status = c }
 
-abbrev wrote : ℕ → ℕ → ℕ → Op
+abbrev pub wrote : ℕ → ℕ → ℕ → Op
 wrote t x v = record { tx = t; isWrite = true; key = x; value = v }
 
-abbrev took : ℕ → ℕ → ℕ → Op
+abbrev pub took : ℕ → ℕ → ℕ → Op
 took t x v = record { tx = t; isWrite = false; key = x; value = v }
 
 abbrev pub overlapTable : List Overlap
@@ -109,10 +109,10 @@ pub record SecondLimit : Type 0 where
   pub no : ℕ
 
 -- 127 transactions, the latest of which is open, in session 1
-abbrev lastOpen : State
+abbrev pub lastOpen : State
 lastOpen = record { at = 0; serial = 0; history = record { txs = closedState 126 .history .txs ++ (a 1 3 ∷ []); ops = [] }; notes = 0 }
 
-abbrev second : State → Item → ℕ → SecondLimit
+abbrev pub second : State → Item → ℕ → SecondLimit
 second st i n = record { state = record { at = 10; serial = 1; history = st .history; notes = 0 }; item = i; no = n }
 
 abbrev pub secondLimits : List SecondLimit

@@ -1,12 +1,12 @@
 -- Document 01, "When the judge declines", rows 2 to 11: how a trace is read, record by record, into a history. Document 02, "overlapping transactions": in
--- either edition; "notes go": of the notes only their number is kept.
+-- either edition; "notes go": of the notes only their number is kept; "lists instead of single values": row 17.
 use Prim.Native.Nat.{ℕ, zero, suc, _+_}
 use mathlib.Core.Bool.{Bool, true, false, not}
 use mathlib.Core.List.{List, [], _∷_, _++_}
 use lib.ListN.{length}
 use lib.Dec.{ltb, leb, eqb}
 use Rattle.base.specs.Base.{pick, Row, row, firstFit}
-use Rattle.rules.specs.History.{History, txCount, opCount, empty, opened, closed, withOp, current, openOf, anyOpen, writeOf}
+use Rattle.rules.specs.History.{History, txCount, opCount, empty, opened, closed, withOp, current, openOf, anyOpen, writeOf, mixesKey}
 use Rattle.rules.specs.Records.{nextAt, nextSerial, isSecond, sessionAt, eventAt, frameRows}
 use Rattle.rules.specs.declared.Event.{Event}
 use Rattle.rules.specs.declared.Event.the-variants.{Open, Read, Write, Close, End, Note, Other}
@@ -23,7 +23,8 @@ misplaced t (End n) = ltb 0 t
 misplaced t Note = false
 misplaced t Other = false
 
--- row 8: "written value 0; status above 1; end number wrong", and of the status: "8 now begins at status 3"
+-- row 8: "written value 0; status above 1; end number wrong", and of the status: "8 now begins at status 3"; of lists "8 for number 33 and up or an appended
+-- 0", both being held as a write of 0
 unfoldable pub unlawful : History → Event → Bool
 unlawful h (Open s) = false
 unlawful h (Read x v) = false
@@ -43,7 +44,7 @@ excess h (End n) = false
 excess h Note = false
 excess h Other = false
 
--- row 10: "a write repeats a key and value that an earlier write has, in any transaction"
+-- row 10: "a write repeats a key and value that an earlier write has, in any transaction"; "10 also for a repeated append". Two list reads have two offsets
 unfoldable pub repeats : History → Event → Bool
 repeats h (Open s) = false
 repeats h (Read x v) = false
@@ -56,6 +57,20 @@ repeats h Other = false
 -- ".. 7, 8, 9, 10."
 unfoldable pub stepRows : History → ℕ → Event → List Row
 stepRows h t e = row (misplaced t e) 7 ∷ row (unlawful h e) 8 ∷ row (excess h e) 9 ∷ row (repeats h e) 10 ∷ []
+
+-- row 17: "a key with single values and lists", by the operation that an event would be
+unfoldable pub mixes : History → Event → Bool
+mixes h (Open s) = false
+mixes h (Read x v) = mixesKey h x
+mixes h (Write x v) = mixesKey h x
+mixes h (Close c) = false
+mixes h (End n) = false
+mixes h Note = false
+mixes h Other = false
+
+-- ".. within a record after 10": the row behind those of a step
+unfoldable pub mixRows : History → Event → List Row
+mixRows h e = row (mixes h e) 17 ∷ []
 
 -- what a lawful event enters
 unfoldable pub entered : History → ℕ → Event → History
@@ -118,7 +133,8 @@ met s st = metIn (isSecond s) (st .history) (sessionAt s (st .at)) (eventIn s st
 -- the number of the first row that refuses that record; 0 where none does
 unfoldable pub refusalNo : List ℕ → State → ℕ
 refusalNo s st =
-    firstFit (frameRows (isSecond s) s (st .at) (st .serial) ++ stepRows (st .history) (met s st) (eventIn s st))
+    firstFit
+    (frameRows (isSecond s) s (st .at) (st .serial) ++ stepRows (st .history) (met s st) (eventIn s st) ++ mixRows (st .history) (eventIn s st))
 
 -- the state behind that record
 unfoldable pub after : List ℕ → State → State

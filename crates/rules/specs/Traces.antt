@@ -2,6 +2,7 @@
 use Prim.Native.Nat.{ℕ, zero, suc, _+_, _-_, _/_, _%_, _^_}
 use mathlib.Core.List.{List, [], _∷_, _++_}
 use lib.ListN.{length}
+use Rattle.base.specs.Base.{joined}
 use Rattle.rules.specs.Numbers.{bytes}
 use Rattle.rules.specs.Outcome.{Outcome, outcome, declining, rejecting, accepting}
 
@@ -56,6 +57,13 @@ wOf s x v = item 3 (bytes 2 s ++ bytes 4 x ++ bytes 8 v)
 
 abbrev pub closesOf : ℕ → ℕ → Item
 closesOf s c = item 4 (bytes 2 s ++ bytes 1 c)
+
+-- .. an append and a list read: "session, key, value" and "session, key, a 2-byte number .., that many values"
+abbrev pub aOf : ℕ → ℕ → ℕ → Item
+aOf s x v = item 23 (bytes 2 s ++ bytes 4 x ++ bytes 8 v)
+
+abbrev pub lOf : ℕ → ℕ → List ℕ → Item
+lOf s x vs = item 24 (bytes 2 s ++ bytes 4 x ++ bytes 2 (length vs) ++ joined (bytes 8) vs)
 
 -- a transaction of session s with status c; a committed one, an unanswered one
 abbrev pub block : ℕ → ℕ → List Item → List Item

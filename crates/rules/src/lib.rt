@@ -1,11 +1,12 @@
 // The answers and events that code and definitions share. specs/ says what they mean; nothing here computes.
 
-// A record's kind with what its payload says, but for the session that a read, a write or a close of edition 2 has. Other is the record that says the
-// edition, which does nothing to the history, and any unknown kind.
+// A record's kind with what its payload says, but for the session that an operation or a close of edition 2 has. A write's key is below 2^32 in a trace; an
+// append and a list read are held as writes to greater ones (specs/History.antt). Other is the record that says the edition, which does nothing to the
+// history, and any unknown kind.
 pub enum Event {
     Open(u16),
     Read(u32, u64),
-    Write(u32, u64),
+    Write(u64, u64),
     Close(u16),
     End(u16),
     Note,

@@ -7,6 +7,7 @@ ghost use lib.ListN.{length, getD};
 ghost use Rattle.rules.specs.History.{txCount, isOpen, openOf, anyOpen};
 ghost use Rattle.rules.specs.Reading.{isEnd, metIn};
 ghost use Rattle.table.specs.Table.{historyOf, Held, HasTx, Below};
+ghost use Rattle.steps.specs.Steps.{Takable};
 ghost use Rattle.sessions.specs.Open.{bucketFor, Kept, OnWay, linked, unlinked, Beside, isClose, Placed, keptBy, TookOf};
 use rules::Event;
 use steps::Next;
@@ -167,7 +168,7 @@ fn keep(n: usize, t: usize, p: usize, h: &[u64], o: &mut [u8])
 
 // The step of any event, where `session` is its record's, in edition 2. The bytes keep who is open behind it. One call of the step serves both editions.
 pub fn take(event: Event, session: u16, second: bool, h: &mut [u64], o: &mut [u8]) -> Next
-    requires { ⌜ Held (now h) × Beside second (now o) (historyOf (now h)) ⌝ }
+    requires { ⌜ Held (now h) × Beside second (now o) (historyOf (now h)) × Takable (historyOf (now h)) event ⌝ }
     ensures { λ r. ⌜ TookOf r (now (h .exit)) (now (o .exit)) (now (h .entry)) (now (o .entry)) second session event ⌝ }
 {
     let t = met(event, session, second, h, o);

@@ -1,18 +1,19 @@
 -- How a step meets its contract: by the first row that refuses, or where none does.
 use Prim.Native.Nat.{ℕ, _<_}
-use mathlib.Core.Path.{_≡_, refl}
-use mathlib.Core.Bool.{true, false}
-use mathlib.Core.List.{List}
+use mathlib.Core.Path.{_≡_, refl, ap, sym, _∙_}
+use mathlib.Core.Bool.{Bool, true, false}
+use mathlib.Core.List.{List, [], _∷_, _++_}
 use native.Mathlib.Omega.{arith}
 use lib.Dec.{ltb}
-use borrow.Author.Tests.{lt-ltb}
-use Rattle.base.specs.Base.{pick, firstFit}
-use Rattle.base.proofs.Rows.{fit-here, fit-past, fit-none}
+use borrow.Author.Tests.{eqb-false, leb-false, lt-ltb}
+use Rattle.base.specs.Base.{pick, Row, row, firstFit}
+use Rattle.base.proofs.Rows.{fit-here, fit-past, fit-none, fit-unfit, fit-append, fit-behind, RowsCounted}
+use Rattle.rules.specs.History.{opCount, writeOf}
 use Rattle.rules.specs.Reading.{misplaced, unlawful, excess, repeats, stepRows, entered}
 use Rattle.rules.specs.declared.Event.{Event}
-use Rattle.rules.specs.declared.Event.the-variants.{Note, Other}
+use Rattle.rules.specs.declared.Event.the-variants.{Write, Note, Other}
 use Rattle.table.specs.Table.{historyOf, Held, Becomes}
-use Rattle.steps.specs.Steps.{put, goes, stepNo, Took}
+use Rattle.steps.specs.Steps.{put, goes, stepNo, writeRows, Took}
 use Rattle.steps.specs.declared.Next.{Next}
 use Rattle.steps.specs.declared.Next.the-variants.{Go, Count, Refuse}
 
@@ -66,3 +67,53 @@ idle-note g t h = stays g t Note refl refl refl refl refl h refl refl
 pub idle-other : (g : List ℕ) (t : ℕ) → Held g → Took Go g g t Other
 unfolding misplaced unlawful excess repeats goes put entered
 idle-other g t h = stays g t Other refl refl refl refl refl h refl refl
+
+-- ── what is held as a write ──
+
+module _ (g : List ℕ) (t x v : ℕ) (h : Held g) where
+  counted : RowsCounted (writeRows (historyOf g) t v)
+  unfolding writeRows RowsCounted
+  counted = (omega arith, (omega arith, (omega arith, tt)))
+
+  -- its rows are 7, 8 and 9, and 10
+  abbrev tenth : List Row
+  tenth = row (ltb 0 (writeOf (historyOf g) x v)) 10 ∷ []
+
+  rows-are : stepRows (historyOf g) t (Write x v) ≡ writeRows (historyOf g) t v ++ tenth
+  unfolding stepRows writeRows misplaced unlawful excess repeats
+  rows-are = refl
+
+  pub write-refused : {n : ℕ} → n ≡ firstFit (writeRows (historyOf g) t v) → 0 < n → Took (Refuse n) g g t (Write x v)
+  write-refused {n} q p =
+      refuses g t (Write x v) h (q ∙ sym (ap firstFit rows-are ∙ fit-append (writeRows (historyOf g) t v) tenth (rw (← q) p))) p
+
+  module _ (q : 0 ≡ firstFit (writeRows (historyOf g) t v)) where
+    write-no : {b : Bool} → ltb 0 (writeOf (historyOf g) x v) ≡ b → firstFit (stepRows (historyOf g) t (Write x v)) ≡ pick b 10 0
+    unfolding firstFit pick
+    write-no {b} e = ap firstFit rows-are ∙ fit-behind (writeRows (historyOf g) t v) tenth counted (sym q) ∙ rw e (one b)
+      where
+        one : (b : Bool) → firstFit (row b 10 ∷ []) ≡ pick b 10 0
+        one true = refl
+        one false = refl
+
+    pub write-again : ltb 0 (writeOf (historyOf g) x v) ≡ true → Took (Refuse 10) g g t (Write x v)
+    unfolding pick
+    write-again e = refuses g t (Write x v) h (sym (write-no e)) (omega arith)
+
+    -- it may be entered
+    pub write-room : (0 < t) × (opCount (historyOf g) < 1024) × (0 < v)
+    unfolding writeRows
+    write-room =
+        let a = fit-unfit _ 7 _ (omega arith) (sym q) in
+        let b = fit-unfit _ 8 _ (omega arith) (a .1) in
+        let c = fit-unfit _ 9 _ (omega arith) (b .1) in
+        let d = eqb-false t 0 (a .0) in
+        let f = eqb-false v 0 (b .0) in
+        (omega arith, leb-false 1024 (opCount (historyOf g)) (c .0), omega arith)
+
+    pub write-enters : {r : Next} {g2 : List ℕ} → ltb 0 (writeOf (historyOf g) x v) ≡ false → r ≡ goes (Write x v)
+        → Becomes g2 (put g t (Write x v)) (entered (historyOf g) t (Write x v)) → Took r g2 g t (Write x v)
+    unfolding stepNo pick
+    write-enters e is y =
+        let n = write-no e in
+        record { is = rw n is; words = rw n (y .is); history = rw n (y .holds .is); held = y .holds .held }

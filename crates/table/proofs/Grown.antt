@@ -5,10 +5,10 @@ use mathlib.Core.Bool.{Bool, true, false}
 use mathlib.Core.Logic.{⊎-elim}
 use mathlib.Core.List.{List}
 use native.Mathlib.Omega.{arith}
-use lib.Dec.{eqb}
+use lib.Dec.{ltb, eqb}
 use borrow.Author.Tests.{ne-eqb}
 use Rattle.base.specs.Base.{_and_, last}
-use Rattle.base.proofs.Tests.{split, ifso}
+use Rattle.base.proofs.Tests.{split, ifso, pick-both}
 use Rattle.base.proofs.Chains.{last-less, last-is, last-hit, last-miss, last-same}
 use Rattle.rules.specs.History.{History, Tx, Op, op, opCount, withOp}
 use Rattle.rules.proofs.History.{with-op-count, with-op-old, with-op-new}
@@ -34,7 +34,7 @@ link-of-less h i a = last-less (inBucket h (bucketOf (op h i .key) (op h i .valu
 
 pub bucket-low : (x v : ℕ) → bucketOf x v < 128
 unfolding bucketOf
-bucket-low x v = omega arith
+bucket-low x v = pick-both (λ (n : ℕ). n < 128) (ltb x 8589934592) (omega arith) (omega arith)
 
 -- ── other transactions, as where one opens or closes: no operation changes ──
 

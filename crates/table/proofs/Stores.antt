@@ -313,28 +313,28 @@ flag true = (refl, omega arith, refl)
 flag false = (refl, omega arith, refl)
 
 -- the fields of an operation's first word, whatever number q is kept above them
-fields-say : (t n k v q : ℕ) → t < 128 → n ≤ 1 → k < 4294967296
-    → opOf (t + 128 * n + 256 * k + 1099511627776 * q) v ≡ record { tx = t; isWrite = eqb n 1; key = k; value = v }
+fields-say : (t n k v q : ℕ) → t < 128 → n ≤ 1 → k < 17179869184
+    → opOf (t + 128 * n + 256 * k + 4398046511104 * q) v ≡ record { tx = t; isWrite = eqb n 1; key = k; value = v }
 unfolding opOf
 fields-say t n k v q l f m =
-    let a : (t + 128 * n + 256 * k + 1099511627776 * q) % 128 ≡ t = omega arith in
-    let d : (t + 128 * n + 256 * k + 1099511627776 * q) / 128 ≡ 2 * (k + 4294967296 * q) + n = omega arith in
-    let b : (2 * (k + 4294967296 * q) + n) % 2 ≡ n = omega arith in
-    let e : (t + 128 * n + 256 * k + 1099511627776 * q) / 256 ≡ k + 4294967296 * q = omega arith in
-    let c : (k + 4294967296 * q) % 4294967296 ≡ k = omega arith in
+    let a : (t + 128 * n + 256 * k + 4398046511104 * q) % 128 ≡ t = omega arith in
+    let d : (t + 128 * n + 256 * k + 4398046511104 * q) / 128 ≡ 2 * (k + 17179869184 * q) + n = omega arith in
+    let b : (2 * (k + 17179869184 * q) + n) % 2 ≡ n = omega arith in
+    let e : (t + 128 * n + 256 * k + 4398046511104 * q) / 256 ≡ k + 17179869184 * q = omega arith in
+    let c : (k + 17179869184 * q) % 17179869184 ≡ k = omega arith in
     rw (a, d, b, e, c)
 
-word-says : (t k v q : ℕ) (b : Bool) → t < 128 → k < 4294967296 → opOf (t + pick b 128 0 + 256 * k + 1099511627776 * q) v ≡ record { tx = t; isWrite = b; key = k; value = v }
+word-says : (t k v q : ℕ) (b : Bool) → t < 128 → k < 17179869184 → opOf (t + pick b 128 0 + 256 * k + 4398046511104 * q) v ≡ record { tx = t; isWrite = b; key = k; value = v }
 word-says t k v q b l m =
     let f = flag b in
     rw (f .0) (fields-say t (pick b 1 0) k v q l (f .1) m ∙ λ i. record { tx = t; isWrite = f .2 i; key = k; value = v })
 
 -- .. and the two numbers that are
-word-keeps : (t k q l : ℕ) (b : Bool) → t < 128 → k < 4294967296 → q < 2048
-    → ((t + pick b 128 0 + 256 * k + 1099511627776 * (q + 2048 * l)) / 1099511627776 % 2048 ≡ q)
-    × ((t + pick b 128 0 + 256 * k + 1099511627776 * (q + 2048 * l)) / 2251799813685248 ≡ l)
+word-keeps : (t k q l : ℕ) (b : Bool) → t < 128 → k < 17179869184 → q < 2048
+    → ((t + pick b 128 0 + 256 * k + 4398046511104 * (q + 2048 * l)) / 4398046511104 % 2048 ≡ q)
+    × ((t + pick b 128 0 + 256 * k + 4398046511104 * (q + 2048 * l)) / 9007199254740992 ≡ l)
 word-keeps t k q l b m n s =
-    let a : (t + pick b 128 0 + 256 * k + 1099511627776 * (q + 2048 * l)) / 1099511627776 ≡ q + 2048 * l = omega (arith, flag b .0, flag b .1) in
+    let a : (t + pick b 128 0 + 256 * k + 4398046511104 * (q + 2048 * l)) / 4398046511104 ≡ q + 2048 * l = omega (arith, flag b .0, flag b .1) in
     (rw a (omega arith), omega (arith, flag b .0, flag b .1))
 
 -- the number of the next operation
@@ -346,11 +346,11 @@ record Entered (h : List ℕ) (o : Op) (q : ℕ) (g : List ℕ) : Type 0 where
   room : length g ≡ length h
   count : getD g 0 0 ≡ getD h 0 0 + 128
   word : getD g (o .tx) 0 ≡ getD h (o .tx) 0 % 262144 + 262144 * nextOp h
-  word-1 : getD g (128 + 2 * nextOp h) 0 ≡ o .tx + pick (o .isWrite) 128 0 + 256 * o .key + 1099511627776 * (getD h (o .tx) 0 / 262144 % 2048 + 2048 * q)
+  word-1 : getD g (128 + 2 * nextOp h) 0 ≡ o .tx + pick (o .isWrite) 128 0 + 256 * o .key + 4398046511104 * (getD h (o .tx) 0 / 262144 % 2048 + 2048 * q)
   word-2 : getD g (129 + 2 * nextOp h) 0 ≡ o .value
   other : (k : ℕ) → 1 ≤ k → k < 2178 → (k ≡ o .tx → ⊥) → (k ≡ 128 + 2 * nextOp h → ⊥) → (k ≡ 129 + 2 * nextOp h → ⊥) → getD g k 0 ≡ getD h k 0
 
-module _ (h : List ℕ) (o : Op) (p : HasTx h (o .tx)) (small : o .key < 4294967296) (more : opCount (historyOf h) < 1024) where
+module _ (h : List ℕ) (o : Op) (p : HasTx h (o .tx)) (small : o .key < 17179869184) (more : opCount (historyOf h) < 1024) where
   abbrev put-op : ℕ
   put-op = nextOp h
 
@@ -364,9 +364,9 @@ module _ (h : List ℕ) (o : Op) (p : HasTx h (o .tx)) (small : o .key < 4294967
   put-in = omega (arith, op-count h)
 
   -- what the four stores do
-  module _ (w q : ℕ) (is : w ≡ o .tx + pick (o .isWrite) 128 0 + 256 * o .key + 2251799813685248 * q) where
+  module _ (w q : ℕ) (is : w ≡ o .tx + pick (o .isWrite) 128 0 + 256 * o .key + 9007199254740992 * q) where
     abbrev put-1 : List ℕ
-    put-1 = set h (128 + 2 * put-op) (w + 1099511627776 * (put-tx / 262144 % 2048))
+    put-1 = set h (128 + 2 * put-op) (w + 4398046511104 * (put-tx / 262144 % 2048))
 
     abbrev put-2 : List ℕ
     put-2 = set put-1 (129 + 2 * put-op) (o .value)
@@ -512,7 +512,7 @@ module _ (h : List ℕ) (o : Op) (p : HasTx h (o .tx)) (small : o .key < 4294967
   put-read-holds : o .isWrite ≡ false → HoldsHistory (putRead h o) (withOp (historyOf h) o)
   unfolding putRead
   put-read-holds f =
-      let w : o .tx + 256 * o .key ≡ o .tx + pick (o .isWrite) 128 0 + 256 * o .key + 2251799813685248 * 0 = rw (pick-off {X = ℕ} (o .isWrite) 128 0 f) (omega arith) in
+      let w : o .tx + 256 * o .key ≡ o .tx + pick (o .isWrite) 128 0 + 256 * o .key + 9007199254740992 * 0 = rw (pick-off {X = ℕ} (o .isWrite) 128 0 f) (omega arith) in
       entered-holds 0 _ (words-entered _ 0 w) (λ t. absurd (clash t f)) (λ b t. absurd (clash (and-left _ _ t) f)) (λ b t. words-heads _ 0 w b)
 
   -- a write: its bucket's word is stored anew
@@ -521,9 +521,9 @@ module _ (h : List ℕ) (o : Op) (p : HasTx h (o .tx)) (small : o .key < 4294967
   put-write-holds f =
       let c = bucketOf (o .key) (o .value) in
       let q = getD h (2178 + c) 0 in
-      let w : o .tx + 128 + 256 * o .key + 2251799813685248 * q ≡ o .tx + pick (o .isWrite) 128 0 + 256 * o .key + 2251799813685248 * q = rw (pick-on {X = ℕ} (o .isWrite) 128 0 f) in
+      let w : o .tx + 128 + 256 * o .key + 9007199254740992 * q ≡ o .tx + pick (o .isWrite) 128 0 + 256 * o .key + 9007199254740992 * q = rw (pick-on {X = ℕ} (o .isWrite) 128 0 f) in
       let e = words-entered _ q w in
-      let g = putWords h (o .tx) (o .tx + 128 + 256 * o .key + 2251799813685248 * q) (o .value) in
+      let g = putWords h (o .tx) (o .tx + 128 + 256 * o .key + 9007199254740992 * q) (o .value) in
       entered-holds q _ (head-entered c put-op e) (λ t. refl)
       (λ b t.
       let d : b ≡ c = sym (eqb-true c b (and-right _ _ t)) in
@@ -539,10 +539,10 @@ module _ (h : List ℕ) (o : Op) (p : HasTx h (o .tx)) (small : o .key < 4294967
       (λ t. rw (pick-off (o .isWrite) (putWrite h o) (putRead h o) t) (put-read-holds t))
 
 -- .. as the program stores it
-pub put-becomes : (h g : List ℕ) (o : Op) → HasTx h (o .tx) → o .key < 4294967296 → opCount (historyOf h) < 1024 → g ≡ putOp h o → Becomes g (putOp h o) (withOp (historyOf h) o)
+pub put-becomes : (h g : List ℕ) (o : Op) → HasTx h (o .tx) → o .key < 17179869184 → opCount (historyOf h) < 1024 → g ≡ putOp h o → Becomes g (putOp h o) (withOp (historyOf h) o)
 put-becomes h g o p l m e = record { is = e; holds = rw e (put-op-holds h o p l m) }
 
-pub write-stored : (h g : List ℕ) (t k v b : ℕ) → b ≡ bucketOf k v → g ≡ putWords h t (t + 128 + 256 * k + 2251799813685248 * getD h (2178 + b) 0) v
+pub write-stored : (h g : List ℕ) (t k v b : ℕ) → b ≡ bucketOf k v → g ≡ putWords h t (t + 128 + 256 * k + 9007199254740992 * getD h (2178 + b) 0) v
     → set g (2178 + b) (getD h 0 0 / 128 + 1) ≡ putOp h (record { tx = t; isWrite = true; key = k; value = v })
 unfolding putOp putWrite pick
 write-stored h g t k v b e f = rw (f, e)

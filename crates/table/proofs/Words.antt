@@ -46,8 +46,8 @@ module _ (h : List ℕ) (i : ℕ) (p : HasOp h i) where
   unfolding historyOf op
   op-is = numbered-at noOp noOp _ (opAt h) i (p .from) (omega (arith, op-count h, p .to))
 
-  -- its key fits into 32 bits
-  pub key-small : op (historyOf h) i .key < 4294967296
+  -- its key fits into 34 bits
+  pub key-small : op (historyOf h) i .key < 17179869184
   unfolding opAt opOf
   key-small = rw op-is (omega arith)
 

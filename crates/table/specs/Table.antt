@@ -14,7 +14,7 @@ use mathlib.Core.Path.{_≡_}
 use mathlib.Core.Bool.{Bool, true}
 use mathlib.Core.List.{List}
 use lib.ListN.{length, getD, set}
-use lib.Dec.{eqb}
+use lib.Dec.{ltb, eqb}
 use Rattle.base.specs.Base.{_and_, pick, last, numbered}
 use Rattle.rules.specs.History.{Tx, Op, History, op, txCount, opCount, committed}
 
@@ -29,7 +29,7 @@ txAt h t = record { session = getD h t 0 / 4 % 65536; status = getD h t 0 % 4 }
 
 -- an operation whose words are w and v
 unfoldable pub opOf : ℕ → ℕ → Op
-opOf w v = record { tx = w % 128; isWrite = eqb (w / 128 % 2) 1; key = w / 256 % 4294967296; value = v }
+opOf w v = record { tx = w % 128; isWrite = eqb (w / 128 % 2) 1; key = w / 256 % 17179869184; value = v }
 
 unfoldable pub opAt : List ℕ → ℕ → Op
 opAt h i = opOf (getD h (128 + 2 * i) 0) (getD h (129 + 2 * i) 0)
@@ -43,13 +43,13 @@ unfoldable pub lastAt : List ℕ → ℕ → ℕ
 lastAt h t = getD h t 0 / 262144 % 2048
 
 unfoldable pub prevAt : List ℕ → ℕ → ℕ
-prevAt h i = getD h (128 + 2 * i) 0 / 1099511627776 % 2048
+prevAt h i = getD h (128 + 2 * i) 0 / 4398046511104 % 2048
 
 unfoldable pub headAt : List ℕ → ℕ → ℕ
 headAt h b = getD h (2178 + b) 0
 
 unfoldable pub linkAt : List ℕ → ℕ → ℕ
-linkAt h i = getD h (128 + 2 * i) 0 / 2251799813685248
+linkAt h i = getD h (128 + 2 * i) 0 / 9007199254740992
 
 -- transaction t has the mark
 unfoldable pub marked : List ℕ → ℕ → Bool
@@ -74,9 +74,9 @@ prevOf h i = lastBelow h (op h i .tx) i
 
 -- ── a bucket's writes ──
 
--- the bucket of a write of v to x
+-- the bucket of a write of v to x; of a list read, whose key is 2^33 or more, by the key alone, so that those of a key are in one
 unfoldable pub bucketOf : ℕ → ℕ → ℕ
-bucketOf x v = (x + v) % 128
+bucketOf x v = pick (ltb x 8589934592) ((x + v) % 128) (x % 128)
 
 -- operation i is a write of bucket b
 unfoldable pub inBucket : History → ℕ → ℕ → Bool
@@ -88,6 +88,13 @@ headOf h b = last (inBucket h b) (opCount h + 1)
 
 unfoldable pub linkOf : History → ℕ → ℕ
 linkOf h i = last (inBucket h (bucketOf (op h i .key) (op h i .value))) i
+
+-- operation j is a write of the key x; the last such before i with i's key: of a list read, the list read of its key before it; 0 where there is none
+unfoldable pub keyed : History → ℕ → ℕ → Bool
+keyed h x j = op h j .isWrite and eqb (op h j .key) x
+
+unfoldable pub prevList : History → ℕ → ℕ
+prevList h i = last (keyed h (op h i .key)) i
 
 -- ── tables in good order ──
 
@@ -116,6 +123,11 @@ pub record HasOp (h : List ℕ) (i : ℕ) : Type 0 where
 pub record HasWrite (h : List ℕ) (i : ℕ) : Type 0 where
   pub there : HasOp h i
   pub writes : op (historyOf h) i .isWrite ≡ true
+
+-- .. or a list read i
+pub record HasList (h : List ℕ) (i : ℕ) : Type 0 where
+  pub there : HasWrite h i
+  pub of-list : 8589934592 ≤ op (historyOf h) i .key
 
 -- .. whose marks say who counts as committed: they are worked out behind the reading, once
 pub record Settled (h : List ℕ) : Type 0 where
@@ -155,7 +167,7 @@ unfoldable pub putWords : List ℕ → ℕ → ℕ → ℕ → List ℕ
 putWords h t w v =
     let i = getD h 0 0 / 128 + 1 in
     set
-    (set (set (set h (128 + 2 * i) (w + 1099511627776 * (getD h t 0 / 262144 % 2048))) (129 + 2 * i) v) t (getD h t 0 % 262144 + 262144 * i))
+    (set (set (set h (128 + 2 * i) (w + 4398046511104 * (getD h t 0 / 262144 % 2048))) (129 + 2 * i) v) t (getD h t 0 % 262144 + 262144 * i))
     0
     (getD h 0 0 + 128)
 
@@ -166,7 +178,7 @@ putRead h o = putWords h (o .tx) (o .tx + 256 * o .key) (o .value)
 unfoldable pub putWrite : List ℕ → Op → List ℕ
 putWrite h o =
     let b = 2178 + bucketOf (o .key) (o .value) in
-    set (putWords h (o .tx) (o .tx + 128 + 256 * o .key + 2251799813685248 * getD h b 0) (o .value)) b (getD h 0 0 / 128 + 1)
+    set (putWords h (o .tx) (o .tx + 128 + 256 * o .key + 9007199254740992 * getD h b 0) (o .value)) b (getD h 0 0 / 128 + 1)
 
 unfoldable pub putOp : List ℕ → Op → List ℕ
 putOp h o = pick (o .isWrite) (putWrite h o) (putRead h o)

@@ -3,7 +3,7 @@ ghost use Prim.Native.Nat.{_+_, _<_};
 ghost use lib.ListN.{length};
 ghost use mathlib.Core.Bool.{true, false};
 ghost use Rattle.rules.specs.History.{tx, op, txCount, opCount, empty, opened, closed, withOp, writesValue, writeOf, originOf};
-ghost use Rattle.table.specs.Table.{tableWords, historyOf, marked, lastOf, prevOf, bucketOf, headOf, linkOf, Held, HasTx, HasOp, HasWrite, Below, Becomes, cleared, putTx, closeTx, markTx, putWords, putOp};
+ghost use Rattle.table.specs.Table.{tableWords, historyOf, marked, lastOf, prevOf, bucketOf, headOf, linkOf, Held, HasTx, HasOp, HasWrite, HasList, prevList, Below, Becomes, cleared, putTx, closeTx, markTx, putWords, putOp};
 
 // The number of transactions; of operations.
 pub fn txs(h: &[u64]) -> usize
@@ -70,7 +70,7 @@ pub fn key_of(h: &[u64], i: usize) -> u64
     requires { ⌜ HasOp (now h) i ⌝ }
     ensures { λ r. ⌜ r ≡ op (historyOf (now (h .entry))) i .key ⌝ }
 {
-    h[128 + 2 * i] / 256 % 4294967296
+    h[128 + 2 * i] / 256 % 17179869184
 }
 
 pub fn value_of(h: &[u64], i: usize) -> u64
@@ -85,14 +85,17 @@ pub fn prev_op(h: &[u64], i: usize) -> usize
     requires { ⌜ HasOp (now h) i ⌝ }
     ensures { λ r. ⌜ Below r (prevOf (historyOf (now (h .entry))) i) i ⌝ }
 {
-    (h[128 + 2 * i] / 1099511627776 % 2048) as usize
+    (h[128 + 2 * i] / 4398046511104 % 2048) as usize
 }
 
 // The bucket that a write of v to x falls into. x + v itself might not fit into a word.
 fn bucket_of(x: u64, v: u64) -> usize
     ensures { λ r. ⌜ Below r (bucketOf x v) 128 ⌝ }
 {
-    ((x % 128 + v % 128) % 128) as usize
+    if x < 8589934592 {
+        return ((x % 128 + v % 128) % 128) as usize;
+    }
+    (x % 128) as usize
 }
 
 // The number of the last write of bucket b, 0 where it has none.
@@ -108,18 +111,15 @@ fn link_of(h: &[u64], i: usize) -> usize
     requires { ⌜ HasWrite (now h) i ⌝ }
     ensures { λ r. ⌜ Below r (linkOf (historyOf (now (h .entry))) i) i ⌝ }
 {
-    (h[128 + 2 * i] / 2251799813685248) as usize
+    (h[128 + 2 * i] / 9007199254740992) as usize
 }
 
-// Whether operation i is a write of v to x. Values are tested first: few operations share one.
+// Whether write i is one of v to x. Values are tested first: few operations share one.
 fn writes_value(h: &[u64], x: u64, v: u64, i: usize) -> bool
-    requires { ⌜ HasOp (now h) i ⌝ }
+    requires { ⌜ HasWrite (now h) i ⌝ }
     ensures { λ r. ⌜ r ≡ writesValue (historyOf (now (h .entry))) x v i ⌝ }
 {
     if value_of(h, i) != v {
-        return false;
-    }
-    if !is_write(h, i) {
         return false;
     }
     key_of(h, i) == x
@@ -136,6 +136,22 @@ pub fn write_of(h: &[u64], x: u64, v: u64) -> usize
             return i;
         }
         i = link_of(h, i);
+    }
+    0
+}
+
+// The number of the list read before list read i that has its key, 0 where there is none: they are all in one bucket.
+pub fn prev_list(h: &[u64], i: usize) -> usize
+    requires { ⌜ HasList (now h) i ⌝ }
+    ensures { λ r. ⌜ Below r (prevList (historyOf (now (h .entry))) i) i ⌝ }
+{
+    let x = key_of(h, i);
+    let mut j = link_of(h, i);
+    while 0 < j {
+        if key_of(h, j) == x {
+            return j;
+        }
+        j = link_of(h, j);
     }
     0
 }
@@ -203,27 +219,27 @@ pub fn put_read(h: &mut [u64], t: usize, k: u32, v: u64)
     put_op(h, t, t as u64 + 256 * (k as u64), v);
 }
 
-pub fn put_write(h: &mut [u64], t: usize, k: u32, v: u64)
-    requires { ⌜ HasTx (now h) t × (opCount (historyOf (now h)) < 1024) ⌝ }
+pub fn put_write(h: &mut [u64], t: usize, k: u64, v: u64)
+    requires { ⌜ HasTx (now h) t × (opCount (historyOf (now h)) < 1024) × (k < 17179869184) ⌝ }
     ensures { λ r. ⌜ Becomes (now (h .exit)) (putOp (now (h .entry)) (record { tx = t; isWrite = true; key = k; value = v })) (withOp (historyOf (now (h .entry))) (record { tx = t; isWrite = true; key = k; value = v })) ⌝ }
 {
-    let b = 2178 + bucket_of(k as u64, v);
+    let b = 2178 + bucket_of(k, v);
     let i = h[0] / 128 + 1;
     let q = h[b];
-    let w = t as u64 + 128 + 256 * (k as u64);
-    put_op(h, t, w + 2251799813685248 * q, v);
+    let w = t as u64 + 128 + 256 * k;
+    put_op(h, t, w + 9007199254740992 * q, v);
     h[b] = i;
 }
 
 // One operation more of transaction t, whose first word is w besides the number of the operation before it. That is t's last, which the new one now is.
 fn put_op(h: &mut [u64], t: usize, w: u64, v: u64)
-    requires { ⌜ HasTx (now h) t × (opCount (historyOf (now h)) < 1024) × (w < 4611686018427387904) ⌝ }
+    requires { ⌜ HasTx (now h) t × (opCount (historyOf (now h)) < 1024) × (w < 9241386435364257792) ⌝ }
     ensures { λ r. ⌜ now (h .exit) ≡ putWords (now (h .entry)) t w v ⌝ }
 {
     let n = h[0];
     let i = (n / 128) as usize + 1;
     let z = h[t];
-    h[128 + 2 * i] = w + 1099511627776 * (z / 262144 % 2048);
+    h[128 + 2 * i] = w + 4398046511104 * (z / 262144 % 2048);
     h[129 + 2 * i] = v;
     h[t] = z % 262144 + 262144 * (i as u64);
     h[0] = n + 128;

@@ -31,7 +31,7 @@ use Rattle.writing.proofs.Grown.{grown-none, counts}
 use Rattle.writing.proofs.Followed.{followed}
 use Rattle.writing.proofs.Lengths.{any-serial}
 use Rattle.writing.proofs.Sizes.{wholeSize, whole-length, trace-length}
-use Rattle.moving.specs.Moving.{isSame, movedTrace, movedRead, movedTo}
+use Rattle.moving.specs.Moving.{isSame, movedTrace, firstList, movedRead, movedTo}
 use Rattle.moving.proofs.Grown.{blocks-grown, blocks-over}
 use Rattle.telling.specs.Telling.{workText, madeText, givenText, againText, rewrittenText, movedText, talliedText, notesText}
 use Rattle.telling.specs.Parts.{filledText, outText}
@@ -108,7 +108,8 @@ moved-fits second s = by (reading s) refl
     by : (r : Reading) → reading s ≡ r → Fits (movedRead second s r)
     by (refused n p) e = tt
     by (read h notes) e =
-        pick-both (λ (l : List ℕ). length l ≤ 32768) (isSame (isSecond s) second) (read-short (reads-iff s h notes .0 e)) (other-fits second (serialAt s 0) s e)
+        pick-both Fits (isSame (isSecond s) second) (read-short (reads-iff s h notes .0 e))
+        (pick-both Fits (ltb (firstList s) (length s)) tt (other-fits second (serialAt s 0) s e))
 
 pub moved-does : (second : Bool) (s : List ℕ) → Does (movedTo second s) (movedText second s)
 unfolding movedTo movedText

@@ -1,3 +1,6 @@
+pub mod Rows
+pub mod Places
+pub mod Watching
 pub mod Turning
 pub mod Going
 pub mod Answers

@@ -1,7 +1,7 @@
 -- One record: from the framing and the step to the turn, and what a turn says.
 use Prim.Native.Nat.{ℕ, _+_, _≤_, _<_}
 use mathlib.Core.Path.{_≡_, refl, ap, sym, _∙_, subst}
-use mathlib.Core.Bool.{Bool, true, false}
+use mathlib.Core.Bool.{Bool, true, false, not}
 use mathlib.Core.Logic.{_⊎_, inl, inr}
 use mathlib.Core.List.{List}
 use native.Mathlib.Omega.{arith}
@@ -9,10 +9,10 @@ use lib.Dec.{ltb}
 use borrow.Author.Tests.{ltb-true, ltb-false, lt-ltb}
 use Rattle.base.specs.Base.{pick}
 use Rattle.base.proofs.Tests.{ifso, pick-on, pick-off}
-use Rattle.rules.specs.History.{History}
-use Rattle.rules.specs.Records.{nextAt, nextSerial, payloadAt, isSecond, sessionAt, eventAt}
+use Rattle.rules.specs.History.{History, isSingle}
+use Rattle.rules.specs.Records.{nextAt, nextSerial, payloadAt, isSecond, sessionAt, eventAt, writtenKey, Sound}
 use Rattle.rules.specs.Numbers.{le}
-use Rattle.rules.specs.Reading.{isEnd, notesBehind, misplaced, stepRows, entered, metBy, metIn, met, refusalNo}
+use Rattle.rules.specs.Reading.{isEnd, notesBehind, misplaced, stepRows, entered, metBy, metIn}
 use Rattle.rules.specs.declared.Event.{Event}
 use Rattle.rules.specs.declared.Event.the-variants as E
 use Rattle.frame.specs.Framing.{sessionOf, Fit, framing}
@@ -29,25 +29,32 @@ use Rattle.trace.specs.declared.Out.{Out}
 use Rattle.trace.specs.declared.Out.the-variants.{Bad}
 use Rattle.trace.specs.declared.Turn.{Turn}
 use Rattle.trace.specs.declared.Turn.the-variants.{More, Stop}
-use Rattle.trace.specs.Turns.{noAt, metAt, finish, turn, putAt, enteredAt, Turned}
+use Rattle.trace.specs.Turns.{noAt, metAt, isOfLists, finish, turn, putAt, enteredAt, Turned}
 
 -- ── what a step's answer says of its event e, where m is the number of the row that refuses it ──
 
 unfoldable Says : ℕ → Event → Next → Type 0
-Says m e N.Go = (m ≡ 0) × (isEnd e ≡ false) × ((n : ℕ) → notesBehind n e ≡ n)
-Says m e N.Count = (m ≡ 0) × (isEnd e ≡ false) × ((n : ℕ) → notesBehind n e ≡ n + 1)
+Says m e N.Go = (m ≡ 0) × (isEnd e ≡ false) × ((n : ℕ) → notesBehind n e ≡ n) × (isOfLists e ≡ false)
+Says m e N.Count = (m ≡ 0) × (isEnd e ≡ false) × ((n : ℕ) → notesBehind n e ≡ n + 1) × (isOfLists e ≡ false)
+Says m e N.List = (m ≡ 0) × (isEnd e ≡ false) × ((n : ℕ) → notesBehind n e ≡ n) × (isOfLists e ≡ true)
 Says m e N.Done = (m ≡ 0) × (isEnd e ≡ true)
 Says m e (N.Refuse n) = (m ≡ n) × (0 < n)
 
+-- behind a write, by its key
+passes-write : (m x v : ℕ) (b : Bool) → isSingle x ≡ b → m ≡ 0 → Says m (E.Write x v) (pick b N.Go N.List)
+unfolding Says isEnd notesBehind isOfLists writtenKey pick
+passes-write m x v true e z = (z, refl, λ n. refl, ap not e)
+passes-write m x v false e z = (z, refl, λ n. refl, ap not e)
+
 passes : (m : ℕ) (e : Event) → m ≡ 0 → Says m e (goes e)
-unfolding Says goes isEnd notesBehind
-passes m (E.Open n) z = (z, refl, λ n. refl)
-passes m (E.Read x v) z = (z, refl, λ n. refl)
-passes m (E.Write x v) z = (z, refl, λ n. refl)
-passes m (E.Close x) z = (z, refl, λ n. refl)
+unfolding Says goes isEnd notesBehind isOfLists writtenKey
+passes m (E.Open n) z = (z, refl, λ n. refl, refl)
+passes m (E.Read x v) z = (z, refl, λ n. refl, refl)
+passes m (E.Write x v) z = passes-write m x v (isSingle x) refl z
+passes m (E.Close x) z = (z, refl, λ n. refl, refl)
 passes m (E.End n) z = (z, refl)
-passes m E.Note z = (z, refl, λ n. refl)
-passes m E.Other z = (z, refl, λ n. refl)
+passes m E.Note z = (z, refl, λ n. refl, refl)
+passes m E.Other z = (z, refl, λ n. refl, refl)
 
 says : (m : ℕ) (e : Event) (r : Next) → r ≡ pick (ltb 0 m) (N.Refuse m) (goes e) → Says m e r
 unfolding Says
@@ -85,7 +92,7 @@ module _ {r : Next} {g2 g : List ℕ} where
 
 module _ (s : List ℕ) (at serial : ℕ) (h : History) {second : Bool} (own : second ≡ isSecond s) where
   no-bad : {n : ℕ} → framing second s at serial ≡ F.Bad n → (noAt s at serial h ≡ n) × (0 < n)
-  unfolding noAt refusalNo
+  unfolding noAt
   no-bad q =
       let b = is-bad second s at serial q in
       (rw (← own) (fit-append _ _ (rw (b .0) (b .1)) ∙ b .0), b .1)
@@ -98,7 +105,7 @@ module _ (s : List ℕ) (at serial : ℕ) (h : History) {second : Bool} (own : s
     meets = rw (← own, same)
 
     number : noAt s at serial h ≡ stepNo h (metIn second h (sessionAt s at) (w .event)) (w .event)
-    unfolding noAt refusalNo stepNo met metIn
+    unfolding noAt stepNo
     number =
         let b = behind second s at serial (stepRows h (metIn second h (sessionAt s at) (w .event)) (w .event)) (is-good second s at serial q .0) in
         rw (same, ← own) b
@@ -110,11 +117,17 @@ unfolding turn putAt enteredAt pick
 turned-bad s g at serial notes own q h =
     let b = no-bad s at serial (historyOf g) own q in
     let t = lt-ltb _ _ (b .1) in
-    record { is = rw (b .0, t); words = rw (b .0, t); history = rw (b .0, t); held = h }
+    record {
+      is = rw (b .0, t);
+      words = rw (b .0, t);
+      history = rw (b .0, t);
+      held = h;
+      sound = λ i j k l e. let z : _≡_ {A = ℕ} 0 1 = cc in absurd (omega arith);
+    }
 
 -- the framing passes, and the step answers
 module _ (s g g2 : List ℕ) (at serial notes : ℕ) (w : Stated) (next : Next) {second : Bool} (own : second ≡ isSecond s)
-    (fr : framing second s at serial ≡ F.Good w) (x : Took next g2 g (metIn second (historyOf g) (w .session) (w .event)) (w .event)) where
+    (fr : framing second s at serial ≡ F.Good w) (v : Sound at (w .event)) (x : Took next g2 g (metIn second (historyOf g) (w .session) (w .event)) (w .event)) where
   took : Took next g2 g (metIn second (historyOf g) (sessionAt s at) (w .event)) (w .event)
   took =
       took-own second (payloadAt s at) (sessionAt s at) (historyOf g) (w .event) (good-begins second s at serial fr)
@@ -126,7 +139,7 @@ module _ (s g g2 : List ℕ) (at serial notes : ℕ) (w : Stated) (next : Next) 
       let n = number s at serial (historyOf g) own fr in
       let m = meets s at serial (historyOf g) own fr in
       let e = same s at serial (historyOf g) own fr in
-      record { is = q; words = rw (n, m, e) (took .words); history = rw (n, m, e) (took .history); held = took .held }
+      record { is = q; words = rw (n, m, e) (took .words); history = rw (n, m, e) (took .history); held = took .held; sound = λ i j k l q. rw e v }
 
   told : (r : Next) → next ≡ r → Says (noAt s at serial (historyOf g)) (w .event) r
   told r q =
@@ -145,18 +158,24 @@ module _ (s g g2 : List ℕ) (at serial notes : ℕ) (w : Stated) (next : Next) 
       let a = told N.Done q in
       turned (rw (a .0, same s at serial (historyOf g) own fr, a .1, p))
 
-  pub turned-go : {after follow : ℕ} → next ≡ N.Go → after ≡ nextAt s at → follow ≡ nextSerial s at → Turned (More after follow notes) g2 g s at serial notes
+  pub turned-go : {after follow : ℕ} → next ≡ N.Go → after ≡ nextAt s at → follow ≡ nextSerial s at → Turned (More after follow notes false) g2 g s at serial notes
   unfolding turn pick Says
   turned-go q p f =
       let a = told N.Go q in
-      turned (rw (a .0, same s at serial (historyOf g) own fr, a .1, a .2 notes, p, f))
+      turned (rw (a .0, same s at serial (historyOf g) own fr, a .1, a .2 notes, a .3, p, f))
+
+  pub turned-list : {after follow : ℕ} → next ≡ N.List → after ≡ nextAt s at → follow ≡ nextSerial s at → Turned (More after follow notes true) g2 g s at serial notes
+  unfolding turn pick Says
+  turned-list q p f =
+      let a = told N.List q in
+      turned (rw (a .0, same s at serial (historyOf g) own fr, a .1, a .2 notes, a .3, p, f))
 
   pub turned-count : {after follow count : ℕ} → next ≡ N.Count → after ≡ nextAt s at → follow ≡ nextSerial s at → count ≡ notes + 1
-      → Turned (More after follow count) g2 g s at serial notes
+      → Turned (More after follow count false) g2 g s at serial notes
   unfolding turn pick Says
   turned-count q p f n =
       let a = told N.Count q in
-      turned (rw (a .0, same s at serial (historyOf g) own fr, a .1, a .2 notes, p, f, n))
+      turned (rw (a .0, same s at serial (historyOf g) own fr, a .1, a .2 notes, a .3, p, f, n))
 
 -- ── what a turn says ──
 
@@ -168,12 +187,13 @@ fit-at s at serial h t = go (framing (isSecond s) s at serial) refl
     go (F.Bad n) q = let b = no-bad s at serial h refl q in let z : noAt s at serial h ≤ 0 = ltb-false _ _ t in absurd (omega (arith, b .0, b .1))
     go (F.Good w) q = good-fit (isSecond s) s at serial q
 
-pub record Onward (s : List ℕ) (at serial notes : ℕ) (h : History) (after follow count : ℕ) : Type 0 where
+pub record Onward (s : List ℕ) (at serial notes : ℕ) (h : History) (after follow count : ℕ) (lists : Bool) : Type 0 where
   pub passes : ltb 0 (noAt s at serial h) ≡ false
   pub goes : isEnd (eventAt s at) ≡ false
   pub after-is : after ≡ nextAt s at
   pub follow-is : follow ≡ nextSerial s at
   pub count-is : count ≡ notesBehind notes (eventAt s at)
+  pub lists-is : lists ≡ isOfLists (eventAt s at)
 
 pub record Refused (s : List ℕ) (at serial : ℕ) (h : History) (o : Out) : Type 0 where
   pub refuses : ltb 0 (noAt s at serial h) ≡ true
@@ -185,24 +205,25 @@ pub record Ended (s : List ℕ) (at serial notes : ℕ) (h : History) (o : Out) 
   pub is : o ≡ finish s (nextAt s at) notes
 
 module _ (s : List ℕ) (at serial notes : ℕ) (h : History) where
-  pub more-says : {after follow count : ℕ} → turn s at serial notes h ≡ More after follow count → Onward s at serial notes h after follow count
+  pub more-says : {after follow count : ℕ} {lists : Bool} → turn s at serial notes h ≡ More after follow count lists
+      → Onward s at serial notes h after follow count lists
   unfolding turn
-  more-says {after} {follow} {count} q =
+  more-says {after} {follow} {count} {lists} q =
       ifso (ltb 0 (noAt s at serial h))
       (λ t.
-      let w : Stop (Bad (noAt s at serial h) at) ≡ More after follow count = sym (pick-on _ _ _ t) ∙ q in
+      let w : Stop (Bad (noAt s at serial h) at) ≡ More after follow count lists = sym (pick-on _ _ _ t) ∙ q in
       let z : _≡_ {A = ℕ} 0 1 = cc in
       absurd (omega arith))
       (λ t.
       let p = sym (pick-off _ _ _ t) ∙ q in
       ifso (isEnd (eventAt s at))
       (λ u.
-      let w : Stop (finish s (nextAt s at) notes) ≡ More after follow count = sym (pick-on _ _ _ u) ∙ p in
+      let w : Stop (finish s (nextAt s at) notes) ≡ More after follow count lists = sym (pick-on _ _ _ u) ∙ p in
       let z : _≡_ {A = ℕ} 0 1 = cc in
       absurd (omega arith))
       (λ u.
-      let w : More (nextAt s at) (nextSerial s at) (notesBehind notes (eventAt s at)) ≡ More after follow count = sym (pick-off _ _ _ u) ∙ p in
-      record { passes = t; goes = u; after-is = cc; follow-is = cc; count-is = cc }))
+      let w : More (nextAt s at) (nextSerial s at) (notesBehind notes (eventAt s at)) (isOfLists (eventAt s at)) ≡ More after follow count lists = sym (pick-off _ _ _ u) ∙ p in
+      record { passes = t; goes = u; after-is = cc; follow-is = cc; count-is = cc; lists-is = cc }))
 
   pub stop-says : {o : Out} → turn s at serial notes h ≡ Stop o → Refused s at serial h o ⊎ Ended s at serial notes h o
   unfolding turn
@@ -218,6 +239,6 @@ module _ (s : List ℕ) (at serial notes : ℕ) (h : History) where
       let w : Stop (finish s (nextAt s at) notes) ≡ Stop o = sym (pick-on _ _ _ u) ∙ p in
       inr (record { passes = t; ends = u; is = cc }))
       (λ u.
-      let w : More (nextAt s at) (nextSerial s at) (notesBehind notes (eventAt s at)) ≡ Stop o = sym (pick-off _ _ _ u) ∙ p in
+      let w : More (nextAt s at) (nextSerial s at) (notesBehind notes (eventAt s at)) (isOfLists (eventAt s at)) ≡ Stop o = sym (pick-off _ _ _ u) ∙ p in
       let z : _≡_ {A = ℕ} 0 1 = cc in
       absurd (omega arith)))

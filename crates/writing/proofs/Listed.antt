@@ -14,7 +14,7 @@ use Rattle.rules.specs.Records.{isSecond, eventAt}
 use Rattle.rules.specs.Reading.{State, entered}
 use Rattle.rules.specs.declared.Event.{Event}
 use Rattle.rules.specs.declared.Event.the-variants.{Open, Read, Write, Close}
-use Rattle.demand1.specs.Rows.{kind, session, key, value, status, Passes, editionFirst, inPlace, in-first, valueLawful, withinLimit, newWrite, open-inside, read-outside, write-outside, close-outside, end-inside, written-0, status-above-2, open-128th, read-1025th, write-1025th, the-latest, of-its-session, Next, after-open, after-read, after-write, after-close, after-note, after-edition, Reaches, start, on, ReadInto, to-the-end, HasHistory}
+use Rattle.demand1.specs.Rows.{kind, session, key, value, status, Passes, editionFirst, inPlace, in-first, valueLawful, withinLimit, newWrite, open-inside, read-outside, write-outside, close-outside, end-inside, written-0, status-above-2, open-128th, read-1025th, write-1025th, write-again, the-latest, of-its-session, Next, after-open, after-read, after-write, after-append, after-list, after-close, after-note, after-edition, Reaches, start, on, ReadInto, to-the-end, HasHistory}
 use Rattle.demand1.proofs.Histories.{inside-current, outside-current}
 use Rattle.demand1.proofs.Events.{Framed, passes-framed, open-event, read-event, write-event, close-event, at-least, below}
 use Rattle.demand1.proofs.Steps.{inside}
@@ -77,9 +77,11 @@ module _ (s : List ℕ) (first : isSecond s ≡ false) (st : State) (p : Passes 
       let v = value s (st .at) in
       by-step (Write x v)
       (write-taken (omega (arith, c, i .0)) (below 0 v (λ l. p valueLawful (written-0 k (omega arith)))) (below (opCount h) 1024 (λ l. p withinLimit (write-1025th k l)))
-      (none (writeOf h x v) (λ l. p newWrite (record { writes = k; by = writeOf h x v; earlier = write-found h x v l }))))
+      (none (writeOf h x v) (λ l. p newWrite (write-again k (write-found h x v l)))))
       (write-event f k) (rw c) refl
   stepped (after-write k (of-its-session e _)) = absurd (clash e first)
+  stepped (after-append k _) = absurd (clash (f .sized .append-second k) first)
+  stepped (after-list k _) = absurd (clash (f .sized .list-second k) first)
   stepped (after-close k (the-latest _)) =
       let i = inside s st p first (close-outside k) in
       let c = inside-current h i in

@@ -8,7 +8,7 @@ use lib.ListN.{length, getD, take}
 use Rattle.base.specs.Base.{joined}
 use Rattle.rules.specs.Numbers.{bytes}
 use Rattle.rules.specs.History.{History}
-use Rattle.rules.specs.Traces.{whole, overlapping, trace, opens, closes, ends, note, edition, rOf, wOf, closesOf, T, U, r, w, room}
+use Rattle.rules.specs.Traces.{whole, overlapping, trace, opens, closes, ends, note, edition, rOf, wOf, closesOf, aOf, lOf, T, U, r, w, room}
 use Rattle.rules.specs.Cases.{Case, table}
 use Rattle.rules.specs.Edges.{closedState, openState, as-they-should}
 use Rattle.rules.specs.declared.Event.{Event}
@@ -74,12 +74,14 @@ writeTable =
     ∷ writeCase (steps (Open 7 ∷ Close 0 ∷ [])) 4294967295 40 (filledIn 40 (trace 4294967295 (opens 7 ∷ closes 0 ∷ ends 1 ∷ [])))
     -- "fields that a kind does not use are not looked at"
     ∷ writeCase (step 1 3 9 9 ++ step 2 9 4 0 ++ step 3 9 4 5 ++ step 4 1 9 9) 8 100 (filledIn 100 (trace 8 (opens 3 ∷ r 4 0 ∷ w 4 5 ∷ closes 1 ∷ ends 1 ∷ [])))
-    -- 6: kinds 0, 5, 6, 7, 16 and 257; a rest of 1 and of 15 bytes
+    -- 6: kinds 0, 5, 6, 7, 16, 23, 24 and 257; a rest of 1 and of 15 bytes
     ∷ refuses (step 0 0 0 0) 6 1
     ∷ refuses (steps (Open 1 ∷ Close 1 ∷ []) ++ step 5 1 0 0) 6 3
     ∷ refuses (steps (Open 1 ∷ []) ++ step 6 0 0 0) 6 2
     ∷ refuses (step 7 0 0 0) 6 1
     ∷ refuses (step 16 2 0 0) 6 1
+    ∷ refuses (steps (Open 1 ∷ []) ++ step 23 1 1 5) 6 2
+    ∷ refuses (steps (Open 1 ∷ []) ++ step 24 1 1 0) 6 2
     ∷ refuses (step 257 0 0 0) 6 1
     ∷ refuses (steps (Open 1 ∷ Close 1 ∷ []) ++ (1 ∷ [])) 6 3
     ∷ refuses (take 15 (steps (Open 1 ∷ []))) 6 1
@@ -193,12 +195,14 @@ listTable =
     -- 16 one byte short, and exactly fitting
     ∷ listCase (caseBytes 15) 191 (refusedIn 191 16 192) (filledIn 200 (caseBytes 15))
     ∷ listCase (caseBytes 15) 192 (filledIn 192 (steps case16)) (filledIn 200 (caseBytes 15))
-    -- edition 2 has no steps: 6 at its first record, also where its transactions do not overlap, and before 16
+    -- edition 2 has no steps: 6 at its first record, also where its transactions do not overlap, or it has lists, and before 16
     ∷ listCase (overlapping 1 (opens 1 ∷ wOf 1 1 5 ∷ closesOf 1 1 ∷ [])) 200 (refusedIn 200 6 0) (refusedIn 200 6 0)
     ∷ listCase (overlapping 2 (opens 1 ∷ opens 2 ∷ wOf 1 1 5 ∷ rOf 2 1 5 ∷ closesOf 2 1 ∷ closesOf 1 1 ∷ [])) 0 (refusedIn 0 6 0) (refusedIn 200 6 0)
-    -- one that is refused keeps its own number and place
+    ∷ listCase (overlapping 1 (opens 1 ∷ aOf 1 1 5 ∷ lOf 1 1 (5 ∷ []) ∷ closesOf 1 1 ∷ [])) 200 (refusedIn 200 6 0) (refusedIn 200 6 0)
+    -- one that is refused keeps its own number and place, 17 too
     ∷ listCase (overlapping 1 (opens 1 ∷ wOf 2 1 5 ∷ closesOf 1 1 ∷ [])) 200 (refusedIn 200 7 20) (refusedIn 200 7 20)
     ∷ listCase (trace 0 (edition 3 ∷ ends 0 ∷ [])) 200 (refusedIn 200 8 0) (refusedIn 200 8 0)
+    ∷ listCase (overlapping 1 (opens 1 ∷ aOf 1 1 5 ∷ wOf 1 1 6 ∷ closesOf 1 1 ∷ [])) 200 (refusedIn 200 17 42) (refusedIn 200 17 42)
     ∷ []
 
 abbrev pub nowListed : ListCase → ListCase

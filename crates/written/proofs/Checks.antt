@@ -11,8 +11,8 @@ use Rattle.rules.specs.History.{History, txCount, current}
 use Rattle.rules.specs.Reading.{misplaced, unlawful, excess, repeats, stepRows}
 use Rattle.rules.specs.declared.Event.{Event}
 use Rattle.rules.specs.declared.Event.the-variants.{Other}
-use Rattle.demand1.specs.Rows.{UnknownKind, below-1 as kind-below, above-6, note-in-second, Check, lengthField, lengthLow, bytesThere, serialFollows, kindKnown, lengthFits, editionFirst, editionIs2, inPlace, valueLawful, withinLimit, newWrite, rank, numberOf, FirstFailing}
-use Rattle.demand1.proofs.Events.{Clear, ShapeOf, open-record, read-record, write-record, close-record, end-record, note-record, edition-record, kind-known, Kinded, shape-of, at-least}
+use Rattle.demand1.specs.Rows.{UnknownKind, below-1 as kind-below, above-6, note-in-second, Check, lengthField, lengthLow, bytesThere, serialFollows, kindKnown, lengthFits, editionFirst, editionIs2, inPlace, valueLawful, withinLimit, newWrite, oneSort, rank, numberOf, FirstFailing}
+use Rattle.demand1.proofs.Events.{Clear, ShapeOf, open-record, read-record, write-record, close-record, end-record, note-record, edition-record, append-record, list-record, kind-known, Kinded, shape-of, at-least}
 use Rattle.demand1.proofs.Checks.{misplaced-row, unlawful-row, excess-row, repeated-row}
 use Rattle.demand1.proofs.Refusals.{First, RowTold, told-row, told-end, clear-past, none-fails, first-fails}
 use Rattle.writing.specs.Steps.{stepAt}
@@ -45,7 +45,7 @@ module _ (s : List ℕ) (k : ℕ) (h : History) where
   pub step-high : (OtherKind s k → ⊥) → kindBehind s k ≤ 4
   step-high d = at-least (kindBehind s k) 4 (λ l. d (above-4 l))
 
-  pub step-kinded : (OtherKind s k → ⊥) → Kinded (kindBehind s k) (sessionBehind s k) (keyBehind s k) (valueBehind s k) (statusBehind s k) (txCount h) event
+  pub step-kinded : (OtherKind s k → ⊥) → Kinded (kindBehind s k) (sessionBehind s k) (keyBehind s k) (valueBehind s k) (statusBehind s k) (txCount h) 0 0 event
   step-kinded d =
       record {
         known = kind-known (kindBehind s k) unknown;
@@ -56,18 +56,21 @@ module _ (s : List ℕ) (k : ℕ) (h : History) where
         as-end = λ e. absurd (omega (arith, step-high d));
         as-note = λ e. absurd (omega (arith, step-high d));
         as-edition = λ e. absurd (omega (arith, step-high d));
+        as-append = λ e. absurd (omega (arith, step-high d));
+        as-list = λ e. absurd (omega (arith, step-high d));
+        unheld = λ e. absurd (omega (arith, step-high d));
       }
     where
       unknown : UnknownKind false (kindBehind s k) → ⊥
       unknown (kind-below l) = omega (arith, step-low d)
-      unknown (above-6 l _) = omega (arith, step-high d)
+      unknown (above-6 l _ _) = omega (arith, step-high d)
       unknown (note-in-second _ q) = omega (arith, step-high d)
 
   not-other : (OtherKind s k → ⊥) → isNoStep event ≡ false
   unfolding isNoStep
   not-other d = by (shape-of (step-kinded d))
     where
-      by : ShapeOf (kindBehind s k) (sessionBehind s k) (keyBehind s k) (valueBehind s k) (statusBehind s k) (txCount h) event → isNoStep event ≡ false
+      by : ShapeOf (kindBehind s k) (sessionBehind s k) (keyBehind s k) (valueBehind s k) (statusBehind s k) (txCount h) 0 event → isNoStep event ≡ false
       by (open-record q e) = rw e
       by (read-record q e) = rw e
       by (write-record q e) = rw e
@@ -75,6 +78,8 @@ module _ (s : List ℕ) (k : ℕ) (h : History) where
       by (end-record q e) = absurd (omega (arith, step-high d))
       by (note-record q e) = absurd (omega (arith, step-high d))
       by (edition-record q e) = absurd (omega (arith, step-high d))
+      by (append-record q e) = absurd (omega (arith, step-high d))
+      by (list-record q e) = absurd (omega (arith, step-high d))
 
   -- it is of another kind or not
   other-or : {P : Type 0} → (OtherKind s k → P) → ((OtherKind s k → ⊥) → P) → P
@@ -108,6 +113,7 @@ module _ (s : List ℕ) (k : ℕ) (h : History) where
   stepTest valueLawful = unlawful h event
   stepTest withinLimit = excess h event
   stepTest newWrite = repeats h event
+  stepTest oneSort = false
 
   -- what a step does not have does not fail
   never : (false ≡ true) ↔ ⊥
@@ -122,10 +128,11 @@ module _ (s : List ℕ) (k : ℕ) (h : History) where
   step-row lengthFits p = never
   step-row editionFirst p = never
   step-row editionIs2 p = never
-  step-row inPlace p = misplaced-row (step-kinded (p kindKnown (omega arith))) h
+  step-row inPlace p = let d = p kindKnown (omega arith) in misplaced-row (step-kinded d) h (omega (arith, step-high d))
   step-row valueLawful p = unlawful-row (step-kinded (p kindKnown (omega arith))) h
   step-row withinLimit p = excess-row (step-kinded (p kindKnown (omega arith))) h
   step-row newWrite p = repeated-row (step-kinded (p kindKnown (omega arith))) h
+  step-row oneSort p = never
 
   no-frame : Clear (StepFails s k h) 4
   no-frame lengthField l f = f
@@ -140,6 +147,7 @@ module _ (s : List ℕ) (k : ℕ) (h : History) where
   no-frame valueLawful l f = omega arith
   no-frame withinLimit l f = omega arith
   no-frame newWrite l f = omega arith
+  no-frame oneSort l f = f
 
   -- between rows 6 and 7 nothing fails
   no-edition : Clear (StepFails s k h) 5 → Clear (StepFails s k h) 8
@@ -157,7 +165,8 @@ module _ (s : List ℕ) (k : ℕ) (h : History) where
           (λ p5. told-row (StepFails s k h) stepTest step-row inPlace (no-edition p5)
           (λ p7. told-row (StepFails s k h) stepTest step-row valueLawful p7
           (λ p8. told-row (StepFails s k h) stepTest step-row withinLimit p8
-          (λ p9. told-row (StepFails s k h) stepTest step-row newWrite p9 (told-end (StepFails s k h) stepTest step-row)))))
+          (λ p9. told-row (StepFails s k h) stepTest step-row newWrite p9
+          (λ p10. told-end (StepFails s k h) stepTest step-row (clear-past (StepFails s k h) stepTest step-row oneSort p10 (λ f. f)))))))
 
   -- no row refuses it exactly if it passes
   pub step-none : (writeNo h event ≡ 0) ↔ StepPasses s k h

@@ -12,7 +12,7 @@ use Rattle.rules.specs.Reading.{entered}
 use Rattle.rules.specs.declared.Event.{Event}
 use Rattle.demand1.specs.Rows.{Check, kindKnown, inPlace, numberOf, Inside, FirstFailing, Misplaced, read-outside, write-outside, close-outside}
 use Rattle.demand1.proofs.Histories.{inside-current, outside-current, inside-or-not}
-use Rattle.demand1.proofs.Events.{ShapeOf, open-record, read-record, write-record, close-record, end-record, note-record, edition-record, shape-of, Kinded}
+use Rattle.demand1.proofs.Events.{ShapeOf, open-record, read-record, write-record, close-record, end-record, note-record, edition-record, append-record, list-record, shape-of, Kinded}
 use Rattle.writing.specs.Steps.{stepAt, stepCount, stepsFrom, stepsIn}
 use Rattle.writing.specs.Writing.{writeNo, Followed, bad, good, follow}
 use Rattle.writing.proofs.Rows.{Taken, taken}
@@ -27,7 +27,7 @@ module _ (s : List ℕ) (k : ℕ) (h : History) where
   -- ── a step that passes ──
 
   module _ (p : StepPasses s k h) where
-    kinded : Kinded (kindBehind s k) (sessionBehind s k) (keyBehind s k) (valueBehind s k) (statusBehind s k) (txCount h) (stepAt s (16 * k))
+    kinded : Kinded (kindBehind s k) (sessionBehind s k) (keyBehind s k) (valueBehind s k) (statusBehind s k) (txCount h) 0 0 (stepAt s (16 * k))
     kinded = step-kinded s k h (p kindKnown)
 
     -- one that may not stand outside a transaction belongs to the latest
@@ -45,7 +45,7 @@ module _ (s : List ℕ) (k : ℕ) (h : History) where
     next : StepNext s k h (entered h (current h) (stepAt s (16 * k)))
     next = by (shape-of kinded)
       where
-        by : ShapeOf (kindBehind s k) (sessionBehind s k) (keyBehind s k) (valueBehind s k) (statusBehind s k) (txCount h) (stepAt s (16 * k))
+        by : ShapeOf (kindBehind s k) (sessionBehind s k) (keyBehind s k) (valueBehind s k) (statusBehind s k) (txCount h) 0 (stepAt s (16 * k))
             → StepNext s k h (entered h (current h) (stepAt s (16 * k)))
         by (open-record q _) = rw (← next-is (open-step q)) (open-step q)
         by (read-record q _) = rw (← next-is (read-step q)) (read-step q)
@@ -54,6 +54,8 @@ module _ (s : List ℕ) (k : ℕ) (h : History) where
         by (end-record q _) = absurd (omega (arith, step-high s k h (p kindKnown)))
         by (note-record q _) = absurd (omega (arith, step-high s k h (p kindKnown)))
         by (edition-record q _) = absurd (omega (arith, step-high s k h (p kindKnown)))
+        by (append-record q _) = absurd (omega (arith, step-high s k h (p kindKnown)))
+        by (list-record q _) = absurd (omega (arith, step-high s k h (p kindKnown)))
 
     is-taken : Taken h (stepAt s (16 * k))
     is-taken = taken h (stepAt s (16 * k)) (step-none s k h .1 p)

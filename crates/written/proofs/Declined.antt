@@ -7,9 +7,9 @@ use native.Mathlib.Omega.{arith}
 use lib.ListN.{length}
 use Rattle.rules.specs.Numbers.{over}
 use Rattle.rules.specs.History.{History, empty}
-use Rattle.demand1.specs.Rows.{Check, lengthField, lengthLow, bytesThere, serialFollows, kindKnown, lengthFits, editionFirst, editionIs2, inPlace, valueLawful, withinLimit, newWrite, numberOf}
+use Rattle.demand1.specs.Rows.{Check, lengthField, lengthLow, bytesThere, serialFollows, kindKnown, lengthFits, editionFirst, editionIs2, inPlace, valueLawful, withinLimit, newWrite, oneSort, numberOf, Refuses}
 use Rattle.demand1.proofs.Histories.{inside-current, outside-current}
-use Rattle.demand1.proofs.Refusals.{number-positive, number-most}
+use Rattle.demand1.proofs.Refusals.{number-positive}
 use Rattle.demand1.proofs.Lengths.{refused-numbers, not-15}
 use Rattle.writing.specs.Filling.{refusing, answering, content, fillOf, into}
 use Rattle.writing.specs.Steps.{stepAt, stepsFrom, stepsIn}
@@ -64,54 +64,64 @@ module _ (s : List ℕ) (n : ℕ) (o : List ℕ) where
 
 -- ── the numbers of the tables ──
 
--- "01's numbers 6 (any other kind) to 10": the checks before are of no step
-step-least : (s : List ℕ) (k : ℕ) (h : History) (c : Check) → StepFails s k h c → 6 ≤ numberOf c
-step-least s k h lengthField f = absurd f
-step-least s k h lengthLow f = absurd f
-step-least s k h bytesThere f = absurd f
-step-least s k h serialFollows f = absurd f
-step-least s k h kindKnown f = omega arith
-step-least s k h lengthFits f = absurd f
-step-least s k h editionFirst f = absurd f
-step-least s k h editionIs2 f = absurd f
-step-least s k h inPlace f = omega arith
-step-least s k h valueLawful f = omega arith
-step-least s k h withinLimit f = omega arith
-step-least s k h newWrite f = omega arith
+-- "01's numbers 6 (any other kind) to 10": the checks before are of no step, and 17 neither
+step-numbers : (s : List ℕ) (k : ℕ) (h : History) (c : Check) → StepFails s k h c → (6 ≤ numberOf c) × (numberOf c ≤ 10)
+step-numbers s k h lengthField f = absurd f
+step-numbers s k h lengthLow f = absurd f
+step-numbers s k h bytesThere f = absurd f
+step-numbers s k h serialFollows f = absurd f
+step-numbers s k h kindKnown f = (omega arith, omega arith)
+step-numbers s k h lengthFits f = absurd f
+step-numbers s k h editionFirst f = absurd f
+step-numbers s k h editionIs2 f = absurd f
+step-numbers s k h inPlace f = (omega arith, omega arith)
+step-numbers s k h valueLawful f = (omega arith, omega arith)
+step-numbers s k h withinLimit f = (omega arith, omega arith)
+step-numbers s k h newWrite f = (omega arith, omega arith)
+step-numbers s k h oneSort f = absurd f
 
 -- rows 6 to 10, and 16
 pub write-numbers : {s : List ℕ} {o n p : ℕ} → WriteDeclines s o n p → ((6 ≤ n) × (n ≤ 10)) ⊎ (n ≡ 16)
-write-numbers {s} (bad-step {k} {h} {c} x l f) = inl (step-least s k h c (f .fails), number-most c)
+write-numbers {s} (bad-step {k} {h} {c} x l f) = inl (step-numbers s k h c (f .fails))
 write-numbers (ends-inside x l i) = inl (omega arith, omega arith)
 write-numbers (trace-short x l d short) = inr refl
 
 -- "15 is no longer given"
 pub write-never-15 : {s : List ℕ} {o n p : ℕ} → WriteDeclines s o n p → n ≡ 15 → ⊥
-write-never-15 d = not-15 (omega arith) (write-numbers d)
+write-never-15 d = not-15 {low = 6} (omega arith) (⊎-elim inl (λ e. inr (omega arith)) (write-numbers d))
 
--- rows 2 to 11, and 16
-pub list-numbers : {s : List ℕ} {o n p : ℕ} → ListDeclines s o n p → ((2 ≤ n) × (n ≤ 11)) ⊎ (n ≡ 16)
-list-numbers (trace-refused r) = inl (refused-numbers r)
+-- rows 2 to 11 and 17, and 16
+abbrev pub TraceRows : ℕ → Type 0
+TraceRows n = ((2 ≤ n) × (n ≤ 11)) ⊎ ((16 ≤ n) × (n ≤ 17))
+
+pub refused-rows : {s : List ℕ} {n p : ℕ} → Refuses s n p → TraceRows n
+refused-rows r = ⊎-elim inl (λ e. inr (omega arith, omega arith)) (refused-numbers r)
+
+pub rows-never-15 : {n : ℕ} → TraceRows n → n ≡ 15 → ⊥
+rows-never-15 m = not-15 {low = 2} (omega arith) (⊎-elim inl (λ q. inr (q .0)) m)
+
+pub list-numbers : {s : List ℕ} {o n p : ℕ} → ListDeclines s o n p → TraceRows n
+list-numbers (trace-refused r) = refused-rows r
 list-numbers (second-edition t r) = inl (omega arith, omega arith)
-list-numbers (steps-short first r l) = inr refl
+list-numbers (steps-short first r l) = inr (omega arith, omega arith)
 
 pub list-never-15 : {s : List ℕ} {o n p : ℕ} → ListDeclines s o n p → n ≡ 15 → ⊥
-list-never-15 d = not-15 (omega arith) (list-numbers d)
+list-never-15 d = rows-never-15 (list-numbers d)
 
-pub again-numbers : {s : List ℕ} {x o n p : ℕ} → RewriteDeclines s x o n p → ((2 ≤ n) × (n ≤ 11)) ⊎ (n ≡ 16)
+pub again-numbers : {s : List ℕ} {x o n p : ℕ} → RewriteDeclines s x o n p → TraceRows n
 again-numbers (steps-declined d) = list-numbers d
-again-numbers (output-short first r l short) = inr refl
+again-numbers (output-short first r l short) = inr (omega arith, omega arith)
 
 pub again-never-15 : {s : List ℕ} {x o n p : ℕ} → RewriteDeclines s x o n p → n ≡ 15 → ⊥
-again-never-15 d = not-15 (omega arith) (again-numbers d)
+again-never-15 d = rows-never-15 (again-numbers d)
 
-pub whole-numbers : {s : List ℕ} {o n p : ℕ} → WholeDeclines s o n p → ((2 ≤ n) × (n ≤ 11)) ⊎ (n ≡ 16)
-whole-numbers (not-read r) = inl (refused-numbers r)
+pub whole-numbers : {s : List ℕ} {o n p : ℕ} → WholeDeclines s o n p → TraceRows n
+whole-numbers (not-read r) = refused-rows r
 whole-numbers (is-second t r) = inl (omega arith, omega arith)
-whole-numbers (too-short first r l) = inr refl
+whole-numbers (too-short first r l) = inr (omega arith, omega arith)
 
 pub whole-never-15 : {s : List ℕ} {o n p : ℕ} → WholeDeclines s o n p → n ≡ 15 → ⊥
-whole-never-15 d = not-15 (omega arith) (whole-numbers d)
+whole-never-15 d = rows-never-15 (whole-numbers d)
 
 -- row 3, rows 6 to 10, and 16
 pub given-numbers : {g : List ℕ} {o n p : ℕ} → GivenDeclines g o n p → ((3 ≤ n) × (n ≤ 10)) ⊎ (n ≡ 16)
@@ -119,4 +129,4 @@ given-numbers (no-serial l) = inl (omega arith, omega arith)
 given-numbers (steps-bad l d) = ⊎-elim (λ m. inl (omega (arith, m .0), m .1)) (λ e. inr e) (write-numbers d)
 
 pub given-never-15 : {g : List ℕ} {o n p : ℕ} → GivenDeclines g o n p → n ≡ 15 → ⊥
-given-never-15 d = not-15 (omega arith) (given-numbers d)
+given-never-15 d = not-15 {low = 3} (omega arith) (⊎-elim inl (λ e. inr (omega arith)) (given-numbers d))

@@ -8,7 +8,7 @@ use Rattle.rules.specs.Records.{eventAt}
 use Rattle.rules.specs.declared.Event.{Event}
 use Rattle.rules.specs.declared.Event.the-variants.{Open, Read, Write, Close, End}
 use Rattle.demand1.specs.Rows.{kind, session, key, value, status, endNumber}
-use Rattle.demand1.proofs.Events.{Framed, ShapeOf, open-record, read-record, write-record, close-record, end-record, note-record, edition-record, shape-of, open-event, read-event, write-event, close-event, end-event}
+use Rattle.demand1.proofs.Events.{Framed, ShapeOf, open-record, read-record, write-record, close-record, end-record, note-record, edition-record, append-record, list-record, shape-of, open-event, read-event, write-event, close-event, end-event}
 use Rattle.writing.specs.Steps.{stepAt}
 use Rattle.writing.specs.Writing.{itemOf}
 use Rattle.written.specs.Steps.{kindBehind, sessionBehind, statusBehind, keyBehind, valueBehind, OtherKind}
@@ -33,7 +33,7 @@ module _ (b : List ℕ) (at : ℕ) (f : Framed b at) where
       known : OtherKind s k → ⊥
       known o = let l = kind-least w in omega (arith, rw (is-other s k h o) at l)
 
-      by : ShapeOf (kindBehind s k) (sessionBehind s k) (keyBehind s k) (valueBehind s k) (statusBehind s k) (txCount h) (stepAt s (16 * k)) → IsStepRecord b at s k
+      by : ShapeOf (kindBehind s k) (sessionBehind s k) (keyBehind s k) (valueBehind s k) (statusBehind s k) (txCount h) 0 (stepAt s (16 * k)) → IsStepRecord b at s k
       by (open-record x i) =
           let m : kind b at ≡ 1 = q ∙ rw i in
           let z : Open (session b at) ≡ Open (sessionBehind s k) = sym (open-event f m) ∙ e ∙ i in
@@ -59,6 +59,8 @@ module _ (b : List ℕ) (at : ℕ) (f : Framed b at) where
       by (end-record x i) = absurd (omega (arith, step-high s k h known))
       by (note-record x i) = absurd (omega (arith, step-high s k h known))
       by (edition-record x i) = absurd (omega (arith, step-high s k h known))
+      by (append-record x i) = absurd (omega (arith, step-high s k h known))
+      by (list-record x i) = absurd (omega (arith, step-high s k h known))
 
   pub end-fields : (n : ℕ) → kind b at ≡ 5 → eventAt b at ≡ End n → IsEndRecord b at n
   end-fields n q e =

@@ -1,5 +1,6 @@
 pub mod Records
 pub mod Slim
+pub mod Singles
 pub mod Small
 pub mod Framed
 pub mod Meets

@@ -34,7 +34,7 @@ use Rattle.written.proofs.Bytes.{steps-bytes}
 use Rattle.written.proofs.Unused.{known-steps, unused-steps}
 use Rattle.written.proofs.Comes.{steps-over, comes-follow, Ends, at-step, inside, outside, ends}
 use Rattle.written.proofs.Fills.{CameOut, declining, putting, declines-iff, fills, fills-one}
-use Rattle.written.proofs.Small.{slim-read}
+use Rattle.written.proofs.Small.{first-single, slim-read}
 
 -- the bytes of a history's steps
 abbrev pub listing : History → List ℕ
@@ -45,7 +45,7 @@ listing h = joined stepBytes (historySteps h)
 module _ (s : List ℕ) (b : AllBytes s) (first : isSecond s ≡ false) {h : History} (r : HasHistory s h) where
   -- they are read back
   pub listing-back : stepsIn (listing h) ≡ historySteps h
-  listing-back = steps-back (read-grown first r .0) (slim-read s b r)
+  listing-back = steps-back (read-grown first r .0) (slim-read s b (first-single first) r)
 
   -- and followed into the trace's history
   pub listing-good : follow empty 1 (stepsIn (listing h)) ≡ good h
@@ -68,7 +68,7 @@ module _ (s : List ℕ) (b : AllBytes s) (first : isSecond s ≡ false) {h : His
         history = h;
         reads = r;
         comes = by (ends (listing h)) listing-good;
-        unused = unused-steps (read-grown first r .0) (slim-read s b r);
+        unused = unused-steps (read-grown first r .0) (slim-read s b (first-single first) r);
         long = long;
       }
     where

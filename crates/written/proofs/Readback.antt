@@ -8,7 +8,7 @@ use lib.ListN.{length, length-append}
 use Rattle.base.specs.Base.{firstFit}
 use Rattle.rules.specs.History.{History, tx, txCount, current, empty}
 use Rattle.rules.specs.Records.{isSecond}
-use Rattle.rules.specs.Reading.{State, stepRows, misplaced, unlawful, excess, repeats, entered, notesBehind, met, after}
+use Rattle.rules.specs.Reading.{State, stepRows, misplaced, unlawful, excess, repeats, mixes, entered, notesBehind, met, after}
 use Rattle.rules.specs.Traces.{recordOf, trace}
 use Rattle.rules.specs.declared.Event.{Event}
 use Rattle.rules.specs.declared.Event.the-variants.{Open, Read, Write, Close, End, Other}
@@ -27,9 +27,11 @@ use Rattle.written.proofs.Records.{Narrow, narrow-end, FitsRecord, fits
 use Rattle.writing.proofs.Lengths.{items-split, items-more}
 use Rattle.writing.proofs.Sizes.{whole-length}
 use Rattle.written.proofs.Whole.{lead, lead-none, lead-more, whole-lead, first-whole, wanted-edition}
-use Rattle.written.proofs.Framed.{framed-passes}
+use Rattle.written.proofs.Framed.{later-none, framed-passes}
 use Rattle.written.proofs.Meets.{Lone, lone, latest-session, met-current}
 use Rattle.written.proofs.Slim.{EachSlim, slim-front, slim-at, slim-session, slim-sessions, narrow}
+use Rattle.rules.proofs.Singles.{Singles}
+use Rattle.written.proofs.Singles.{grown-singles, narrow-unmixed}
 
 -- a step that is taken is no end and no note
 pub not-end : {h : History} (e : Event) → Taken h e → itemOf e .kind < 5
@@ -85,12 +87,12 @@ module _ (second : Bool) (n : ℕ) (low : n < 2 ^ 32) (b : List ℕ) (own : isSe
     pub ends-here : behind b (length front) ≡ length (front ++ recordOf (serialFrom n k) (itemIn second x))
     ends-here = omega (arith, is-here .len-is, length-append front (recordOf (serialFrom n k) (itemIn second x)), record-length (serialFrom n k) (itemIn second x))
 
-    -- no row refuses it where rows 7 to 10 do not
+    -- no row refuses it where rows 7 to 10 do not, nor row 17
     passes : (next : ℕ) (h : History) (t : ℕ) → (0 < length front → next ≡ serialFrom n k) → (itemIn second x .kind ≡ 16 → length front ≡ 0) → met b (stateBehind front next h) ≡ t
-        → firstFit (stepRows h t (x .event)) ≡ 0 → Passes b (stateBehind front next h)
-    passes next h t f g m z =
+        → firstFit (stepRows h t (x .event)) ≡ 0 → mixes h (x .event) ≡ false → Passes b (stateBehind front next h)
+    passes next h t f g m z u =
         framed-passes b (stateBehind front next h) (is-here .framed) (λ l. is-here .serial-is ∙ sym (f l))
-        (λ q. (g (sym (is-here .kind-is) ∙ q), is-here .edition-is q)) (rw (m, is-here .event-is) z)
+        (λ q. (g (sym (is-here .kind-is) ∙ q), is-here .edition-is q)) (rw (m, is-here .event-is) (later-none h t (x .event) z u))
 
     -- the state behind it
     after-is : (next : ℕ) (h : History) (t : ℕ) → met b (stateBehind front next h) ≡ t → notesBehind 0 (x .event) ≡ 0
@@ -100,10 +102,10 @@ module _ (second : Bool) (n : ℕ) (low : n < 2 ^ 32) (b : List ℕ) (own : isSe
 
     -- a record that is not the end
     on-record : {h : History} (r : Behind front k h) (t : ℕ) → (itemIn second x .kind ≡ 16 → length front ≡ 0) → met b (stateBehind front (r .next) h) ≡ t
-        → firstFit (stepRows h t (x .event)) ≡ 0 → notesBehind 0 (x .event) ≡ 0 → (itemIn second x .kind ≡ 5 → ⊥)
+        → firstFit (stepRows h t (x .event)) ≡ 0 → mixes h (x .event) ≡ false → notesBehind 0 (x .event) ≡ 0 → (itemIn second x .kind ≡ 5 → ⊥)
         → Behind (front ++ recordOf (serialFrom n k) (itemIn second x)) (k + 1) (entered h t (x .event))
-    on-record {h} r t g m z e d =
-        let p = passes (r .next) h t (r .follows) g m z in
+    on-record {h} r t g m z u e d =
+        let p = passes (r .next) h t (r .follows) g m z u in
         record {
           next = (serialFrom n k + 1) % 2 ^ 32;
           follows = λ _. sym (serial-next n k low);
@@ -112,14 +114,14 @@ module _ (second : Bool) (n : ℕ) (low : n < 2 ^ 32) (b : List ℕ) (own : isSe
 
   -- a step that is taken, where m is the session before it
   on-step : (front : List ℕ) (k m : ℕ) (e : Event) (back : List ℕ) → sessionAfter m e < 65536 → Narrow e
-      → b ≡ front ++ (recordOf (serialFrom n k) (itemIn second (mark (sessionAfter m e) e)) ++ back) → {h : History} → Behind front k h → Lone h
+      → b ≡ front ++ (recordOf (serialFrom n k) (itemIn second (mark (sessionAfter m e) e)) ++ back) → {h : History} → Behind front k h → Singles h → Lone h
       → (0 < current h → tx h (txCount h) .session ≡ m) → Taken h e
       → Behind (front ++ recordOf (serialFrom n k) (itemIn second (mark (sessionAfter m e) e))) (k + 1) (entered h (current h) e)
-  on-step front k m e back l w is {h} r only s t =
+  on-step front k m e back l w is {h} r i only s t =
       let x = mark (sessionAfter m e) e in
       on-record front k x back (fits-event l w) is r (current h) (λ q. absurd (no-edition second (x .session) w q))
       (met-current b (stateBehind front (r .next) h) only (λ y c. s c ∙ sym (is-here front k x back (fits-event l w) is .session-is (sym own ∙ y) (taken-owned t c) ∙ owned-keeps m (taken-owned t c)))) (taken-rows h e t)
-      (no-note 0 e t) (λ q. omega (arith, q, same-kind second (x .session) w, not-end e t))
+      (narrow-unmixed h i w) (no-note 0 e t) (λ q. omega (arith, q, same-kind second (x .session) w, not-end e t))
 
 -- ── all of them ──
 
@@ -130,12 +132,12 @@ leading second n es = trace n (map (itemIn second) (lead second es))
 -- "Edition 2 of the trace begins with a kind 16 record", which enters nothing
 behind-preamble : (second : Bool) (n : ℕ) (low : n < 2 ^ 32) (b : List ℕ) (own : isSecond b ≡ second) (rest : List Marked) → b ≡ trace n (map (itemIn second) (preamble second ++ rest))
     → Behind second n low b own (trace n (map (itemIn second) (preamble second))) (length (preamble second)) empty
-unfolding preamble trace serialFrom itemWith entered notesBehind
+unfolding preamble trace serialFrom itemWith mixes entered notesBehind
 behind-preamble false n low b own rest is = record { next = 0; follows = λ l. absurd (omega arith); reaches = start }
 behind-preamble true n low b own rest is =
     let r = recordOf n (itemWith 0 Other) in
     rw (append-nil r)
-    (on-record true n low b own [] 0 (mark 0 Other) _ (fits-edition refl) is (record { next = 0; follows = λ l. absurd (omega arith); reaches = start }) _ (λ _. refl) refl (edition-rows empty _) refl
+    (on-record true n low b own [] 0 (mark 0 Other) _ (fits-edition refl) is (record { next = 0; follows = λ l. absurd (omega arith); reaches = start }) _ (λ _. refl) refl (edition-rows empty _) refl refl
     (λ q. omega arith))
 
 -- steps that have grown, with more behind them
@@ -152,12 +154,12 @@ behind-all second n low b own (grown-step {es} {h} e g t) rest is s =
     let r = behind-all second n low b own g (x ∷ rest) y a in
     rw (lead-more second es e, items-more (itemIn second) n (lead second es) x, length-append (lead second es) (x ∷ []))
     (on-step second n low b own (leading second n es) (length (lead second es)) m e _ (slim-session (slim-sessions (omega arith) es a) e o) (narrow t o)
-    (y ∙ items-split (itemIn second) n (lead second es) x rest) r (lone g) (latest-session g) t)
+    (y ∙ items-split (itemIn second) n (lead second es) x rest) r (grown-singles g a) (lone g) (latest-session g) t)
 
 -- a history that has grown, as blocks in either edition, is read back, without notes
 pub read-back-in : (second : Bool) (n : ℕ) → n < 2 ^ 32 → {g : History} → Grown (historySteps g) g → current g ≡ 0 → EachSlim (historySteps g)
     → ReadInto (trace n (map (itemIn second) (wholeOf second g))) g 0
-unfolding endNo
+unfolding endNo mixes
 read-back-in second n low {g} x z s =
     let es = historySteps g in
     let c = counts x in
@@ -172,7 +174,7 @@ read-back-in second n low {g} x z s =
     let v : Narrow (End (txCount g)) = narrow-end {n = txCount g} (omega (arith, c .few-txs)) in
     let w : FitsRecord second end = fits-event {n = 0} (omega arith) v in
     to-the-end {st = stateBehind second n low b own front (a .next) g} (few second) (a .reaches)
-    (passes second n low b own front k end _ w is (a .next) g (current g) (a .follows) (λ e. absurd (no-edition second 0 v e)) (met-current b _ (lone x) (λ _ l. absurd (omega arith))) (end-clear g .1 z))
+    (passes second n low b own front k end _ w is (a .next) g (current g) (a .follows) (λ e. absurd (no-edition second 0 v e)) (met-current b _ (lone x) (λ _ l. absurd (omega arith))) (end-clear g .1 z) refl)
     (is-here second n low b own front k end _ w is .kind-is ∙ ap (λ i. i .kind) (end-item 0 second (txCount g)))
     (ends-here second n low b own front k end _ w is ∙ ap length (sym (q ∙ items-more (itemIn second) n (lead second es) end)))
   where

@@ -8,17 +8,17 @@ use lib.Dec.{leb, eqb}
 use lib.ListN.{length, length-append}
 use lib.Seq.{take-append-seam, drop-append-add}
 use borrow.Author.Tests.{le-leb, ne-eqb}
-use Rattle.base.specs.Base.{_or_, pick}
+use Rattle.base.specs.Base.{_and_, _or_, pick}
 use Rattle.base.proofs.Tests.{clash, and-on, and-no-left}
 use Rattle.rules.specs.Numbers.{le, bytes}
-use Rattle.rules.specs.Records.{isSecond, fieldsFrom, fieldsAt, payloadAt, isMisfit, eventAt}
+use Rattle.rules.specs.Records.{isSecond, fieldsFrom, fieldsAt, payloadAt, isAppend, isListRead, isMisfit, eventAt}
 use Rattle.rules.specs.Traces.{Item, item, opens, ends, raw, recordOf, trace}
 use Rattle.rules.specs.declared.Event.{Event}
 use Rattle.rules.specs.declared.Event.the-variants.{Open, Read, Write, Close, End, Note, Other}
 use Rattle.rules.proofs.Numbers.{bytes-length, le-behind, le-bytes}
 use Rattle.rules.proofs.Traces.{record-length}
-use Rattle.demand1.specs.Rows.{len, kind, serial, session, key, value, status, edition}
-use Rattle.demand1.proofs.Events.{KindKnown, is-open, is-read, is-write, is-close, is-end, is-note, is-edition, Framed, open-event, read-event, write-event, close-event, end-event, edition-event}
+use Rattle.demand1.specs.Rows.{len, kind, serial, session, key, value, status, number, edition}
+use Rattle.demand1.proofs.Events.{KindKnown, is-open, is-read, is-write, is-close, is-end, is-note, is-edition, is-append, is-list, Framed, open-event, read-event, write-event, close-event, end-event, edition-event}
 use Rattle.demand1.proofs.Checks.{length-test}
 use Rattle.writing.specs.Writing.{itemOf, recordsOf}
 use Rattle.writing.specs.Forms.{Marked, mark, itemWith, itemIn}
@@ -115,30 +115,31 @@ same-kind true n (narrow-end l) = refl
 pub no-edition : (second : Bool) (n : ℕ) {e : Event} → Narrow e → itemIn second (mark n e) .kind ≡ 16 → ⊥
 no-edition second n {e} w q = omega (arith, q, same-kind second n w, kind-most e)
 
--- its kind is one of the edition's, and its length the kind's
+-- its kind is one of the edition's, and none of lists, and its length the kind's
 record Sound (second : Bool) (i : Item) : Type 0 where
   pub known : KindKnown (i .kind)
   pub no-note : i .kind ≡ 6 → ⊥
+  pub no-list : 6 < i .kind → i .kind ≡ 16
   pub short : length (i .payload) ≤ 14
-  pub fits : isMisfit second (i .kind) (6 + length (i .payload)) ≡ false
+  pub fits : (m : ℕ) → isMisfit second (i .kind) (6 + length (i .payload)) m ≡ false
 
 sound : (second : Bool) {x : Marked} → FitsRecord second x → Sound second (itemIn second x)
-unfolding itemOf itemWith bytes isMisfit _or_ pick
-sound false (fits-event l (narrow-open k)) = record { known = is-open refl; no-note = λ e. omega arith; short = omega arith; fits = refl }
-sound true (fits-event l (narrow-open k)) = record { known = is-open refl; no-note = λ e. omega arith; short = omega arith; fits = refl }
-sound false (fits-event l (narrow-read j k)) = record { known = is-read refl; no-note = λ e. omega arith; short = omega arith; fits = refl }
-sound true (fits-event l (narrow-read j k)) = record { known = is-read refl; no-note = λ e. omega arith; short = omega arith; fits = refl }
-sound false (fits-event l (narrow-write j k)) = record { known = is-write refl; no-note = λ e. omega arith; short = omega arith; fits = refl }
-sound true (fits-event l (narrow-write j k)) = record { known = is-write refl; no-note = λ e. omega arith; short = omega arith; fits = refl }
-sound false (fits-event l (narrow-close k)) = record { known = is-close refl; no-note = λ e. omega arith; short = omega arith; fits = refl }
-sound true (fits-event l (narrow-close k)) = record { known = is-close refl; no-note = λ e. omega arith; short = omega arith; fits = refl }
-sound false (fits-event l (narrow-end k)) = record { known = is-end refl; no-note = λ e. omega arith; short = omega arith; fits = refl }
-sound true (fits-event l (narrow-end k)) = record { known = is-end refl; no-note = λ e. omega arith; short = omega arith; fits = refl }
+unfolding itemOf itemWith bytes isMisfit isAppend isListRead _and_ _or_ pick
+sound false (fits-event l (narrow-open k)) = record { known = is-open refl; no-note = λ e. omega arith; no-list = λ l. omega arith; short = omega arith; fits = λ m. refl }
+sound true (fits-event l (narrow-open k)) = record { known = is-open refl; no-note = λ e. omega arith; no-list = λ l. omega arith; short = omega arith; fits = λ m. refl }
+sound false (fits-event l (narrow-read j k)) = record { known = is-read refl; no-note = λ e. omega arith; no-list = λ l. omega arith; short = omega arith; fits = λ m. refl }
+sound true (fits-event l (narrow-read j k)) = record { known = is-read refl; no-note = λ e. omega arith; no-list = λ l. omega arith; short = omega arith; fits = λ m. refl }
+sound false (fits-event l (narrow-write j k)) = record { known = is-write refl; no-note = λ e. omega arith; no-list = λ l. omega arith; short = omega arith; fits = λ m. refl }
+sound true (fits-event l (narrow-write j k)) = record { known = is-write refl; no-note = λ e. omega arith; no-list = λ l. omega arith; short = omega arith; fits = λ m. refl }
+sound false (fits-event l (narrow-close k)) = record { known = is-close refl; no-note = λ e. omega arith; no-list = λ l. omega arith; short = omega arith; fits = λ m. refl }
+sound true (fits-event l (narrow-close k)) = record { known = is-close refl; no-note = λ e. omega arith; no-list = λ l. omega arith; short = omega arith; fits = λ m. refl }
+sound false (fits-event l (narrow-end k)) = record { known = is-end refl; no-note = λ e. omega arith; no-list = λ l. omega arith; short = omega arith; fits = λ m. refl }
+sound true (fits-event l (narrow-end k)) = record { known = is-end refl; no-note = λ e. omega arith; no-list = λ l. omega arith; short = omega arith; fits = λ m. refl }
 sound false (fits-edition t) = absurd (clash t refl)
-sound true (fits-edition t) = record { known = is-edition refl; no-note = λ e. omega arith; short = omega arith; fits = refl }
+sound true (fits-edition t) = record { known = is-edition refl; no-note = λ e. omega arith; no-list = λ l. omega arith; short = omega arith; fits = λ m. refl }
 
--- the kinds are 1 to 16
-pub known-most : {k : ℕ} → KindKnown k → (1 ≤ k) × (k ≤ 16)
+-- the kinds are 1 to 24
+pub known-most : {k : ℕ} → KindKnown k → (1 ≤ k) × (k ≤ 24)
 known-most (is-open e) = (omega arith, omega arith)
 known-most (is-read e) = (omega arith, omega arith)
 known-most (is-write e) = (omega arith, omega arith)
@@ -146,6 +147,8 @@ known-most (is-close e) = (omega arith, omega arith)
 known-most (is-end e) = (omega arith, omega arith)
 known-most (is-note e) = (omega arith, omega arith)
 known-most (is-edition e) = (omega arith, omega arith)
+known-most (is-append e) = (omega arith, omega arith)
+known-most (is-list e) = (omega arith, omega arith)
 
 -- a key and a value
 op-key : (x v : ℕ) (back : List ℕ) → x < 4294967296 → le 4 ((bytes 4 x ++ bytes 8 v) ++ back) 0 ≡ x
@@ -227,8 +230,20 @@ module _ (front : List ℕ) (m : ℕ) (i : Item) (back : List ℕ) where
       let k = record-kind (omega (arith, known-most (w .known) .1)) in
       let n = record-len (omega (arith, w .short)) in
       record {
-        sized = record { low = omega (arith, n); there = omega (arith, n, record-within); known = rw k (w .known); no-note = λ _ e. w .no-note (rw k at e) };
-        fits = λ x. clash (length-test second (i .kind) (6 + length (i .payload)) (w .known) (λ _. w .no-note) (omega arith) .1 (rw (own, k, n) at x)) (w .fits);
+        sized =
+            record {
+              low = omega (arith, n);
+              there = omega (arith, n, record-within);
+              known = rw k (w .known);
+              no-note = λ _ e. w .no-note (rw k at e);
+              append-second = λ e. absurd (omega (arith, k, w .no-list (omega arith)));
+              list-second = λ e. absurd (omega (arith, k, w .no-list (omega arith)));
+            };
+        fits =
+            λ x.
+            clash
+            (length-test second (i .kind) (6 + length (i .payload)) (number between (length front)) (w .known) (λ _. w .no-note) (λ l d. absurd (d (w .no-list l))) (omega arith) .1 (rw (own, k, n) at x))
+            (w .fits (number between (length front)));
       }
 
 -- ── its event ──

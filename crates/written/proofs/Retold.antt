@@ -13,7 +13,7 @@ use Rattle.rules.specs.Traces.{recordOf, trace}
 use Rattle.rules.specs.declared.Event.{Event}
 use Rattle.rules.specs.declared.Event.the-variants.{End}
 use Rattle.rules.proofs.Traces.{serialFrom, serial-next}
-use Rattle.demand1.specs.Rows.{kind, serial, endNumber, behind, Passes, serialFollows, valueLawful, end-wrong, Next, after-open, after-read, after-write, after-close, after-note, after-edition, Reaches, start, on, ReadInto, to-the-end}
+use Rattle.demand1.specs.Rows.{kind, serial, endNumber, behind, Passes, serialFollows, valueLawful, end-wrong, Next, after-open, after-read, after-write, after-append, after-list, after-close, after-note, after-edition, Reaches, start, on, ReadInto, to-the-end}
 use Rattle.demand1.proofs.Events.{Framed, passes-framed, exactly, same-or}
 use Rattle.writing.specs.Writing.{itemOf, recordsOf, traceOf}
 use Rattle.writing.specs.Listing.{historySteps}
@@ -33,6 +33,8 @@ pub behind-it : {s : List ℕ} {st x : State} → Next s st x → (x .at ≡ beh
 behind-it (after-open k) = (refl, refl)
 behind-it (after-read k _) = (refl, refl)
 behind-it (after-write k _) = (refl, refl)
+behind-it (after-append k _) = (refl, refl)
+behind-it (after-list k _) = (refl, refl)
 behind-it (after-close k _) = (refl, refl)
 behind-it (after-note k) = (refl, refl)
 behind-it (after-edition k) = (refl, refl)

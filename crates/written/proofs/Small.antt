@@ -1,4 +1,4 @@
--- The fields of the steps of a trace that is read, of either edition and with notes or without, fit the bytes that records have for them.
+-- The fields of the steps of a trace that is read, of either edition and with notes or without, fit the bytes that records have for them, if it has no lists.
 use Prim.Native.Nat.{ℕ, _+_, _<_, _≤_}
 use mathlib.Core.Path.{_≡_, ap}
 use mathlib.Core.Bool.{Bool, true, false}
@@ -8,21 +8,22 @@ use native.Mathlib.Omega.{arith}
 use lib.Dec.{eqb}
 use lib.ListN.{length, getD, List·getD-eq-default}
 use Rattle.base.specs.Base.{pick}
-use Rattle.base.proofs.Tests.{split}
+use Rattle.base.proofs.Tests.{clash, split}
 use Rattle.theory.specs.Entries.{In, here, there}
 use Rattle.theory.proofs.Entries.{in-none, entry-in, in-either, among-iff}
 use Rattle.rules.specs.History.{History, Op, tx, op, txCount, opCount, size, isOpen, empty, opened, closed, withOp}
-use Rattle.rules.specs.Records.{fieldsAt}
+use Rattle.rules.specs.Records.{isSecond, fieldsAt}
 use Rattle.rules.specs.Reading.{State}
 use Rattle.rules.specs.declared.Event.{Event}
 use Rattle.rules.specs.declared.Event.the-variants.{Read, Write, Close, Other}
 use Rattle.rules.proofs.History.{with-op-count, with-op-txs, with-op-tx, with-op-old, with-op-new, open-count, open-ops, open-old, open-new, close-count, close-ops, close-whole, close-other}
 use Rattle.demand1.specs.Lawful.{IsOp, IsTx}
-use Rattle.demand1.specs.Rows.{Next, after-open, after-read, after-write, after-close, after-note, after-edition, Reaches, start, on, ReadInto, to-the-end, HasHistory}
-use Rattle.demand1.proofs.Events.{same-or}
+use Rattle.demand1.specs.Rows.{kind, OfLists, appends, lists, Passes, Next, after-open, after-read, after-write, after-append, after-list, after-close, after-note, after-edition, Reaches, start, on, ReadInto, to-the-end, HasHistory}
+use Rattle.demand1.proofs.Events.{same-or, passes-framed}
 use Rattle.writing.specs.Listing.{opStep, opStepOf, closeStep, txSteps, historySteps}
 use Rattle.written.specs.Writes.{AllBytes}
 use Rattle.written.proofs.Slim.{Slim, EachSlim, slim-other, le-below}
+use Rattle.rules.proofs.Singles.{Singles}
 
 -- ── a history whose numbers fit ──
 
@@ -77,18 +78,29 @@ small-empty = record { sessions = λ t i. absurd (omega (arith, i .from, i .to))
 
 -- ── what is read ──
 
-module _ (s : List ℕ) (b : AllBytes s) where
-  small-next : {st x : State} → Small (st .history) → Next s st x → Small (x .history)
-  small-next {st} h (after-open k) = small-open (st .history) h _ (le-below 2 s (st .at + 8) b)
-  small-next {st} h (after-read k w) = small-op (st .history) h _ (record { key = le-below 4 s (fieldsAt s (st .at)) b; value = le-below 8 s (fieldsAt s (st .at) + 4) b })
-  small-next {st} h (after-write k w) = small-op (st .history) h _ (record { key = le-below 4 s (fieldsAt s (st .at)) b; value = le-below 8 s (fieldsAt s (st .at) + 4) b })
-  small-next {st} h (after-close {t} k w) = small-close (st .history) h t _
-  small-next h (after-note k) = h
-  small-next h (after-edition k) = h
+-- no record that passes is an append or a list read
+abbrev pub SingleValues : List ℕ → Type 0
+SingleValues s = (st : State) → Reaches s st → Passes s st → OfLists (isSecond s) (kind s (st .at)) → ⊥
+
+-- .. as in edition 1
+pub first-single : {s : List ℕ} → isSecond s ≡ false → SingleValues s
+first-single first st r p (appends q _) = clash q first
+first-single first st r p (lists q _) = clash q first
+
+module _ (s : List ℕ) (b : AllBytes s) (single : SingleValues s) where
+  small-next : {st x : State} → Reaches s st → Passes s st → Small (st .history) → Next s st x → Small (x .history)
+  small-next {st} r p h (after-open k) = small-open (st .history) h _ (le-below 2 s (st .at + 8) b)
+  small-next {st} r p h (after-read k w) = small-op (st .history) h _ (record { key = le-below 4 s (fieldsAt s (st .at)) b; value = le-below 8 s (fieldsAt s (st .at) + 4) b })
+  small-next {st} r p h (after-write k w) = small-op (st .history) h _ (record { key = le-below 4 s (fieldsAt s (st .at)) b; value = le-below 8 s (fieldsAt s (st .at) + 4) b })
+  small-next {st} r p h (after-append k w) = absurd (single st r p (appends (passes-framed p .sized .append-second k) k))
+  small-next {st} r p h (after-list k w) = absurd (single st r p (lists (passes-framed p .sized .list-second k) k))
+  small-next {st} r p h (after-close {t} k w) = small-close (st .history) h t _
+  small-next r p h (after-note k) = h
+  small-next r p h (after-edition k) = h
 
   small-reached : {st : State} → Reaches s st → Small (st .history)
   small-reached start = small-empty
-  small-reached (on r p n) = small-next (small-reached r) n
+  small-reached (on r p n) = small-next r p (small-reached r) n
 
 -- ── its steps ──
 
@@ -137,8 +149,18 @@ slim-steps-of h s =
     let m = among-iff (txSteps h) (size h) 1 e .0 i in
     slim-tx h s (m .at) (record { from = m .from; to = omega (arith, m .to) }) e (m .is))
 
-pub slim-read : (s : List ℕ) → AllBytes s → {h : History} → HasHistory s h → EachSlim (historySteps h)
-slim-read s b x = of (x .reads)
-  where
-    of : {h : History} {notes : ℕ} → ReadInto s h notes → EachSlim (historySteps h)
-    of (to-the-end {st} l r p k e) = slim-steps-of (st .history) (small-reached s b r)
+-- ── a trace that is read ──
+
+module _ (s : List ℕ) (b : AllBytes s) (single : SingleValues s) {h : History} (x : HasHistory s h) where
+  small-read : Small h
+  small-read = of (x .reads)
+    where
+      of : {h : History} {notes : ℕ} → ReadInto s h notes → Small h
+      of (to-the-end l r p k e) = small-reached s b single r
+
+  pub slim-read : EachSlim (historySteps h)
+  slim-read = slim-steps-of h small-read
+
+  -- no operation's key is one of lists
+  pub read-singles : Singles h
+  read-singles i l m = small-read .ops i (record { from = l; to = m }) .key

@@ -15,7 +15,7 @@ use Rattle.rules.specs.declared.Event.{Event}
 use Rattle.rules.specs.declared.Event.the-variants.{Open, Read, Write, Close, End, Note, Other}
 use Rattle.rules.proofs.Numbers.{spelt, spelt-on, bytes-length}
 use Rattle.demand1.specs.Rows.{len, kind, serial, session, key, value, status, endNumber, edition, behind, open-not-8, read-not-18, write-not-18, close-not-7, end-not-8}
-use Rattle.demand1.proofs.Events.{Framed, exactly, Shape, open-record, read-record, write-record, close-record, end-record, note-record, edition-record, shape}
+use Rattle.demand1.proofs.Events.{Framed, exactly, Shape, open-record, read-record, write-record, close-record, end-record, note-record, edition-record, append-record, list-record, shape}
 use Rattle.writing.specs.Writing.{isNoStep, itemOf}
 use Rattle.writing.specs.Forms.{mark, itemIn}
 use Rattle.writing.proofs.Rows.{Taken, taken-step}
@@ -140,3 +140,5 @@ module _ {s : List ℕ} {at : ℕ} (b : AllBytes s) (first : isSecond s ≡ fals
       by (end-record k x) = let z : e ≡ End (endNumber s at) = sym q ∙ x in absurd (true≢false (rw z at (taken-step t)))
       by (note-record k x) = let z : e ≡ Note = sym q ∙ x in absurd (true≢false (rw z at (taken-step t)))
       by (edition-record k x) = let z : e ≡ Other = sym q ∙ x in absurd (true≢false (rw z at (taken-step t)))
+      by (append-record k x) = absurd (clash (f .sized .append-second k) first)
+      by (list-record k x) = absurd (clash (f .sized .list-second k) first)

@@ -15,7 +15,7 @@ use Rattle.written.specs.Lists.{StepsOf}
 
 -- writing the trace s again, with a buffer of x bytes for its steps and one of o bytes for what is written, is refused with this number and place
 pub data RewriteDeclines (s : List ℕ) (x o : ℕ) : ℕ → ℕ → Type 0 where
-  -- it is not turned into steps: 2 to 11 for the trace, 6 at 0 for edition 2, then 16 with the steps' bytes
+  -- it is not turned into steps: 2 to 11 or 17 for the trace, 6 at 0 for edition 2, then 16 with the steps' bytes
   steps-declined : {n p : ℕ} → ListDeclines s x n p → RewriteDeclines s x o n p
   -- "16, output buffer too short, place the bytes needed, after all others": the steps have room, and the trace has none
   output-short : {h : History} → isSecond s ≡ false → HasHistory s h → stepsLength h ≤ x → o < traceLength h → RewriteDeclines s x o 16 (traceLength h)

@@ -6,7 +6,7 @@ use mathlib.Core.Bool.{Bool, true, false}
 use mathlib.Core.List.{List}
 use lib.ListN.{length}
 use Rattle.rules.specs.History.{History, Op, txCount, empty, opened, closed, withOp}
-use Rattle.demand1.specs.Rows.{Check, lengthField, lengthLow, bytesThere, serialFollows, kindKnown, lengthFits, editionFirst, editionIs2, inPlace, valueLawful, withinLimit, newWrite, NoneFails, Misplaced, Unlawful, Excess, Repeated}
+use Rattle.demand1.specs.Rows.{Check, lengthField, lengthLow, bytesThere, serialFollows, kindKnown, lengthFits, editionFirst, editionIs2, inPlace, valueLawful, withinLimit, newWrite, oneSort, NoneFails, Misplaced, Unlawful, Excess, Repeated}
 use Rattle.writing.specs.Steps.{stepKind, stepSession, stepStatus, stepKey, stepValue}
 
 -- a step stands behind k others; the steps are used up behind k of them
@@ -39,7 +39,8 @@ pub data OtherKind (s : List ℕ) (k : ℕ) : Type 0 where
   below-1 : kindBehind s k < 1 → OtherKind s k
   above-4 : 4 < kindBehind s k → OtherKind s k
 
--- the check fails at the step behind k others, whose history is h. A step has no length, no serial and no edition, and is no end record
+-- the check fails at the step behind k others, whose history is h. A step has no length, no serial and no edition, and is no end record; appends and list reads
+-- are of other kinds, so that it has no number of a list, no offset, and no key with single values and lists
 abbrev pub StepFails : List ℕ → ℕ → History → Check → Type 0
 StepFails s k h lengthField = ⊥
 StepFails s k h lengthLow = ⊥
@@ -50,9 +51,10 @@ StepFails s k h lengthFits = ⊥
 StepFails s k h editionFirst = ⊥
 StepFails s k h editionIs2 = ⊥
 StepFails s k h inPlace = Misplaced (kindBehind s k) h
-StepFails s k h valueLawful = Unlawful (kindBehind s k) (valueBehind s k) (statusBehind s k) (txCount h) h
+StepFails s k h valueLawful = Unlawful (kindBehind s k) (valueBehind s k) (statusBehind s k) (txCount h) 0 h
 StepFails s k h withinLimit = Excess (kindBehind s k) h
-StepFails s k h newWrite = Repeated (kindBehind s k) (keyBehind s k) (valueBehind s k) h
+StepFails s k h newWrite = Repeated (kindBehind s k) (keyBehind s k) (valueBehind s k) 0 h
+StepFails s k h oneSort = ⊥
 
 abbrev pub StepPasses : List ℕ → ℕ → History → Type 0
 StepPasses s k h = NoneFails (StepFails s k h)

@@ -13,18 +13,19 @@ abbrev μ-loop : tie.MeasureT-loop
 μ-loop h t form first session out₀ from₀ i₀ out from i = i
 
 loop-holds : tie.Need-loop-holds Inv-loop μ-loop
-loop-holds c = ops-start (c .before .before .before .pre .2) (c .last-op .ensures)
+loop-holds c = ops-start (c .before .before .before .pre .3) (c .last-op .ensures)
 
 op-step-requires : tie.Need-op-step-requires Inv-loop μ-loop
 op-step-requires c κs =
     let l = c .before in
-    chain-has (l .before .before .before .before .pre .0 .held) (l .loop .inv .on) (omega arith)
+    let p = l .before .before .before .before .pre in
+    (chain-has (p .0 .held) (l .loop .inv .on) (omega arith), p .1)
 
 put-before-requires : tie.Need-put-before-requires Inv-loop μ-loop
 put-before-requires c κs =
     let l = c .before .before .before in
     let p = l .before .before .before .before .pre in
-    rw (c .before .op-step .ensures) (op-room (l .loop .inv) (omega arith) (p .1) (p .2))
+    rw (c .before .op-step .ensures) (op-room (l .loop .inv) (omega arith) (p .2) (p .3))
 
 prev-op-requires : tie.Need-prev-op-requires Inv-loop μ-loop
 prev-op-requires c κs =
@@ -37,7 +38,7 @@ loop-again c =
     let step = put .before .before in
     let l = step .before .before in
     let p = l .before .before .before .before .pre in
-    ops-next (l .loop .inv) (omega arith) (p .1) (rw (step .op-step .ensures) at (put .put-before .ensures)) (c .prev-op .ensures)
+    ops-next (l .loop .inv) (omega arith) (p .2) (rw (step .op-step .ensures) at (put .put-before .ensures)) (c .prev-op .ensures)
 
 pub put-ops-spec : {M : Type 1} → statement M
 put-ops-spec =

@@ -10,7 +10,7 @@ put-before-requires c κs =
     let e = c .before in
     let s = e .before in
     let p = s .before .before .before .pre in
-    close-room _ _ (p .1) (e .session-of .ensures) (s .status-of .ensures) (p .2)
+    close-room _ _ (p .2) (e .session-of .ensures) (s .status-of .ensures) (p .3)
 
 put-ops-requires : tie.Need-put-ops-requires
 put-ops-requires c κs =
@@ -18,7 +18,7 @@ put-ops-requires c κs =
     let e = b .before .before in
     let s = e .before in
     let p = s .before .before .before .pre in
-    (p .0, e .session-of .ensures, ops-room _ _ (p .1) (e .session-of .ensures) (s .status-of .ensures) (p .2) (b .put-before .ensures))
+    (p .0, p .1, e .session-of .ensures, ops-room _ _ (p .2) (e .session-of .ensures) (s .status-of .ensures) (p .3) (b .put-before .ensures))
 
 put-before-requires-2 : tie.Need-put-before-requires-2
 put-before-requires-2 c κs =
@@ -27,7 +27,7 @@ put-before-requires-2 c κs =
     let e = b .before .before in
     let s = e .before in
     let p = s .before .before .before .pre in
-    open-room _ _ (p .1) (e .session-of .ensures) (s .status-of .ensures) (p .2) (b .put-before .ensures) (o .put-ops .ensures)
+    open-room _ _ (p .2) (e .session-of .ensures) (s .status-of .ensures) (p .3) (b .put-before .ensures) (o .put-ops .ensures)
 
 returns : tie.Need-returns
 returns c =
@@ -37,7 +37,7 @@ returns c =
     let e = b .before .before in
     let s = e .before in
     let p = s .before .before .before .pre in
-    tx-put _ _ (p .1) (e .session-of .ensures) (s .status-of .ensures) (b .put-before .ensures) (o .put-ops .ensures) (f .put-before2 .ensures)
+    tx-put _ _ (p .2) (e .session-of .ensures) (s .status-of .ensures) (b .put-before .ensures) (o .put-ops .ensures) (f .put-before2 .ensures)
 
 pub put-tx-spec : {M : Type 1} → statement M
 put-tx-spec =

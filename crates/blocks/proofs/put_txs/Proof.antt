@@ -18,7 +18,7 @@ abbrev μ-loop : tie.MeasureT-loop
 
 loop-holds : tie.Need-loop-holds Inv-loop μ-loop
 loop-holds c =
-    (omega (arith, c .txs .ensures), rw (c .txs .ensures, ← txs-all _) (leaving-start (c .before .before .before .pre .2)))
+    (omega (arith, c .txs .ensures), rw (c .txs .ensures, ← txs-all _) (leaving-start (c .before .before .before .pre .3)))
 
 put-tx-requires : tie.Need-put-tx-requires Inv-loop μ-loop
 put-tx-requires c κs =
@@ -26,8 +26,9 @@ put-tx-requires c κs =
     let l = c .before .before in
     let p = l .before .before .before .before .pre in (
       record { held = p .0; from = t; to = l .loop .inv .0 },
-      p .1 _ t (l .loop .inv .0),
-      txs-room _ t (leaving-room (l .loop .inv .1) (p .2)),
+      p .1,
+      p .2 _ t (l .loop .inv .0),
+      txs-room _ t (leaving-room (l .loop .inv .1) (p .3)),
     )
 
 loop-again : tie.Need-loop-again Inv-loop μ-loop

@@ -10,7 +10,9 @@ returns c =
     kind-off _ _ _ (k .u16-at2 .ensures) (k .before .u16-at .ensures) (sym (c .before .is-unknown .ensures) ∙ c .if1 .taken)
 
 is-misfit-requires : tie.Need-is-misfit-requires
-is-misfit-requires c κs = sym (c .before .is-unknown .ensures) ∙ c .if1 .left
+is-misfit-requires c κs =
+    let l = c .before .before .before in
+    (sym (c .before .is-unknown .ensures) ∙ c .if1 .left, l .u16-at .ensures, l .before .before .pre .1)
 
 returns-2 : tie.Need-returns-2
 returns-2 c =
@@ -32,7 +34,7 @@ is-other-edition-requires c κs =
     let m = c .before .before in
     let k = m .before .before .before .before in
     let l = k .before in
-    (λ e. sym (l .u16-at .ensures) ∙ edition-fits _ _ _ (sym (m .before .is-misfit .ensures) ∙ m .if2 .left) e, l .before .before .pre .1)
+    (λ e. sym (l .u16-at .ensures) ∙ edition-fits _ _ _ _ (sym (m .before .is-misfit .ensures) ∙ m .if2 .left) e, l .before .before .pre .1)
 
 returns-4 : tie.Need-returns-4
 returns-4 c =

@@ -7,10 +7,10 @@ stated-of-requires : tie.Need-stated-of-requires
 stated-of-requires c κs =
     let k = c .before in
     let f = k .before .before in
-    rw (k .u16-at .ensures, c .payload-at .ensures, payload-length (f .args .s .now) (f .args .at) (f .pre .six) (f .pre .room)) (f .pre .low)
+    rw (k .u16-at .ensures, c .payload-at .ensures, payload-length (f .args .s .now) (f .args .at) (f .pre .six) (f .pre .room)) (f .pre .long)
 
 returns : tie.Need-returns
-returns c = rw (c .stated-of .ensures, c .before .payload-at .ensures, c .before .before .u16-at .ensures)
+returns c = rw (← c .before .payload-at .ensures, ← c .before .before .u16-at .ensures) (c .stated-of .ensures)
 
 pub stated-at-spec : {M : Type 1} → statement M
 stated-at-spec =

@@ -21,7 +21,7 @@ put-txs-requires : tie.Need-put-txs-requires
 put-txs-requires c κs =
     let o = c .before .before in
     let p = o .before .before .before .before .pre in
-    (p .0, p .1 .none-open, steps-room (p .1) (omega (arith, o .ops .ensures, o .before .txs .ensures)) (omega arith) (omega (arith, c .before .if1 .left)))
+    (p .0, p .1 .reads, p .1 .none-open, steps-room (p .1) (omega (arith, o .ops .ensures, o .before .txs .ensures)) (omega arith) (omega (arith, c .before .if1 .left)))
 
 returns-2 : tie.Need-returns-2
 returns-2 c =

@@ -18,7 +18,7 @@ returns c =
     let test = step .before in
     let turn = test .before in
     let count = turn .before in
-    following-bad (turn .loop .inv) (rw (count .step-count .ensures) at (test .loop-test .taken)) (rw (step .step-at .ensures) at (entry .enter .ensures)) (c .if1 .taken)
+    following-bad (turn .loop .inv) (rw (count .step-count .ensures) at (test .loop-test .taken)) (rw (step .step-at .ensures .0) at (entry .enter .ensures)) (c .if1 .taken)
 
 loop-again : tie.Need-loop-again Inv-loop μ-loop
 loop-again c =
@@ -27,7 +27,7 @@ loop-again c =
     let test = step .before in
     let turn = test .before in
     let count = turn .before in
-    following-more (turn .loop .inv) (rw (count .step-count .ensures) at (test .loop-test .taken)) (rw (step .step-at .ensures) at (entry .enter .ensures)) (c .if1 .left)
+    following-more (turn .loop .inv) (rw (count .step-count .ensures) at (test .loop-test .taken)) (rw (step .step-at .ensures .0) at (entry .enter .ensures)) (c .if1 .left)
 
 returns-2 : tie.Need-returns-2 Inv-loop μ-loop
 returns-2 c =
@@ -46,7 +46,7 @@ follow-steps-spec =
     tie.close
     (tie.spec Inv-loop μ-loop (λ c κs. search needs) (λ c κs. search needs)
     (λ c. following-first _ _ (c .before .before .before .clear .ensures .holds)) (λ c. omega (arith, c .before .before .step-count .ensures))
-    (λ c κs. omega (arith, c .before .before .step-count .ensures)) (λ c κs. c .before .before .before .loop .inv .held) (λ c. search needs)
+    (λ c κs. omega (arith, c .before .before .step-count .ensures)) (λ c κs. (c .before .before .before .loop .inv .held, c .before .step-at .ensures .1)) (λ c. search needs)
     (λ c. omega (arith, c .before .before .before .enter .ensures .held .room, c .before .before .before .before .before .before .before .before .before .before .before .before .before .before .before .pre)) returns (λ c. search needs) (λ c. search needs) loop-again (λ c κs. c .before .before .loop .inv .held) (λ c. search needs)
     (λ c. omega (arith, c .before .before .before .end-no .ensures .held .room, c .before .before .before .before .before .before .before .before .before .before .before .before .before .before .pre)) returns-2
     (λ c. omega (arith, c .before .before .before .end-no .ensures .held .room, c .before .before .before .before .before .before .before .before .before .before .before .before .before .before .pre)) returns-3)

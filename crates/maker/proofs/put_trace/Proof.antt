@@ -20,7 +20,7 @@ put-record-requires c κs =
     let count = turn .before in
     let start = count .before .before .before .before in
     let below = rw (count .step-count .ensures) at (test .loop-test .taken) in
-    rw (c .step-at .ensures) (writing-room (turn .loop .inv) below (start .pre .1))
+    rw (c .step-at .ensures .0) (writing-room (turn .loop .inv) below (start .pre .1))
 
 loop-again : tie.Need-loop-again Inv-loop μ-loop
 loop-again c =
@@ -29,7 +29,7 @@ loop-again c =
     let test = step .before .before in
     let turn = test .before in
     let count = turn .before in
-    rw (c .wrapping-add-u32 .ensures) (writing-step (turn .loop .inv) (rw (count .step-count .ensures) at (test .loop-test .taken)) (rw (step .step-at .ensures) at (record1 .put-record .ensures)))
+    rw (c .wrapping-add-u32 .ensures) (writing-step (turn .loop .inv) (rw (count .step-count .ensures) at (test .loop-test .taken)) (rw (step .step-at .ensures .0) at (record1 .put-record .ensures)))
 
 cast-txs : tie.Need-cast-txs Inv-loop μ-loop
 cast-txs c =

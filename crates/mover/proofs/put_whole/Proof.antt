@@ -16,7 +16,7 @@ put-txs-requires c κs =
     let txs = end .before .before in
     let form = txs .before in
     let p = form .before .before .before .pre in
-    (p .0, p .1 .none-open, blocks-room _ _ (form .form-of .ensures) (txs .txs .ensures) (p .2) (end .put-before .ensures))
+    (p .0, p .1 .reads, p .1 .none-open, blocks-room _ _ (form .form-of .ensures) (txs .txs .ensures) (p .2) (end .put-before .ensures))
 
 put-preamble-requires : tie.Need-put-preamble-requires
 put-preamble-requires c κs =

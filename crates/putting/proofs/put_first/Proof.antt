@@ -14,6 +14,7 @@ put-first-spec =
     (λ c. search needs)
     (λ c κs. rw (c .before .before .event .given .1) at (c .before .before .before .before .before .pre))
     (λ c. search needs)
+    (λ c. search needs)
     (λ c κs. rw (c .before .before .event2 .given .1) at (c .before .before .before .before .before .pre))
     (λ c. search needs)
     (λ c κs. rw (c .before .before .event3 .given .1) at (c .before .before .before .before .before .pre))

@@ -9,7 +9,7 @@ unfolding stepBytes
 put-step-spec =
     tie.close
     (tie.spec (λ c. search needs) (λ c κs. rw (c .before .before .event .given .1) at (c .before .before .before .before .before .pre))
-    (λ c. search needs) (λ c κs. rw (c .before .before .event2 .given .1) at (c .before .before .before .before .before .pre)) (λ c. search needs)
+    (λ c. search needs) (λ c. search needs) (λ c κs. rw (c .before .before .event2 .given .1) at (c .before .before .before .before .before .pre)) (λ c. search needs)
     (λ c κs. rw (c .before .before .event3 .given .1) at (c .before .before .before .before .before .pre)) (λ c. search needs)
     (λ c κs. rw (c .before .before .event4 .given .1) at (c .before .before .before .before .before .pre)) (λ c. search needs) (λ c. search needs)
     (λ c. search needs) (λ c. search needs)

@@ -1,7 +1,15 @@
 use Rattle.steps.proofs.Taken.{idle-note, idle-other}
+use Rattle.rules.specs.Records.{writtenKey}
 use borrow.Author.Needs.{needs}
 use Rattle.steps.proofs.take_in.Statement.{statement}
 use Rattle.steps.proofs.take_in.Tie as tie
+
+take-held-requires : tie.Need-take-held-requires
+unfolding writtenKey
+take-held-requires c κs =
+    let e = c .before .before .event3 .given .1 in
+    let p = c .before .before .before .before .before .pre in
+    (p .0, p .1, rw e at (p .2 .narrow), p .2 .new-place _ _ e)
 
 returns : tie.Need-returns
 returns c = rw (c .before .before .before .before .before .event .given .1) (c .before .before .take-open .ensures)
@@ -10,7 +18,7 @@ returns-2 : tie.Need-returns-2
 returns-2 c = rw (c .before .before .before .before .before .event2 .given .1) (c .before .before .take-read .ensures)
 
 returns-3 : tie.Need-returns-3
-returns-3 c = rw (c .before .before .before .before .before .event3 .given .1) (c .before .before .take-write .ensures)
+returns-3 c = rw (c .before .before .before .before .before .event3 .given .1) (c .before .before .take-held .ensures)
 
 returns-4 : tie.Need-returns-4
 returns-4 c = rw (c .before .before .before .before .before .event4 .given .1) (c .before .before .take-close .ensures)
@@ -33,7 +41,7 @@ take-in-spec =
     (λ c. search needs)
     (λ c κs. search needs)
     (λ c. search needs)
-    (λ c κs. search needs)
+    take-held-requires
     (λ c. search needs)
     (λ c κs. search needs)
     (λ c. search needs)

@@ -16,7 +16,7 @@ loop-holds : tie.Need-loop-holds Inv-loop μ-loop
 loop-holds c = walk-start _ _ _ _ (c .head-of .ensures .is ∙ rw (c .before .bucket-of .ensures .is))
 
 writes-value-requires : tie.Need-writes-value-requires Inv-loop μ-loop
-writes-value-requires c κs = walk-has _ _ _ _ (c .before .before .before .before .before .pre) (c .before .loop .inv) (omega arith) .there
+writes-value-requires c κs = walk-has _ _ _ _ (c .before .before .before .before .before .pre) (c .before .loop .inv) (omega arith)
 
 returns : tie.Need-returns Inv-loop μ-loop
 returns c =

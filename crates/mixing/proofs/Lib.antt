@@ -1,0 +1,5 @@
+pub mod Sorts
+pub mod Firsts
+pub mod Walks
+pub mod Growing
+pub mod Laws

@@ -194,7 +194,7 @@ module _ {h : History} (ok : LawfulHistory h) where
         adds t r d = ifso t (λ e. rw (pick-on t r 0 e) (holds (d .0 e))) (λ e. rw (pick-off t r 0 e) (fails (λ x. clash (d .1 x) e)))
 
 -- a reason adds one number
-adds-one : {P : Type 0} {r x y : ℕ} → Adds P r x → Adds P r y → x ≡ y
+pub adds-one : {P : Type 0} {r x y : ℕ} → Adds P r x → Adds P r y → x ≡ y
 adds-one (holds p) (holds q) = refl
 adds-one (holds p) (fails q) = absurd (q p)
 adds-one (fails p) (holds q) = absurd (p q)

@@ -1,14 +1,14 @@
 -- The pairs are those that are listed, each once, by first and then second; a reader can walk each one's way back within the list.
-use Prim.Native.Nat.{ℕ, _≤_}
+use Prim.Native.Nat.{ℕ, _<_, _≤_}
 use mathlib.Core.Path.{_≡_, refl, ap}
 use mathlib.Core.Bool.{Bool, true}
 use mathlib.Core.List.{List, [], _∷_}
 use mathlib.Core.Logic.{_↔_}
 use native.Mathlib.Omega.{arith}
-use Rattle.base.specs.Base.{listed}
+use Rattle.base.specs.Base.{listed, those, joined}
 use Rattle.base.proofs.Searches.{joined-those}
 use Rattle.theory.specs.Leads.{isListed}
-use Rattle.theory.specs.Entries.{In}
+use Rattle.theory.specs.Entries.{In, AllOf}
 use Rattle.theory.proofs.Entries.{among-iff, listed-ascends, all-of-one, kept, kept-iff, kept-all-ascend}
 use Rattle.theory.proofs.Leads.{listed-iff}
 use Rattle.rules.specs.History.{History, size}
@@ -58,6 +58,44 @@ before-never p q (by-first l) (by-second e k) = omega arith
 before-never p q (by-second e l) (by-first k) = omega arith
 before-never p q (by-second e l) (by-second d k) = omega arith
 
+-- the pairs that pass a test of numbers below n, each once: whatever the test is for
+module _ (n : ℕ) {t : ℕ → ℕ → Bool} {P : ℕ → ℕ → Type 0} (d : (a b : ℕ) → (t a b ≡ true) ↔ P a b) (under : (a b : ℕ) → P a b → (a < n) × (b < n)) where
+  -- those with the first a
+  abbrev passing : ℕ → List Pair
+  passing a = joined (λ b. pairOf a b ∷ []) (those 0 n (t a))
+
+  passing-is : (a : ℕ) → passing a ≡ listed 0 n (kept (t a) (pairOf a))
+  passing-is a = joined-those (λ b. pairOf a b ∷ []) (t a) n 0
+
+  -- they pass
+  passing-at : (a : ℕ) {p : Pair} → In p (passing a) → (p .one ≡ a) × P (p .one) (p .two)
+  passing-at a {p} i =
+      let k = kept-iff (t a) (pairOf a) n 0 p .0 (rw (passing-is a) at i) in
+      let l = d a (k .at) .0 (k .passes) in
+      (ap (λ (q : Pair). q .one) (k .is), rw (k .is) l)
+
+  -- and each that passes is there
+  passing-in : {p : Pair} → P (p .one) (p .two) → In p (passing (p .one))
+  passing-in {p} l =
+      let k = kept-iff (t (p .one)) (pairOf (p .one)) n 0 p in
+      rw (passing-is (p .one))
+      (k .1 (record { at = p .two; from = omega arith; to = under (p .one) (p .two) l .1; passes = d (p .one) (p .two) .1 l; is = refl }))
+
+  pub passing-pairs : AllOf PairBefore (λ p. P (p .one) (p .two)) (listed 0 n passing)
+  passing-pairs =
+      record {
+        entries =
+            λ p.
+            let m = among-iff passing n 0 p in (
+              λ i. let a = m .0 i in passing-at (a .at) (a .is) .1,
+              λ l. m .1 (record { at = p .one; from = omega arith; to = under (p .one) (p .two) l .0; is = passing-in l }),
+            );
+        ascend =
+            listed-ascends PairBefore passing n 0
+            (λ a. rw (passing-is a) (kept-all-ascend (t a) (pairOf a) PairBefore n 0 (λ i j l. by-second refl l)))
+            (λ i j x y l u v. by-first (omega (arith, passing-at i u .0, passing-at j v .0)));
+      }
+
 module _ {h : History} (ok : LawfulHistory h) {level : ℕ} (low : 1 ≤ level) (high : level ≤ 3) where
   -- the test for a listed pair is right
   pub listed-pair-iff : (a b : ℕ) → (isListed (size h) (forced h level) a b ≡ true) ↔ ListedPair h level a b
@@ -79,45 +117,10 @@ module _ {h : History} (ok : LawfulHistory h) {level : ℕ} (low : 1 ≤ level) 
   pub listed-apart : {a b : ℕ} → ListedPair h level a b → a ≡ b → ⊥
   listed-apart {a} {b} l = forced-apart h a b level (forced-iff ok low high a b .1 (l .forced))
 
-  -- the test that the lists are made by
-  abbrev listTest : ℕ → ℕ → Bool
-  listTest = isListed (size h) (forced h level)
-
-  -- the pairs with the first a: those that pass
-  pairsOf-is : (a : ℕ) → pairsOf h level a ≡ listed 0 (size h) (kept (listTest a) (pairOf a))
-  unfolding pairsOf
-  pairsOf-is a = joined-those (λ b. pairOf a b ∷ []) (listTest a) (size h) 0
-
-  -- they are listed
-  pairsOf-at : (a : ℕ) {p : Pair} → In p (pairsOf h level a) → (p .one ≡ a) × ListedPair h level (p .one) (p .two)
-  pairsOf-at a {p} i =
-      let k = kept-iff (listTest a) (pairOf a) (size h) 0 p .0 (rw (pairsOf-is a) at i) in
-      let l = listed-pair-iff a (k .at) .0 (k .passes) in
-      (ap (λ (q : Pair). q .one) (k .is), rw (k .is) l)
-
-  -- and each listed one is there
-  pairsOf-in : {p : Pair} → ListedPair h level (p .one) (p .two) → In p (pairsOf h level (p .one))
-  pairsOf-in {p} l =
-      let k = kept-iff (listTest (p .one)) (pairOf (p .one)) (size h) 0 p in
-      rw (pairsOf-is (p .one))
-      (k .1 (record { at = p .two; from = omega arith; to = listed-members l .1 .below; passes = listed-pair-iff (p .one) (p .two) .1 l; is = refl }))
-
   -- each listed pair, by first and then second
   pub pairs-are : Pairs h level (pairs h level)
-  unfolding pairs
-  pairs-are =
-      record {
-        entries =
-            λ p.
-            let m = among-iff (pairsOf h level) (size h) 0 p in (
-              λ i. let a = m .0 i in pairsOf-at (a .at) (a .is) .1,
-              λ l. m .1 (record { at = p .one; from = omega arith; to = listed-members l .0 .below; is = pairsOf-in l }),
-            );
-        ascend =
-            listed-ascends PairBefore (pairsOf h level) (size h) 0
-            (λ a. rw (pairsOf-is a) (kept-all-ascend (listTest a) (pairOf a) PairBefore (size h) 0 (λ i j l. by-second refl l)))
-            (λ i j x y l u v. by-first (omega (arith, pairsOf-at i u .0, pairsOf-at j v .0)));
-      }
+  unfolding pairs pairsOf
+  pairs-are = passing-pairs (size h) listed-pair-iff (λ a b l. let m = listed-members l in (m .0 .below, m .1 .below))
 
   -- so each entry's way back is a way of entries
   pub back-in-list : {p : Pair} → In p (pairs h level) → Way (λ a b. In (pairOf a b) (pairs h level)) (p .two) (p .one)

@@ -1,19 +1,18 @@
--- The listed pairs, place by place, as their table tells them.
+-- Listed pairs, place by place, as their table tells them.
 use Prim.Native.Nat.{ℕ, _+_, _*_, _^_, _<_, _≤_}
 use mathlib.Core.Path.{_≡_, refl, ap, sym, _∙_}
-use mathlib.Core.Bool.{Bool}
+use mathlib.Core.Bool.{Bool, true}
 use mathlib.Core.List.{List, [], _∷_}
 use native.Mathlib.Omega.{arith}
 use lib.Count.{ones}
 use lib.ListN.{length, getD}
-use Rattle.base.specs.Base.{pick, listed}
-use Rattle.base.proofs.Tests.{is-false, pick-of}
-use Rattle.base.proofs.Searches.{listed-same, listed-most}
-use Rattle.rules.specs.History.{History, size}
-use Rattle.table.specs.Table.{historyOf}
+use Rattle.base.specs.Base.{pick, listed, those, joined}
+use Rattle.base.proofs.Tests.{ifso, is-false, pick-on, pick-off, pick-of}
+use Rattle.base.proofs.Searches.{listed-same, listed-most, joined-pick, joined-listed, joined-those}
+use Rattle.rules.specs.Outcome.{Pair}
 use Rattle.bits.specs.Bits.{bitOf, Under, rowOf}
 use Rattle.bits.proofs.Tables.{row-own}
-use Rattle.lists.specs.Lists.{entryAt, isIn, secondsOf, firstsOf, pairCount, reasonsIn, pairAt, rowAt, pairsIn}
+use Rattle.lists.specs.Lists.{entryAt, isIn, secondsOf, firstsOf, pairCount, entryFor, rowFor, allFor}
 use Rattle.lists.proofs.Listings.{those-listed, those-most, pick-times, entry-length, times}
 use Rattle.lists.proofs.Counts.{swapped, ones-row}
 
@@ -45,22 +44,47 @@ module _ {l : List ℕ} {n : ℕ} (t : Under n l) where
   unfolding firstsOf pairCount secondsOf isIn
   by-second = swapped (bitOf l) n n
 
-module _ (h : History) (l r v : List ℕ) where
-  pair-long : (a b : ℕ) → length (pairAt h l r v a b) ≡ 4 * length (entryAt (isIn l a) b)
-  unfolding pairAt
-  pair-long a b = rw (pick-of length (isIn l a b) (a ∷ b ∷ reasonsIn h r v a b ∷ 0 ∷ []) [], entry-length (isIn l a) b) (pick-times 4 (isIn l a b))
+-- ── how long a list of pairs is ──
 
-  row-long : (a : ℕ) → length (rowAt h l r v a) ≡ 4 * length (secondsOf l (size h) a)
-  unfolding rowAt secondsOf
-  row-long a = rw (those-listed 0 (size h) (isIn l a)) (times 4 (pairAt h l r v a) (entryAt (isIn l a)) (size h) 0 (pair-long a))
+module _ (p : ℕ → ℕ → Bool) (g : ℕ → ℕ → ℕ) (n : ℕ) where
+  entry-long : (a b : ℕ) → length (entryFor p g a b) ≡ 4 * length (entryAt (p a) b)
+  unfolding entryFor
+  entry-long a b = rw (pick-of length (p a b) (a ∷ b ∷ g a b ∷ 0 ∷ []) [], entry-length (p a) b) (pick-times 4 (p a b))
+
+  row-long : (a : ℕ) → length (rowFor p g n a) ≡ 4 * length (those 0 n (p a))
+  unfolding rowFor
+  row-long a = rw (those-listed 0 n (p a)) (times 4 (entryFor p g a) (entryAt (p a)) n 0 (entry-long a))
 
   -- "Pair, 4 bytes"
-  pub pairs-in-long : length (pairsIn h l r v) ≡ 4 * pairCount l (size h)
-  unfolding pairsIn pairCount
-  pairs-in-long = times 4 (rowAt h l r v) (secondsOf l (size h)) (size h) 0 row-long
+  pub all-long : length (allFor p g n) ≡ 4 * length (listed 0 n (λ a. those 0 n (p a)))
+  unfolding allFor
+  all-long = times 4 (rowFor p g n) (λ a. those 0 n (p a)) n 0 row-long
 
--- so there is room
-pub pairs-fit : (h l r v : List ℕ) {m : ℕ} → 4 * pairCount l (size (historyOf h)) ≤ m
-    → 0 + length (listed 0 (size (historyOf h)) (rowAt (historyOf h) l r v)) ≤ m
-unfolding pairsIn
-pairs-fit h l r v n = omega (arith, pairs-in-long (historyOf h) l r v)
+  -- so there is room, where it is known how many there are
+  pub all-fit : (at : ℕ) {c m : ℕ} → length (listed 0 n (λ a. those 0 n (p a))) ≡ c → at + 4 * c ≤ m → at + length (listed 0 n (rowFor p g n)) ≤ m
+  unfolding allFor
+  all-fit at e l = omega (arith, all-long, e)
+
+-- ── what it tells: t is the test that p tells, r the reasons that g tells, and `bytes` spells a pair with them ──
+
+module _ {t p : ℕ → ℕ → Bool} {g r : ℕ → ℕ → ℕ} {n : ℕ} (bytes : Pair → List ℕ) (is : (q : Pair) → bytes q ≡ q .one ∷ q .two ∷ r (q .one) (q .two) ∷ 0 ∷ [])
+    (listed-is : (a b : ℕ) → a < n → b < n → p a b ≡ t a b) (reasons-are : (a b : ℕ) → a < n → b < n → t a b ≡ true → g a b ≡ r a b) where
+  told-pair : (a b : ℕ) → a < n → b < n → joined bytes (pick (t a b) (record { one = a; two = b } ∷ []) []) ≡ entryFor p g a b
+  unfolding entryFor
+  told-pair a b l m =
+      joined-pick bytes _ (record { one = a; two = b })
+      ∙ ifso (t a b)
+      (λ e.
+      pick-on _ _ _ e ∙ is (record { one = a; two = b }) ∙ ap (λ (v : ℕ). a ∷ b ∷ v ∷ 0 ∷ []) (sym (reasons-are a b l m e))
+      ∙ sym (pick-on _ _ _ (listed-is a b l m ∙ e)))
+      (λ e. pick-off _ _ _ e ∙ sym (pick-off _ _ _ (listed-is a b l m ∙ e)))
+
+  told-row : (a : ℕ) → a < n → joined bytes (joined (λ b. record { one = a; two = b } ∷ []) (those 0 n (t a))) ≡ rowFor p g n a
+  unfolding rowFor
+  told-row a l =
+      ap (joined bytes) (joined-those (λ b. record { one = a; two = b } ∷ []) (t a) n 0)
+      ∙ joined-listed bytes _ n 0 ∙ listed-same _ (entryFor p g a) n 0 (λ b x y. told-pair a b l y)
+
+  pub told-all : allFor p g n ≡ joined bytes (listed 0 n (λ a. joined (λ b. record { one = a; two = b } ∷ []) (those 0 n (t a))))
+  unfolding allFor
+  told-all = sym (joined-listed bytes _ n 0 ∙ listed-same _ (rowFor p g n) n 0 (λ a x y. told-row a y))

@@ -66,15 +66,25 @@ pairCount l n = length (listed 0 n (secondsOf l n))
 unfoldable pub reasonsIn : History → List ℕ → List ℕ → ℕ → ℕ → ℕ
 reasonsIn h r v a b = pick (isStart h a b) 1 0 + pick (isSession h a b) 2 0 + pick (bitOf r b a) 4 0 + pick (bitOf v b a) 8 0
 
--- what the pair adds to the list; the pairs whose first is a; all pairs, by first and then second
-unfoldable pub pairAt : History → List ℕ → List ℕ → List ℕ → ℕ → ℕ → List ℕ
-pairAt h l r v a b = pick (isIn l a b) (a ∷ b ∷ reasonsIn h r v a b ∷ 0 ∷ []) []
+-- what the pair adds to a list of those that pass p, g being the reasons; the pairs whose first is a; all pairs of numbers below n, by first and then second
+unfoldable pub entryFor : (ℕ → ℕ → Bool) → (ℕ → ℕ → ℕ) → ℕ → ℕ → List ℕ
+entryFor p g a b = pick (p a b) (a ∷ b ∷ g a b ∷ 0 ∷ []) []
 
-unfoldable pub rowAt : History → List ℕ → List ℕ → List ℕ → ℕ → List ℕ
-rowAt h l r v a = listed 0 (size h) (pairAt h l r v a)
+unfoldable pub rowFor : (ℕ → ℕ → Bool) → (ℕ → ℕ → ℕ) → ℕ → ℕ → List ℕ
+rowFor p g n a = listed 0 n (entryFor p g a)
 
-unfoldable pub pairsIn : History → List ℕ → List ℕ → List ℕ → List ℕ
-pairsIn h l r v = listed 0 (size h) (rowAt h l r v)
+unfoldable pub allFor : (ℕ → ℕ → Bool) → (ℕ → ℕ → ℕ) → ℕ → List ℕ
+allFor p g n = listed 0 n (rowFor p g n)
+
+-- .. of the listed pairs with the judge's reasons
+abbrev pub pairAt : History → List ℕ → List ℕ → List ℕ → ℕ → ℕ → List ℕ
+pairAt h l r v = entryFor (isIn l) (reasonsIn h r v)
+
+abbrev pub rowAt : History → List ℕ → List ℕ → List ℕ → ℕ → List ℕ
+rowAt h l r v = rowFor (isIn l) (reasonsIn h r v) (size h)
+
+abbrev pub pairsIn : History → List ℕ → List ℕ → List ℕ → List ℕ
+pairsIn h l r v = allFor (isIn l) (reasonsIn h r v) (size h)
 
 -- ── tables ──
 

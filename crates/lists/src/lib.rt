@@ -14,7 +14,7 @@ ghost use Rattle.pairs.specs.Pairs.{Ready};
 ghost use Rattle.lists.specs.Lists.{isKind, findingAt, listedIn, siftedTo, LedTo, Dropped, firstsOf, pairCount, reasonsIn, pairAt, rowAt, pairsIn, HasPair, Listing};
 
 // Two bytes at `at`; where they end.
-fn put2(out: &mut [u8], at: usize, a: u8, b: u8) -> usize
+pub fn put2(out: &mut [u8], at: usize, a: u8, b: u8) -> usize
     requires { ⌜ at + 2 ≤ length (now out) ⌝ }
     ensures { λ r. ⌜ Appended (now (out .entry)) at (now (out .exit)) r (a ∷ b ∷ []) ⌝ }
 {
@@ -24,7 +24,7 @@ fn put2(out: &mut [u8], at: usize, a: u8, b: u8) -> usize
 }
 
 // A number in two bytes, little-endian.
-fn put_number(out: &mut [u8], at: usize, n: usize) -> usize
+pub fn put_number(out: &mut [u8], at: usize, n: usize) -> usize
     requires { ⌜ (n < 65536) × (at + 2 ≤ length (now out)) ⌝ }
     ensures { λ r. ⌜ Appended (now (out .entry)) at (now (out .exit)) r (n % 256 ∷ n / 256 ∷ []) ⌝ }
 {
@@ -32,7 +32,7 @@ fn put_number(out: &mut [u8], at: usize, n: usize) -> usize
 }
 
 // n where the test holds, else 0.
-fn weight(holds: bool, n: u8) -> u8
+pub fn weight(holds: bool, n: u8) -> u8
     ensures { λ r. ⌜ r ≡ pick holds n 0 ⌝ }
 {
     if holds { n } else { 0 }

@@ -2,7 +2,7 @@ use native.Mathlib.Omega.{arith}
 use borrow.Author.Needs.{needs}
 use Rattle.base.proofs.Tests.{denied, granted}
 use Rattle.base.proofs.Fill.{appended-length, appended-then}
-use Rattle.lists.specs.Lists.{isIn, pairAt}
+use Rattle.lists.specs.Lists.{isIn, entryFor}
 use Rattle.lists.proofs.Listings.{left-out, put-in, room-for}
 use Rattle.lists.proofs.put_pair.Statement.{statement}
 use Rattle.lists.proofs.put_pair.Tie as tie
@@ -13,12 +13,12 @@ bit-requires c κs =
     (p .0 .listed-room, omega (arith, p .1 .two, p .0 .settled .held .few), omega (arith, p .1 .one, p .0 .settled .held .few))
 
 returns : tie.Need-returns
-unfolding pairAt isIn
+unfolding entryFor isIn
 returns c =
     left-out _ (denied (c .before .bit .ensures) (c .if1 .taken)) (omega (arith, c .before .before .before .before .before .before .before .pre .2))
 
 put2-requires : tie.Need-put2-requires
-unfolding pairAt isIn
+unfolding entryFor isIn
 put2-requires c κs =
     let test = c .before .before in
     let start = test .before .before .before .before .before .before in
@@ -26,7 +26,7 @@ put2-requires c κs =
     omega (arith, room-for _ is _ _ (start .pre .2))
 
 put2-requires-2 : tie.Need-put2-requires-2
-unfolding pairAt isIn
+unfolding entryFor isIn
 put2-requires-2 c κs =
     let first = c .before .before .before .before in
     let test = first .before .before .before in
@@ -35,7 +35,7 @@ put2-requires-2 c κs =
     omega (arith, room-for _ is _ _ (start .pre .2), first .put2 .ensures .end, appended-length (first .put2 .ensures))
 
 returns-2 : tie.Need-returns-2
-unfolding pairAt isIn
+unfolding entryFor isIn
 returns-2 c =
     let second = c .before .before in
     let first = second .before .before .before .before .before in

@@ -1,10 +1,11 @@
 use Prim.Native.Nat.{_+_, _-_}
+use mathlib.Core.Path.{refl}
 use native.Mathlib.Omega.{arith}
 use Rattle.base.proofs.Fill.{Filling, appended-length, fill-start, fill-room, fill-step, fill-end}
 use Rattle.rules.specs.History.{size}
 use Rattle.table.specs.Table.{historyOf}
-use Rattle.lists.specs.Lists.{rowAt, pairsIn}
-use Rattle.lists.proofs.Pairs.{pairs-fit}
+use Rattle.lists.specs.Lists.{rowAt, pairCount, secondsOf, allFor}
+use Rattle.lists.proofs.Pairs.{all-fit}
 use Rattle.lists.proofs.put_pairs.Statement.{statement}
 use Rattle.lists.proofs.put_pairs.Tie as tie
 
@@ -15,12 +16,13 @@ abbrev μ-loop : tie.MeasureT-loop
 μ-loop h l r v out₀ n at₀ a₀ out at a = n + 1 - a
 
 put-row-requires : tie.Need-put-row-requires Inv-loop μ-loop
+unfolding pairCount secondsOf
 put-row-requires c κs =
     let p = c .before .before .before .before .before .before .before .before .before .pre in
     let x = c .before .before .before .txs .ensures in (
       p .0,
       omega (arith, x),
-      fill-room _ _ _ _ _ (c .before .before .loop .inv) (pairs-fit _ _ _ _ (p .1)) (omega (arith, x)),
+      fill-room _ _ _ _ _ (c .before .before .loop .inv) (all-fit _ _ _ 0 refl (omega (arith, p .1))) (omega (arith, x)),
     )
 
 loop-again : tie.Need-loop-again Inv-loop μ-loop
@@ -29,7 +31,7 @@ loop-again c =
     (omega (arith, c .before .before .before .before .before .before .txs .ensures)) (c .before .before .put-row .ensures)
 
 returns : tie.Need-returns Inv-loop μ-loop
-unfolding pairsIn
+unfolding allFor
 returns c = fill-end _ _ _ _ _ (c .before .loop .inv) (omega (arith, c .before .before .txs .ensures))
 
 pub put-pairs-spec : {M : Type 1} → statement M

@@ -3,7 +3,7 @@ use native.Mathlib.Omega.{arith}
 use Rattle.base.proofs.Fill.{Filling, appended-length, fill-start, fill-room, fill-step, fill-end}
 use Rattle.rules.specs.History.{size}
 use Rattle.table.specs.Table.{historyOf}
-use Rattle.lists.specs.Lists.{pairAt, rowAt}
+use Rattle.lists.specs.Lists.{pairAt, rowFor}
 use Rattle.lists.proofs.put_row.Statement.{statement}
 use Rattle.lists.proofs.put_row.Tie as tie
 
@@ -14,7 +14,7 @@ abbrev μ-loop : tie.MeasureT-loop
 μ-loop h l r v a out₀ at n to₀ b₀ out to b = n + 1 - b
 
 put-pair-requires : tie.Need-put-pair-requires Inv-loop μ-loop
-unfolding rowAt
+unfolding rowFor
 put-pair-requires c κs =
     let p = c .before .before .before .before .before .before .before .before .before .pre in
     let x = c .before .before .before .txs .ensures in (
@@ -29,7 +29,7 @@ loop-again c =
     (omega (arith, c .before .before .before .before .before .before .txs .ensures)) (c .before .before .put-pair .ensures)
 
 returns : tie.Need-returns Inv-loop μ-loop
-unfolding rowAt
+unfolding rowFor
 returns c = fill-end _ _ _ _ _ (c .before .loop .inv) (omega (arith, c .before .before .txs .ensures))
 
 pub put-row-spec : {M : Type 1} → statement M

@@ -1,0 +1,4 @@
+pub mod Lines
+pub mod Longest
+pub mod Neighbours
+pub mod Within

@@ -1,14 +1,14 @@
 -- How the step of any event meets its contract.
 use Prim.Native.Nat.{ℕ, _≤_, _<_}
-use mathlib.Core.Path.{_≡_, refl, _∙_}
+use mathlib.Core.Path.{_≡_, refl, ap, _∙_}
 use mathlib.Core.Bool.{Bool, true, false}
 use mathlib.Core.Logic.{⊎-elim}
 use mathlib.Core.List.{List}
 use native.Mathlib.Omega.{arith}
 use lib.Dec.{ltb, eqb}
-use borrow.Author.Tests.{ltb-false, eqb-false, eq-eqb, ne-eqb}
+use borrow.Author.Tests.{ltb-false, eqb-false, eq-eqb, ne-eqb, lt-ltb}
 use Rattle.base.specs.Base.{_or_}
-use Rattle.base.proofs.Tests.{ifso, pick-on, pick-off, and-left, or-left, or-right, or-on, split}
+use Rattle.base.proofs.Tests.{clash, ifso, pick-on, pick-off, and-left, or-left, or-right, or-on, split}
 use Rattle.base.proofs.Rows.{fit-unfit}
 use Rattle.base.proofs.Chains.{last-passes}
 use Rattle.rules.specs.History.{History, Op, tx, txCount, size, isOpen, isOpenOf, openOf, anyOpen, current, opened, closed, withOp}
@@ -137,6 +137,21 @@ txs-grow h t (Close c) = omega (arith, close-count h t c)
 txs-grow h t (End n) = omega arith
 txs-grow h t Note = omega arith
 txs-grow h t Other = omega arith
+
+-- one that meets an open one opens none
+same-txs : (h : History) (t : ℕ) (e : Event) → 0 < t → misplaced t e ≡ false → txCount (entered h t e) ≡ txCount h
+unfolding entered misplaced withOp
+same-txs h t (Open s) l m = absurd (clash (lt-ltb 0 t l) m)
+same-txs h t (Read x v) l m = refl
+same-txs h t (Write x v) l m = refl
+same-txs h t (Close c) l m = close-count h t c
+same-txs h t (End n) l m = refl
+same-txs h t Note l m = refl
+same-txs h t Other l m = refl
+
+pub as-many : {r : Next} {g2 g : List ℕ} {t : ℕ} {e : Event} → Took r g2 g t e → 0 < t → txCount (historyOf g2) ≡ txCount (historyOf g)
+as-many {g = g} {t = t} {e = e} x l =
+    by-case x (λ q. ap (λ (h : History). txCount h) q) (λ q m u. ap (λ (h : History). txCount h) q ∙ same-txs (historyOf g) t e l m)
 
 pub never-fewer : {r : Next} {g2 g : List ℕ} {t : ℕ} {e : Event} → Took r g2 g t e → txCount (historyOf g) ≤ txCount (historyOf g2)
 never-fewer {g = g} {t = t} {e = e} x = by-case x (λ q. rw q (omega arith)) (λ q m u. rw q (txs-grow (historyOf g) t e))

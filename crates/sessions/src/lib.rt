@@ -147,23 +147,23 @@ fn place(event: Event, t: usize, second: bool, h: &[u64], o: &[u8]) -> usize
     0
 }
 
-// Behind a step that met t, when n transactions had been opened: another has, or t is closed, whose number byte p has, or neither.
+// Behind a step that met t, when n transactions had been opened: another has, where none was met, or t is closed, whose number byte p has, or neither.
 fn keep(n: usize, t: usize, p: usize, h: &[u64], o: &mut [u8])
-    requires { ⌜ Held (now h) × (length (now o) ≡ 256) × (n < txCount (historyOf (now h)) + 1) × (t < txCount (historyOf (now h)) + 1) × (p < 256) ⌝ }
+    requires { ⌜ Held (now h) × (length (now o) ≡ 256) × (n < txCount (historyOf (now h)) + 1) × (t < txCount (historyOf (now h)) + 1) × (p < 256) × (0 < t → txCount (historyOf (now h)) ≡ n) ⌝ }
     ensures { λ r. ⌜ now (o .exit) ≡ keptBy (now (o .entry)) n t p (historyOf (now (h .entry))) ⌝ }
 {
+    if 0 < t {
+        if is_open(h, t) {
+            return;
+        }
+        leave(o, t, p);
+        return;
+    }
     let m = table::txs(h);
-    if m != n {
-        enter(o, m, bucket(table::session_of(h, m)));
+    if m == n {
         return;
     }
-    if t == 0 {
-        return;
-    }
-    if is_open(h, t) {
-        return;
-    }
-    leave(o, t, p);
+    enter(o, m, bucket(table::session_of(h, m)));
 }
 
 // The step of any event, where `session` is its record's, in edition 2. The bytes keep who is open behind it. One call of the step serves both editions.

@@ -1,8 +1,8 @@
 use Rattle.base.proofs.Tests.{clash}
-use Rattle.sessions.proofs.Taken.{meets-open, kept-after, never-fewer}
+use Rattle.sessions.proofs.Taken.{meets-open, kept-after, as-many, never-fewer}
 use borrow.Author.Needs.{needs}
 use native.Mathlib.Omega.{arith}
-use mathlib.Core.Path.{refl}
+use mathlib.Core.Path.{refl, sym, _∙_}
 use Rattle.sessions.proofs.take.Statement.{statement}
 use Rattle.sessions.proofs.take.Tie as tie
 
@@ -20,7 +20,7 @@ keep-requires c κs =
     let m = q .before .before .before in
     let p = m .before .before .before .before .before .pre in
     let more = never-fewer (x .take-in .ensures) in
-    (x .take-in .ensures .held, p .1 .room, omega (arith, n .txs .ensures, more), omega (arith, m .met .ensures .below, more), q .place .ensures .within)
+    (x .take-in .ensures .held, p .1 .room, omega (arith, n .txs .ensures, more), omega (arith, m .met .ensures .below, more), q .place .ensures .within, λ l. as-many (x .take-in .ensures) l ∙ sym (n .txs .ensures))
 
 returns : tie.Need-returns
 returns c =

@@ -6,7 +6,9 @@
    Threads: no call keeps anything, allocates, or uses global data. Any number of threads may call at once.
    Overlap: no two of the buffers may overlap, nor may any of them overlap the trace or the claim.
    Stack:   a thread whose stack has FEROZHAK_STACK bytes can make any of the calls.
-   Empty:   for an empty buffer, trace or claim the length is 0 and the pointer is any that is not NULL. */
+   Empty:   for an empty buffer, trace or claim the length is 0 and the pointer is any that is not NULL.
+   Lists:   a trace with appends and list reads is judged by its single-value operations alone, which keep their numbers.
+            One in which a key has single values and lists is refused with FEROZHAK_REFUSED_MIXED. */
 #ifndef FEROZHAK_H
 #define FEROZHAK_H
 
@@ -19,8 +21,8 @@ extern "C" {
 
 /* The version of this header and of the archive that the same sources give. The first number grows where a program that
    keeps to this header would have to be changed, or would get another answer; the second where something is added. */
-#define FEROZHAK_VERSION_MAJOR 1
-#define FEROZHAK_VERSION_MINOR 1
+#define FEROZHAK_VERSION_MAJOR 2
+#define FEROZHAK_VERSION_MINOR 0
 
 /* What ferozhak_decide answers. 0 is none of them, so a variable that was never set promotes nothing. All three are true:
    compare with FEROZHAK_PROMOTE, never test for truth. */
@@ -112,7 +114,8 @@ enum {
     FEROZHAK_REASON_RIVAL = 8    /* the level adds it: both wrote a key, and who read it from the second knew of the first */
 };
 
-/* The refusals. Of 2 to 11 the place is a byte offset into the trace, of 12 to 14 the bytes that the buffer needs. */
+/* The refusals. Of 2 to 11 and of 17 the place is a byte offset into the trace, of 12 to 14 the bytes that the buffer
+   needs. */
 enum {
     FEROZHAK_REFUSED_LEVEL = 1,       /* the level is none of the three; place 0 */
     FEROZHAK_REFUSED_LONG = 2,        /* the trace is longer than FEROZHAK_TRACE_MAX */
@@ -121,13 +124,14 @@ enum {
     FEROZHAK_REFUSED_SERIAL = 5,      /* a serial does not follow */
     FEROZHAK_REFUSED_KIND = 6,        /* a record's kind is none */
     FEROZHAK_REFUSED_MISPLACED = 7,   /* a record stands where its kind may not */
-    FEROZHAK_REFUSED_VALUE = 8,       /* a written 0, or a status, an end number or an edition that cannot be */
-    FEROZHAK_REFUSED_EXCESS = 9,      /* too many transactions, or too many reads and writes */
-    FEROZHAK_REFUSED_REPEATED = 10,   /* a write has the key and value of an earlier one */
+    FEROZHAK_REFUSED_VALUE = 8,       /* a written or appended 0, a list too long, a wrong status, end number or edition */
+    FEROZHAK_REFUSED_EXCESS = 9,      /* too many transactions, or too many operations */
+    FEROZHAK_REFUSED_REPEATED = 10,   /* a write or an append has the key and value of an earlier one of its kind */
     FEROZHAK_REFUSED_BEHIND_END = 11, /* bytes follow the end record */
     FEROZHAK_REFUSED_FINDINGS = 12,   /* rejected, and the findings do not fit */
     FEROZHAK_REFUSED_PAIRS = 13,      /* rejected, and the pairs do not fit */
-    FEROZHAK_REFUSED_ORDER = 14       /* accepted, and the order does not fit */
+    FEROZHAK_REFUSED_ORDER = 14,      /* accepted, and the order does not fit */
+    FEROZHAK_REFUSED_MIXED = 17       /* a key has single values and lists; the place is the first record that mixes them */
 };
 
 /* Judges a trace at a level, and answers FEROZHAK_PROMOTE, FEROZHAK_HOLD or FEROZHAK_NO_TRACE. All numbers of more than
@@ -162,7 +166,7 @@ uint32_t ferozhak_strongest(const uint8_t *trace, size_t trace_length);
              buffer those that fit whole. Bytes behind what is written stay as they are.
 
    FEROZHAK_CLAIM_REFUSED comes before all else: a level that is none of the three, then bytes that are no trace, with
-   refusals up to FEROZHAK_REFUSED_BEHIND_END. */
+   refusals up to FEROZHAK_REFUSED_BEHIND_END, or FEROZHAK_REFUSED_MIXED. */
 uint32_t ferozhak_claim(const uint8_t *trace, size_t trace_length, uint32_t level,
                         const uint8_t *claim, size_t claim_length,
                         uint8_t *numbers, size_t numbers_length);

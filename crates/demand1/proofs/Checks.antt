@@ -12,7 +12,7 @@ use Rattle.base.specs.Base.{_and_, _or_, pick, last}
 use Rattle.base.proofs.Tests.{clash, is-false, is-true, not-true, both, and-left, and-right, and-no-right, or-cases, or-left, or-right, ifso, pick-off, split}
 use Rattle.base.proofs.Chains.{last-passes, last-none}
 use Rattle.base.proofs.Searches.{some-at, some-of}
-use Rattle.rules.specs.History.{History, op, txCount, opCount, current, openOf, anyOpen, writesValue, writeOf, appendKey, listKey, isSingle, isOther, clashes, mixesKey}
+use Rattle.rules.specs.History.{History, op, txCount, opCount, current, openOf, anyOpen, writesValue, writeOf, appendKey, listKey, isSingle, isOtherSort, clashes, mixesKey}
 use Rattle.rules.specs.Records.{isSecond, isAppend, isListRead, listPlace, lows, highs, breaks, isUnknown, isMisfit, isLate, isOtherEdition}
 use Rattle.rules.specs.declared.Event.{Event}
 use Rattle.rules.specs.declared.Event.the-variants.{Open, Read, Write, Close, End}
@@ -228,8 +228,8 @@ write-known {h} {x} {v} {i} w =
     (split 0 (last (writesValue h x v) (opCount h + 1)))
 
 -- two keys of different sorts
-sorts-differ : (a b : ℕ) → (isOther (isSingle a) (isSingle b) ≡ true) ↔ OtherSort a b
-unfolding isOther pick
+sorts-differ : (a b : ℕ) → (isOtherSort (isSingle a) (isSingle b) ≡ true) ↔ OtherSort a b
+unfolding isOtherSort pick
 sorts-differ a b = (
   λ t.
       ifso (isSingle a)
@@ -238,7 +238,7 @@ sorts-differ a b = (
   of,
 )
   where
-    of : OtherSort a b → isOther (isSingle a) (isSingle b) ≡ true
+    of : OtherSort a b → isOtherSort (isSingle a) (isSingle b) ≡ true
     of (after-single l g) = rw (lt-ltb a 4294967296 l, le-ltb b 4294967296 g)
     of (after-lists g l) = rw (le-ltb a 4294967296 g, lt-ltb b 4294967296 l)
 

@@ -6,12 +6,14 @@ use mathlib.Core.List.{List}
 use mathlib.Core.Logic.{_⊎_, inl, inr, ⊎-elim}
 use native.Mathlib.Omega.{arith}
 use Rattle.base.proofs.Tests.{clash, ifso, split}
-use Rattle.rules.specs.History.{History, Op, tx, op, txCount, opCount, empty, opened, closed, withOp}
-use Rattle.rules.specs.Records.{isSecond}
+use lib.ListN.{getD}
+use Rattle.rules.specs.History.{History, Op, tx, op, txCount, opCount, appendKey, listKey, empty, opened, closed, withOp}
+use Rattle.rules.specs.Records.{isSecond, fieldsAt}
 use Rattle.rules.specs.Reading.{State}
 use Rattle.demand1.specs.Lawful.{IsOp, IsWrite, IsTx, Over, says-aborted, says-committed, says-unanswered, LawfulHistory}
 use Rattle.demand1.specs.Rows.{kind, session, status, opIn, appendIn, listIn, Inside, OpenOf, Misplaced, Passes, inPlace, valueLawful, withinLimit, newWrite, open-inside, read-outside, write-outside, close-outside, end-inside, end-with-open, in-first, in-second, written-0, appended-0, status-above-2, open-128th, read-1025th, write-1025th, append-1025th, list-1025th, write-again, append-again, list-again, Whose, the-latest, of-its-session, Next, after-open, after-read, after-write, after-append, after-list, after-close, after-note, after-edition, Reaches, start, on, ReadInto, to-the-end, HasHistory}
-use Rattle.rules.proofs.History.{with-op-count, with-op-old, with-op-new, open-count, open-old, open-new, close-count, close-this, close-other}
+use Rattle.rules.proofs.Numbers.{le-small}
+use Rattle.rules.proofs.History.{with-op-count, with-op-old, with-op-new, open-ops, open-count, open-old, open-new, close-ops, close-count, close-this, close-other}
 use Rattle.demand1.proofs.Events.{same-or, at-least, below, passes-framed, list-behind}
 use Rattle.demand1.proofs.Steps.{inside}
 
@@ -244,3 +246,48 @@ lawful-history {s} x = of (x .reads)
           one-write = g .ops .one-write;
           is-over = all-over (g .txs) (λ e i. p inPlace (in-first e (end-inside k i))) (λ e n t o. p inPlace (in-second e (end-with-open k o)));
         }
+
+-- ── list reads stand behind one another ──
+
+-- those of the history stand before `at`
+abbrev ListsBefore : History → ℕ → Type 0
+ListsBefore h at = (x p i : ℕ) → IsWrite h (listKey x) p i → p < at
+
+-- the operations stay, and reading goes on
+lists-kept : {h : History} (g : History) → g .ops ≡ h .ops → {at to : ℕ} → at ≤ to → ListsBefore h at → ListsBefore g to
+unfolding op
+lists-kept {h} g e l b x p i w = omega (arith, b x p i (write-in h (rw e at (w .is-op .to)) (rw e) w))
+
+-- one more, which has another key or stands where reading is
+lists-more : (h : History) (o : Op) {at to : ℕ} → at < to → ((x : ℕ) → o .key ≡ listKey x → o .value ≡ at) → ListsBefore h at → ListsBefore (withOp h o) to
+lists-more h o l f b x p i w = ⊎-elim (λ a. omega (arith, b x p i a)) (λ n. omega (arith, f x (n .of-key), n .of-value)) (write-cases h o w)
+
+-- a key of four bytes is none that a list read is held with, nor is that of an append
+no-list-key : (k x : ℕ) → k < 4294967296 → k ≡ listKey x → ⊥
+no-list-key k x l e = omega arith
+
+no-append-key : (k x : ℕ) → k < 4294967296 → appendKey k ≡ listKey x → ⊥
+no-append-key k x l e = omega arith
+
+module _ (s : List ℕ) (u : (i : ℕ) → getD s i 0 < 256) where
+  before-on : {st next : State} → ListsBefore (st .history) (st .at) → Next s st next → ListsBefore (next .history) (next .at)
+  before-on {st} b (after-open k) = lists-kept (opened (st .history) (session s (st .at))) (open-ops (st .history) (session s (st .at))) (omega arith) b
+  before-on {st} b (after-read {t} k w) =
+      lists-more (st .history) (opIn s (st .at) t false) (omega arith) (λ x e. absurd (no-list-key _ x (le-small 4 s (fieldsAt s (st .at)) u) e)) b
+  before-on {st} b (after-write {t} k w) =
+      lists-more (st .history) (opIn s (st .at) t true) (omega arith) (λ x e. absurd (no-list-key _ x (le-small 4 s (fieldsAt s (st .at)) u) e)) b
+  before-on {st} b (after-append {t} k w) =
+      lists-more (st .history) (appendIn s (st .at) t) (omega arith) (λ x e. absurd (no-append-key _ x (le-small 4 s (fieldsAt s (st .at)) u) e)) b
+  before-on {st} b (after-list {t} k w) = lists-more (st .history) (listIn s (st .at) t) (omega arith) (λ x e. refl) b
+  before-on {st} b (after-close {t} k w) =
+      lists-kept (closed (st .history) t (status s (st .at))) (close-ops (st .history) t (status s (st .at))) (omega arith) b
+  before-on {st} b (after-note k) = lists-kept (st .history) refl (omega arith) b
+  before-on {st} b (after-edition k) = lists-kept (st .history) refl (omega arith) b
+
+  lists-before : {st : State} → Reaches s st → ListsBefore (st .history) (st .at)
+  lists-before start = λ x p i w. absurd (omega (arith, w .is-op .from, w .is-op .to))
+  lists-before (on {st} r p n) = before-on (lists-before r) n
+
+  -- no list read repeats one: `Repeated.list-again` is met by no trace
+  pub list-read-new : {st : State} → Reaches s st → (x i : ℕ) → IsWrite (st .history) (listKey x) (st .at) i → ⊥
+  list-read-new {st} r x i w = omega (arith, lists-before r x (st .at) i w)

@@ -14,7 +14,7 @@ use Rattle.base.proofs.Tests.{clash, ifso, split, and-left, and-right, and-no-r
 use Rattle.rules.specs.Numbers.{le}
 use Rattle.rules.proofs.Records.{payload-begins}
 use Rattle.rules.specs.Records.{lenAt, kindAt, nextAt, payloadAt, isSecond, fieldsFrom, isAppend, isListRead, numberAt, listPlace, sessionAt, lows, highs, eventOf, eventAt, readKey, writtenKey, breaks, isUnknown, isMisfit, isLate, isOtherEdition, frameRows}
-use Rattle.frame.specs.Framing.{kindRows, lengths, ListKind, Above, sessionOf, statedOf, statedAt, Says, LongEnough, Fit, framing}
+use Rattle.frame.specs.Framing.{kindRows, lengths, ListKind, Above, sessionOf, statedOf, statedAt, StatedIs, LongEnough, Fit, framing}
 use Rattle.frame.specs.declared.Stated.{Stated}
 use Rattle.rules.specs.declared.Event.the-variants.{Other}
 use Rattle.frame.specs.declared.Framed.the-variants as F
@@ -86,12 +86,12 @@ leasts true = record { opens = refl; reads = refl; writes = refl; closes = refl;
 leasts false = record { opens = refl; reads = refl; writes = refl; closes = refl; ends = refl }
 
 -- what a record of the kind k says is what one of this kind does, where k is its kind
-pub of-kind : (second : Bool) (at : ℕ) (p : List ℕ) {kind k : ℕ} {r : Stated} → kind ≡ k → Says at r (statedOf second at k p) → Says at r (statedOf second at kind p)
+pub of-kind : (second : Bool) (at : ℕ) (p : List ℕ) {kind k : ℕ} {r : Stated} → kind ≡ k → StatedIs at r (statedOf second at k p) → StatedIs at r (statedOf second at kind p)
 of-kind second at p e h = rw e h
 
 -- .. which is no operation
 pub says-nothing : (second : Bool) (at : ℕ) (p : List ℕ) {kind k : ℕ} {r : Stated} → kind ≡ k → r ≡ statedOf second at k p
-    → readKey (statedOf second at k p .event) ≡ 0 → writtenKey (statedOf second at k p .event) ≡ 0 → Says at r (statedOf second at kind p)
+    → readKey (statedOf second at k p .event) ≡ 0 → writtenKey (statedOf second at k p .event) ≡ 0 → StatedIs at r (statedOf second at kind p)
 says-nothing second at p e h a b =
     of-kind second at p e (record { is = h; sound = rw h (record { single = omega (arith, a); narrow = omega (arith, b); placed = λ l. absurd (omega (arith, b)) }) })
 

@@ -69,13 +69,13 @@ framing second s at e =
     pick (ltb 0 (firstFit (frameRows second s at e))) (Bad (firstFit (frameRows second s at e))) (Good (statedAt second s at))
 
 -- what a record at `at` says, with an event that is sound there
-pub record Says (at : ℕ) (r x : Stated) : Type 0 where
+pub record StatedIs (at : ℕ) (r x : Stated) : Type 0 where
   pub is : r ≡ x
   pub sound : Sound at (r .event)
 
 -- .. wherever it stands
-abbrev pub SaysAnywhere : Stated → Stated → Type 0
-SaysAnywhere r x = (at : ℕ) → Says at r x
+abbrev pub StatedAnywhere : Stated → Stated → Type 0
+StatedAnywhere r x = (at : ℕ) → StatedIs at r x
 
 -- .. of what framing comes to
 unfoldable pub SoundFramed : ℕ → Framed → Type 0

@@ -8,7 +8,7 @@ ghost use Rattle.base.specs.Base.{_or_, firstFit};
 ghost use Rattle.rules.specs.Numbers.{le};
 ghost use Rattle.rules.specs.Records.{lenAt, nextAt, payloadAt, isSecond, fieldsFrom, numberAt, listPlace as placeOf, breaks, isUnknown, isMisfit, isLate, isOtherEdition, frameRows};
 ghost use Rattle.rules.specs.History.{appendKey, listKey};
-ghost use Rattle.frame.specs.Framing.{kindRows, lengths, ListKind, Above, stated, sessionIn, statedOf, statedAt, Says, SaysAnywhere, SoundFramed, LongEnough, Fit, framing};
+ghost use Rattle.frame.specs.Framing.{kindRows, lengths, ListKind, Above, stated, sessionIn, statedOf, statedAt, StatedIs, StatedAnywhere, SoundFramed, LongEnough, Fit, framing};
 use rules::Event;
 
 // "all little-endian": the numbers that 2, 4 and 8 bytes spell.
@@ -98,7 +98,7 @@ fn read_open(p: &[u8]) -> Stated
 // Kind 2, read: key, 4; value, 8.
 fn read_read(p: &[u8], second: bool) -> Stated
     requires { ⌜ fieldsFrom second + 12 ≤ length (now p) ⌝ }
-    ensures { λ r. ⌜ SaysAnywhere r (stated (sessionIn second (now (p .entry))) (Event.Read (le 4 (now (p .entry)) (fieldsFrom second)) (le 8 (now (p .entry)) (fieldsFrom second + 4)))) ⌝ }
+    ensures { λ r. ⌜ StatedAnywhere r (stated (sessionIn second (now (p .entry))) (Event.Read (le 4 (now (p .entry)) (fieldsFrom second)) (le 8 (now (p .entry)) (fieldsFrom second + 4)))) ⌝ }
 {
     let from = fields_from(second);
     Stated {
@@ -110,7 +110,7 @@ fn read_read(p: &[u8], second: bool) -> Stated
 // Kind 3, write: key, 4; value, 8.
 fn read_write(p: &[u8], second: bool) -> Stated
     requires { ⌜ fieldsFrom second + 12 ≤ length (now p) ⌝ }
-    ensures { λ r. ⌜ SaysAnywhere r (stated (sessionIn second (now (p .entry))) (Event.Write (le 4 (now (p .entry)) (fieldsFrom second)) (le 8 (now (p .entry)) (fieldsFrom second + 4)))) ⌝ }
+    ensures { λ r. ⌜ StatedAnywhere r (stated (sessionIn second (now (p .entry))) (Event.Write (le 4 (now (p .entry)) (fieldsFrom second)) (le 8 (now (p .entry)) (fieldsFrom second + 4)))) ⌝ }
 {
     let from = fields_from(second);
     Stated {
@@ -145,7 +145,7 @@ fn read_end(p: &[u8]) -> Stated
 // Kind 23, append: session, 2; key, 4; value, 8. It is held as a write to a key above those of single values.
 fn read_append(p: &[u8]) -> Stated
     requires { ⌜ 14 ≤ length (now p) ⌝ }
-    ensures { λ r. ⌜ SaysAnywhere r (stated (le 2 (now (p .entry)) 0) (Event.Write (appendKey (le 4 (now (p .entry)) 2)) (le 8 (now (p .entry)) 6))) ⌝ }
+    ensures { λ r. ⌜ StatedAnywhere r (stated (le 2 (now (p .entry)) 0) (Event.Write (appendKey (le 4 (now (p .entry)) 2)) (le 8 (now (p .entry)) 6))) ⌝ }
 {
     Stated {
         session: u16_at(p, 0),
@@ -166,7 +166,7 @@ fn list_place(at: usize, n: u16) -> u64
 // Kind 24, list read: session, 2; key, 4; number, 2. Its values stay where they stand.
 fn read_list(p: &[u8], at: usize) -> Stated
     requires { ⌜ 8 ≤ length (now p) ⌝ }
-    ensures { λ r. ⌜ Says at r (stated (le 2 (now (p .entry)) 0) (Event.Write (listKey (le 4 (now (p .entry)) 2)) (placeOf at (le 2 (now (p .entry)) 6)))) ⌝ }
+    ensures { λ r. ⌜ StatedIs at r (stated (le 2 (now (p .entry)) 0) (Event.Write (listKey (le 4 (now (p .entry)) 2)) (placeOf at (le 2 (now (p .entry)) 6)))) ⌝ }
 {
     Stated {
         session: u16_at(p, 0),
@@ -188,7 +188,7 @@ fn read_edition(p: &[u8]) -> u16
 // What the payload p of a record above kind 6 at `at` says: an append, a list read, or the record that says the edition.
 fn stated_above(at: usize, kind: u16, p: &[u8]) -> Stated
     requires { ⌜ Above kind × LongEnough true kind (length (now p) + 6) ⌝ }
-    ensures { λ r. ⌜ Says at r (statedOf true at kind (now (p .entry))) ⌝ }
+    ensures { λ r. ⌜ StatedIs at r (statedOf true at kind (now (p .entry))) ⌝ }
 {
     match kind {
         23 => read_append(p),
@@ -203,7 +203,7 @@ fn stated_above(at: usize, kind: u16, p: &[u8]) -> Stated
 // What the payload p of a record of this kind at `at` says. A note's text has no part in judging; kind 16's number is checked by row 8, and is no event.
 fn stated_of(second: bool, at: usize, kind: u16, p: &[u8]) -> Stated
     requires { ⌜ LongEnough second kind (length (now p) + 6) ⌝ }
-    ensures { λ r. ⌜ Says at r (statedOf second at kind (now (p .entry))) ⌝ }
+    ensures { λ r. ⌜ StatedIs at r (statedOf second at kind (now (p .entry))) ⌝ }
 {
     match kind {
         1 => read_open(p),
@@ -222,7 +222,7 @@ fn stated_of(second: bool, at: usize, kind: u16, p: &[u8]) -> Stated
 // What the record at `at` says, whose framing passed.
 fn stated_at(s: &[u8], at: usize, second: bool) -> Stated
     requires { ⌜ Fit second (now s) at ⌝ }
-    ensures { λ r. ⌜ Says at r (statedAt second (now (s .entry)) at) ⌝ }
+    ensures { λ r. ⌜ StatedIs at r (statedAt second (now (s .entry)) at) ⌝ }
 {
     stated_of(second, at, u16_at(s, at + 2), payload_at(s, at))
 }

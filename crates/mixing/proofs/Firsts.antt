@@ -10,12 +10,12 @@ use Rattle.base.proofs.Tests.{clash, is-false, both, and-left, and-right, and-n
 use Rattle.base.proofs.Searches.{Found, first-cases}
 use Rattle.base.proofs.Chains.{last-is}
 use Rattle.rules.specs.History.{History, op, plainKey}
-use Rattle.mixing.specs.Mixing.{mixesAt, hasKey, firstLike, isFirst}
+use Rattle.mixing.specs.Mixing.{mixesAt, hasKey, firstLike, isFirstOfKey}
 use Rattle.mixing.proofs.Sorts.{none-decides}
 
 -- operation j is the first of the key x
 unfoldable pub opens : History → ℕ → ℕ → Bool
-opens h x j = isFirst h j and hasKey h x j
+opens h x j = isFirstOfKey h j and hasKey h x j
 
 first-none : (p : ℕ → Bool) (e : ℕ) → ((i : ℕ) → 1 ≤ i → i < e → p i ≡ false) → first 0 1 e p ≡ 0
 first-none p e none =
@@ -28,12 +28,12 @@ module _ (h : History) where
   like-of x j t = ap (λ (y : ℕ). first 0 1 j (hasKey h y)) (eqb-true _ x t)
 
   first-opens : (x i : ℕ) → Found 0 (hasKey h x) 1 i (first 0 1 i (hasKey h x)) → opens h x (first 0 1 i (hasKey h x)) ≡ true
-  unfolding opens isFirst
+  unfolding opens isFirstOfKey
   first-opens x i r =
       both _ _ (eq-eqb _ 0 (like-of x _ (r .passes) ∙ first-none (hasKey h x) (first 0 1 i (hasKey h x)) (r .none))) (r .passes)
 
   later-not : (x m j : ℕ) → 1 ≤ m → m < j → hasKey h x m ≡ true → opens h x j ≡ false
-  unfolding opens isFirst
+  unfolding opens isFirstOfKey
   later-not x m j a b t =
       is-false _
       (λ s.
@@ -57,12 +57,12 @@ module _ (h : History) where
       ⊎-elim (λ z. absurd (omega (arith, z .0))) (λ r. eqb-true _ _ (r .passes)) (first-cases 0 (hasKey h (plainKey (op h i .key))) i 1)
 
   -- where there is none, i is the first of its key, and does not mix
-  pub alone-first : (i : ℕ) → firstLike h i ≡ 0 → isFirst h i ≡ true
-  unfolding isFirst
+  pub alone-first : (i : ℕ) → firstLike h i ≡ 0 → isFirstOfKey h i ≡ true
+  unfolding isFirstOfKey
   alone-first i e = eq-eqb _ 0 e
 
-  pub not-first : (i : ℕ) → (firstLike h i ≡ 0 → ⊥) → isFirst h i ≡ false
-  unfolding isFirst
+  pub not-first : (i : ℕ) → (firstLike h i ≡ 0 → ⊥) → isFirstOfKey h i ≡ false
+  unfolding isFirstOfKey
   not-first i d = ne-eqb _ 0 d
 
   pub alone-unmixed : (i : ℕ) → firstLike h i ≡ 0 → mixesAt h i ≡ false

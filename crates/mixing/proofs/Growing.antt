@@ -13,8 +13,8 @@ use Rattle.base.specs.Base.{last}
 use Rattle.base.proofs.Tests.{clash, ifso, both, and-no-left, and-no-right, split}
 use Rattle.base.proofs.Searches.{some-of, some-none}
 use Rattle.base.proofs.Chains.{last-less, last-hit, last-miss}
-use Rattle.rules.specs.History.{History, op, opCount, isSingle, isOther}
-use Rattle.mixing.specs.Mixing.{mixesAt, firstLike, isFirst, keyBucket, inChain, Indexed, chained, Entered, EnteredAll}
+use Rattle.rules.specs.History.{History, op, opCount, isSingle, isOtherSort}
+use Rattle.mixing.specs.Mixing.{mixesAt, firstLike, isFirstOfKey, keyBucket, inChain, Indexed, chained, KeyEntered, EnteredAll}
 use Rattle.mixing.proofs.Sorts.{one-decides}
 use Rattle.mixing.proofs.Firsts.{like-key, alone-first, not-first, alone-unmixed}
 use Rattle.mixing.proofs.Walks.{bucket-small}
@@ -37,7 +37,7 @@ module _ {k : List ℕ} (h : History) (i : ℕ) (x : Indexed k h i) (none : mixe
   unmixed-more j a b = ⊎-elim (λ l. x .unmixed j a l) (λ g. let e : j ≡ i = omega arith in rw e none) (split j i)
 
   -- one that is not the first of its key is in no chain
-  indexed-later : isFirst h i ≡ false → Indexed k h (i + 1)
+  indexed-later : isFirstOfKey h i ≡ false → Indexed k h (i + 1)
   unfolding inChain
   indexed-later f =
       record {
@@ -49,7 +49,7 @@ module _ {k : List ℕ} (h : History) (i : ℕ) (x : Indexed k h i) (none : mixe
         unmixed = unmixed-more;
       }
 
-  module _ (few : i ≤ 1024) (is : isFirst h i ≡ true) where
+  module _ (few : i ≤ 1024) (is : isFirstOfKey h i ≡ true) where
     abbrev into : ℕ
     into = keyBucket (op h i .key)
 
@@ -78,7 +78,7 @@ module _ {k : List ℕ} (h : History) (i : ℕ) (x : Indexed k h i) (none : mixe
         let d = eqb-false _ _ f in
         chain-other b d (λ q. omega arith) ∙ x .heads b l ∙ sym (last-miss (inChain h b) i (and-no-right _ _ (ne-eqb into b (λ e. d (sym e))))))
 
-    first-links : (j : ℕ) → 1 ≤ j → j < i + 1 → isFirst h j ≡ true → getD (chained k i into) (128 + j) 0 ≡ last (inChain h (keyBucket (op h j .key))) j
+    first-links : (j : ℕ) → 1 ≤ j → j < i + 1 → isFirstOfKey h j ≡ true → getD (chained k i into) (128 + j) 0 ≡ last (inChain h (keyBucket (op h j .key))) j
     first-links j a b t =
         ⊎-elim
         (λ l. chain-other (128 + j) (λ q. omega (arith, bucket-small (op h i .key))) (λ q. omega arith) ∙ x .links j a l t)
@@ -93,15 +93,15 @@ module _ {k : List ℕ} (h : History) (i : ℕ) (x : Indexed k h i) (none : mixe
 
 module _ {k : List ℕ} (h : History) (i : ℕ) (x : Indexed k h i) where
   -- where no earlier one has its key
-  pub entered-first : {k2 : List ℕ} → i ≤ 1024 → firstLike h i ≡ 0 → k2 ≡ chained k i (keyBucket (op h i .key)) → Entered false k2 h i
+  pub entered-first : {k2 : List ℕ} → i ≤ 1024 → firstLike h i ≡ 0 → k2 ≡ chained k i (keyBucket (op h i .key)) → KeyEntered false k2 h i
   entered-first {k2} few z e =
       let n = alone-unmixed h i z in
       let y : Indexed k2 h (i + 1) = rw e (indexed-first h i x n few (alone-first h i z)) in
       record { is = sym n; indexed = λ f. y; room = y .room }
 
   -- where j is the first that has it
-  pub entered-later : {r : Bool} {j : ℕ} → j ≡ firstLike h i → j < i → (j ≡ 0 → ⊥) → r ≡ isOther (isSingle (op h j .key)) (isSingle (op h i .key))
-      → Entered r k h i
+  pub entered-later : {r : Bool} {j : ℕ} → j ≡ firstLike h i → j < i → (j ≡ 0 → ⊥) → r ≡ isOtherSort (isSingle (op h j .key)) (isSingle (op h i .key))
+      → KeyEntered r k h i
   entered-later {r} {j} e l d t =
       let z : 0 < j = omega arith in
       let s : r ≡ mixesAt h i = t ∙ sym (one-decides h i (x .unmixed) j z l (rw e (like-key h i (rw e at z)))) in
@@ -110,7 +110,7 @@ module _ {k : List ℕ} (h : History) (i : ℕ) (x : Indexed k h i) where
 -- ── what `enter_all` answers ──
 
 -- operation i mixes, so one does
-pub all-one : {r : Bool} {k : List ℕ} (h : History) (i : ℕ) → 1 ≤ i → i ≤ opCount h → r ≡ true → Entered r k h i → EnteredAll true k h
+pub all-one : {r : Bool} {k : List ℕ} (h : History) (i : ℕ) → 1 ≤ i → i ≤ opCount h → r ≡ true → KeyEntered r k h i → EnteredAll true k h
 all-one h i a b t e =
     record {
       is = sym (some-of (mixesAt h) (opCount h + 1) 1 i a (omega arith) (sym (e .is) ∙ t));

@@ -12,7 +12,7 @@ use Rattle.base.proofs.Chains.{last-same, top-hit, top-miss}
 use Rattle.rules.specs.History.{History, Op, noOp, op, opCount, plainKey, clashes, mixesKey, withOp}
 use Rattle.rules.proofs.History.{with-op-count, with-op-old, with-op-new}
 use Rattle.rules.proofs.Singles.{Singles, no-clash}
-use Rattle.mixing.specs.Mixing.{mixesAt, hasKey, firstLike, isFirst, keyBucket, inChain, Indexed}
+use Rattle.mixing.specs.Mixing.{mixesAt, hasKey, firstLike, isFirstOfKey, keyBucket, inChain, Indexed}
 
 -- ── two histories with the same operations below n ──
 
@@ -29,8 +29,8 @@ module _ (h g : History) (n : ℕ) (same : (i : ℕ) → i < n → op g i ≡ op
   unfolding mixesAt
   like-mixes i l = rw (same i l) (some-same _ _ i 1 (λ j a b. like-clash (op h i .key) j (omega arith)))
 
-  like-first : (i : ℕ) → i < n → isFirst g i ≡ isFirst h i
-  unfolding isFirst firstLike
+  like-first : (i : ℕ) → i < n → isFirstOfKey g i ≡ isFirstOfKey h i
+  unfolding isFirstOfKey firstLike
   like-first i l = rw (same i l, first-same 0 (hasKey g (plainKey (op h i .key))) (hasKey h (plainKey (op h i .key))) i 1 (λ j a b. like-has (plainKey (op h i .key)) j (omega arith)))
 
   like-chain : (b m : ℕ) → m ≤ n → last (inChain g b) m ≡ last (inChain h b) m

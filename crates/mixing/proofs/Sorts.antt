@@ -8,12 +8,12 @@ use borrow.Author.Tests.{eqb-true, eq-eqb, ne-eqb}
 use Rattle.base.specs.Base.{pick}
 use Rattle.base.proofs.Tests.{clash, is-false, same-test, both, and-left, and-right, and-no-left, split}
 use Rattle.base.proofs.Searches.{some-at, some-of, some-none, none-at}
-use Rattle.rules.specs.History.{History, op, plainKey, isSingle, isOther, clashes}
+use Rattle.rules.specs.History.{History, op, plainKey, isSingle, isOtherSort, clashes}
 use Rattle.mixing.specs.Mixing.{mixesAt}
 
 -- of three, where the first two are alike, both differ from the last or neither does
-other-same : (a b c : Bool) → isOther a b ≡ false → isOther a c ≡ isOther b c
-unfolding isOther pick
+other-same : (a b c : Bool) → isOtherSort a b ≡ false → isOtherSort a c ≡ isOtherSort b c
+unfolding isOtherSort pick
 other-same true true c e = refl
 other-same false false c e = refl
 other-same true false c e = absurd (clash refl e)
@@ -27,13 +27,13 @@ module _ (h : History) (i : ℕ) where
 
   module _ (unmixed : (j : ℕ) → 1 ≤ j → j < i → mixesAt h j ≡ false) where
     -- two earlier ones of one key are of one sort
-    alike : (j m : ℕ) → 1 ≤ j → j < m → m < i → plainKey (op h j .key) ≡ plainKey (op h m .key) → isOther (isSingle (op h j .key)) (isSingle (op h m .key)) ≡ false
+    alike : (j m : ℕ) → 1 ≤ j → j < m → m < i → plainKey (op h j .key) ≡ plainKey (op h m .key) → isOtherSort (isSingle (op h j .key)) (isSingle (op h m .key)) ≡ false
     unfolding mixesAt clashes
     alike j m a b c e =
         is-false _ (λ t. clash (both _ _ (eq-eqb _ _ e) t) (none-at (clashes h (op h m .key)) m 1 (unmixed m (omega arith) c) j a b))
 
     -- any earlier one of the key decides
-    pub one-decides : (m : ℕ) → 1 ≤ m → m < i → plainKey (op h m .key) ≡ plainKey (op h i .key) → mixesAt h i ≡ isOther (isSingle (op h m .key)) (isSingle (op h i .key))
+    pub one-decides : (m : ℕ) → 1 ≤ m → m < i → plainKey (op h m .key) ≡ plainKey (op h i .key) → mixesAt h i ≡ isOtherSort (isSingle (op h m .key)) (isSingle (op h i .key))
     unfolding mixesAt clashes
     one-decides m a b e =
         same-test _ _

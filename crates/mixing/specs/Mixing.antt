@@ -29,8 +29,8 @@ unfoldable pub firstLike : History → ℕ → ℕ
 firstLike h i = first 0 1 i (hasKey h (plainKey (op h i .key)))
 
 -- operation i is the first of its key
-unfoldable pub isFirst : History → ℕ → Bool
-isFirst h i = eqb (firstLike h i) 0
+unfoldable pub isFirstOfKey : History → ℕ → Bool
+isFirstOfKey h i = eqb (firstLike h i) 0
 
 -- ── the index ──
 
@@ -40,13 +40,13 @@ keyBucket k = plainKey k % 128
 
 -- operation i is one that the chain of bucket b has
 unfoldable pub inChain : History → ℕ → ℕ → Bool
-inChain h b i = isFirst h i and eqb (keyBucket (op h i .key)) b
+inChain h b i = isFirstOfKey h i and eqb (keyBucket (op h i .key)) b
 
 -- the operations below n are entered in k, and none of them mixes
 pub record Indexed (k : List ℕ) (h : History) (n : ℕ) : Type 0 where
   pub room : length k ≡ 1153
   pub heads : (b : ℕ) → b < 128 → getD k b 0 ≡ last (inChain h b) n
-  pub links : (i : ℕ) → 1 ≤ i → i < n → isFirst h i ≡ true → getD k (128 + i) 0 ≡ last (inChain h (keyBucket (op h i .key))) i
+  pub links : (i : ℕ) → 1 ≤ i → i < n → isFirstOfKey h i ≡ true → getD k (128 + i) 0 ≡ last (inChain h (keyBucket (op h i .key))) i
   pub unmixed : (i : ℕ) → 1 ≤ i → i < n → mixesAt h i ≡ false
 
 -- the index where operation i, the first of its key, is entered into bucket b
@@ -56,7 +56,7 @@ chained k i b = set (set k (128 + i) (getD k b 0)) b i
 -- ── what functions answer ──
 
 -- the answer r for operation i, and the index k behind it
-pub record Entered (r : Bool) (k : List ℕ) (h : History) (i : ℕ) : Type 0 where
+pub record KeyEntered (r : Bool) (k : List ℕ) (h : History) (i : ℕ) : Type 0 where
   pub is : r ≡ mixesAt h i
   pub indexed : r ≡ false → Indexed k h (i + 1)
   pub room : length k ≡ 1153

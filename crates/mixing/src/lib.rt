@@ -2,9 +2,9 @@
 ghost use mathlib.Core.Path.{_≡_};
 ghost use Prim.Native.Nat.{_<_};
 ghost use lib.ListN.{replicate};
-ghost use Rattle.rules.specs.History.{isSingle, isOther};
+ghost use Rattle.rules.specs.History.{isSingle, isOtherSort};
 ghost use Rattle.table.specs.Table.{historyOf, Held, HasOp, Below};
-ghost use Rattle.mixing.specs.Mixing.{firstLike, keyBucket, Indexed, chained, Entered, EnteredAll};
+ghost use Rattle.mixing.specs.Mixing.{firstLike, keyBucket, Indexed, chained, KeyEntered, EnteredAll};
 
 // The bucket that a key falls into, from the key that it is held with: what lists add to a key is a multiple of 128.
 fn bucket(x: u64) -> usize
@@ -22,7 +22,7 @@ fn is_single(x: u64) -> bool
 
 // Whether of two operations, held with the keys x and y, one is of single values and the other of lists.
 fn is_other(x: u64, y: u64) -> bool
-    ensures { λ r. ⌜ r ≡ isOther (isSingle x) (isSingle y) ⌝ }
+    ensures { λ r. ⌜ r ≡ isOtherSort (isSingle x) (isSingle y) ⌝ }
 {
     if is_single(x) {
         return !is_single(y);
@@ -60,7 +60,7 @@ fn chain(k: &mut [u16; 1153], i: usize, b: usize)
 // the first of them tells; where there is none, i is entered.
 pub fn enter(h: &[u64], k: &mut [u16; 1153], i: usize) -> bool
     requires { ⌜ HasOp (now h) i × Indexed (now k) (historyOf (now h)) i ⌝ }
-    ensures { λ r. ⌜ Entered r (now (k .exit)) (historyOf (now (h .entry))) i ⌝ }
+    ensures { λ r. ⌜ KeyEntered r (now (k .exit)) (historyOf (now (h .entry))) i ⌝ }
 {
     let j = find(h, k, i);
     let x = table::key_of(h, i);

@@ -9,7 +9,7 @@ use borrow.Author.Tests.{lt-ltb}
 use Rattle.base.specs.Base.{pick}
 use Rattle.base.proofs.Tests.{and-no-right, split}
 use Rattle.base.proofs.Searches.{some-none}
-use Rattle.rules.specs.History.{History, Op, op, opCount, isOther, clashes, mixesKey, empty, opened, closed, withOp}
+use Rattle.rules.specs.History.{History, Op, op, opCount, isOtherSort, clashes, mixesKey, empty, opened, closed, withOp}
 use Rattle.rules.specs.Reading.{mixes, entered}
 use Rattle.rules.specs.declared.Event.{Event}
 use Rattle.rules.specs.declared.Event.the-variants.{Open, Read, Write, Close, End, Note, Other}
@@ -34,8 +34,8 @@ Single Note = Unit
 Single Other = Unit
 
 -- two of single values
-not-other : {a b : Bool} → a ≡ true → b ≡ true → isOther a b ≡ false
-unfolding isOther pick
+not-other : {a b : Bool} → a ≡ true → b ≡ true → isOtherSort a b ≡ false
+unfolding isOtherSort pick
 not-other x y = rw (x, y)
 
 pub singles-none : Singles empty

@@ -9,7 +9,7 @@ use Rattle.theory.specs.Leads.{via, isListed}
 use Rattle.theory.specs.Reached.{reach}
 use Rattle.theory.specs.Order.{mem, misses, ready, isUnplaced, unplaced, next, fill, rest}
 use Rattle.rules.specs.Numbers.{le, bytes, over}
-use Rattle.rules.specs.History.{History, tx, op, isOpen, current, isOpenOf, openOf, anyOpen, writesValue, writeOf, originOf, sourceOf, saysCommitted, isUnanswered, takesFrom, vouches, committed, isOther, clashes, mixesKey, opened, closed, withOp}
+use Rattle.rules.specs.History.{History, tx, op, isOpen, current, isOpenOf, openOf, anyOpen, writesValue, writeOf, originOf, sourceOf, saysCommitted, isUnanswered, takesFrom, vouches, committed, isOtherSort, clashes, mixesKey, opened, closed, withOp}
 use Rattle.rules.specs.Records.{isSecond, isAppend, isListRead, listPlace, eventOf, eventAt, breaks, isUnknown, isMisfit, isLate, isOtherEdition, frameRows}
 use Rattle.rules.specs.Reading.{State, misplaced, unlawful, excess, repeats, stepRows, mixes, mixRows, entered, isEnd, notesBehind, metBy, metIn, met, refusalNo, after, notesOf, finished, walk, reading}
 use Rattle.rules.specs.Reads.{writesAt, wroteBetween, kindBy, kindOf, isJudged, isFinding, isExternal, readsFrom}
@@ -161,7 +161,7 @@ edgeFound c = edge (c .bytes) (c .level) (c .f) (c .p) (c .o) (judged (c .bytes)
 
 -- The line names all that an outcome or a number of notes is computed with. To unfold this statement is to unfold them: the other statements, here and in Cases, do so
 unfoldable pub as-they-should : map edgeFound edgeTable ≡ edgeTable
-unfolding le bytes over raw recordOf trace tx op isOpen current isOpenOf openOf anyOpen writesValue writeOf saysCommitted isUnanswered takesFrom vouches committed isOther clashes mixesKey opened closed withOp isSecond isAppend isListRead listPlace eventOf eventAt breaks isUnknown isMisfit isLate isOtherEdition frameRows misplaced unlawful excess repeats stepRows mixes mixRows entered isEnd notesBehind metBy metIn met refusalNo after notesOf finished walk reading writesAt wroteBetween originOf sourceOf kindBy kindOf isJudged isFinding isExternal readsFrom isStart isSession isRead basic leads writesKey sees settles isRival forced reasons findings findingBytes pairsOf pairs pairBytes order findingList pairList isEmpty isAccepted acceptance rejection judgedRead isLevel judged via isListed reach mem misses ready isUnplaced unplaced next fill rest _and_ _or_ pick someOf firstOf countOf listOf some first count listed those last joined numbered firstFit
+unfolding le bytes over raw recordOf trace tx op isOpen current isOpenOf openOf anyOpen writesValue writeOf saysCommitted isUnanswered takesFrom vouches committed isOtherSort clashes mixesKey opened closed withOp isSecond isAppend isListRead listPlace eventOf eventAt breaks isUnknown isMisfit isLate isOtherEdition frameRows misplaced unlawful excess repeats stepRows mixes mixRows entered isEnd notesBehind metBy metIn met refusalNo after notesOf finished walk reading writesAt wroteBetween originOf sourceOf kindBy kindOf isJudged isFinding isExternal readsFrom isStart isSession isRead basic leads writesKey sees settles isRival forced reasons findings findingBytes pairsOf pairs pairBytes order findingList pairList isEmpty isAccepted acceptance rejection judgedRead isLevel judged via isListed reach mem misses ready isUnplaced unplaced next fill rest _and_ _or_ pick someOf firstOf countOf listOf some first count listed those last joined numbered firstFit
 as-they-should = refl
 
 -- ── notes ──

@@ -128,12 +128,12 @@ abbrev pub isSingle : ℕ → Bool
 isSingle k = ltb k 4294967296
 
 -- one is of single values and the other of lists
-unfoldable pub isOther : Bool → Bool → Bool
-isOther a b = pick a (not b) b
+unfoldable pub isOtherSort : Bool → Bool → Bool
+isOtherSort a b = pick a (not b) b
 
 -- operation i has the key of another, which is held with k, and is of the other sort
 unfoldable pub clashes : History → ℕ → ℕ → Bool
-clashes h k i = eqb (plainKey (op h i .key)) (plainKey k) and isOther (isSingle (op h i .key)) (isSingle k)
+clashes h k i = eqb (plainKey (op h i .key)) (plainKey k) and isOtherSort (isSingle (op h i .key)) (isSingle k)
 
 -- .. some operation does, of whatever transaction: "a key with single values and lists"
 unfoldable pub mixesKey : History → ℕ → Bool

@@ -10,7 +10,7 @@ use Rattle.rules.specs.History.{Op, appendKey, listKey}
 use Rattle.rules.specs.Reading.{refused}
 use Rattle.rules.specs.Traces.{raw, trace, opens, edition, rOf, wOf, aOf, lOf, closesOf, room}
 use Rattle.rules.specs.Edges.{as-they-should, openState}
-use Rattle.rules.specs.Overlaps.{Overlap, overlap, refuses, refusesRaw, reads, a, wrote, took, overlapRead, SecondLimit, second, secondTested}
+use Rattle.rules.specs.Overlaps.{Overlap, overlap, refuses, refusesRaw, readsInto, a, opWrote, took, overlapRead, SecondLimit, second, secondTested}
 
 -- an append of v to x by t, and a list read of x by t whose record stands at p, as they are held
 abbrev appended : ℕ → ℕ → ℕ → Op
@@ -43,7 +43,7 @@ listRecordTable =
     ∷ refuses (opens 1 ∷ wOf 1 1 5 ∷ aOf 1 1 0 ∷ []) 8 42
     -- "10 also for a repeated append", in another session; another key, another value and a list read again are none
     ∷ refuses (opens 1 ∷ opens 2 ∷ aOf 1 1 5 ∷ aOf 2 1 5 ∷ []) 10 52
-    ∷ reads 1 (opens 1 ∷ aOf 1 1 5 ∷ aOf 1 2 5 ∷ aOf 1 1 6 ∷ lOf 1 1 (5 ∷ []) ∷ lOf 1 1 (5 ∷ []) ∷ closesOf 1 1 ∷ []) (a 1 1 ∷ [])
+    ∷ readsInto 1 (opens 1 ∷ aOf 1 1 5 ∷ aOf 1 2 5 ∷ aOf 1 1 6 ∷ lOf 1 1 (5 ∷ []) ∷ lOf 1 1 (5 ∷ []) ∷ closesOf 1 1 ∷ []) (a 1 1 ∷ [])
     (appended 1 1 5 ∷ appended 1 2 5 ∷ appended 1 1 6 ∷ listed 1 1 86 ∷ listed 1 1 110 ∷ [])
     -- "17, a key with single values and lists": each behind each of the other sort
     ∷ refuses (opens 1 ∷ wOf 1 1 5 ∷ aOf 1 1 6 ∷ []) 17 42
@@ -60,8 +60,8 @@ listRecordTable =
     ∷ refuses (opens 1 ∷ aOf 1 1 5 ∷ closesOf 1 0 ∷ opens 1 ∷ wOf 1 1 6 ∷ []) 17 63
     ∷ refuses (opens 1 ∷ wOf 1 2 5 ∷ aOf 1 1 5 ∷ rOf 1 1 0 ∷ aOf 1 2 7 ∷ []) 17 64
     -- keys of both sorts side by side: a list of none, one of 32, and single values
-    ∷ reads 2 (opens 7 ∷ wOf 7 1 5 ∷ aOf 7 2 6 ∷ opens 9 ∷ lOf 9 2 [] ∷ closesOf 7 1 ∷ lOf 9 2 (room 32) ∷ rOf 9 1 5 ∷ closesOf 9 0 ∷ []) (a 7 1 ∷ a 9 0 ∷ [])
-    (wrote 1 1 5 ∷ appended 1 2 6 ∷ listed 2 2 74 ∷ listed 2 2 101 ∷ took 2 1 5 ∷ [])
+    ∷ readsInto 2 (opens 7 ∷ wOf 7 1 5 ∷ aOf 7 2 6 ∷ opens 9 ∷ lOf 9 2 [] ∷ closesOf 7 1 ∷ lOf 9 2 (room 32) ∷ rOf 9 1 5 ∷ closesOf 9 0 ∷ []) (a 7 1 ∷ a 9 0 ∷ [])
+    (opWrote 1 1 5 ∷ appended 1 2 6 ∷ listed 2 2 74 ∷ listed 2 2 101 ∷ took 2 1 5 ∷ [])
     ∷ []
 
 pub list-records-as-they-should : map overlapRead listRecordTable ≡ listRecordTable

@@ -26,14 +26,14 @@ abbrev pub refusesRaw : List Item → List ℕ → ℕ → ℕ → Overlap
 refusesRaw l b n at = overlap (trace 0 l ++ b) (refused n at)
 
 -- n transactions, and what they are read into
-abbrev pub reads : ℕ → List Item → List Tx → List Op → Overlap
-reads n l txs ops = overlap (overlapping n l) (read (record { txs = txs; ops = ops }) 0)
+abbrev pub readsInto : ℕ → List Item → List Tx → List Op → Overlap
+readsInto n l txs ops = overlap (overlapping n l) (read (record { txs = txs; ops = ops }) 0)
 
 abbrev pub a : ℕ → ℕ → Tx
 a s c = record { session = s; status = c }
 
-abbrev pub wrote : ℕ → ℕ → ℕ → Op
-wrote t x v = record { tx = t; isWrite = true; key = x; value = v }
+abbrev pub opWrote : ℕ → ℕ → ℕ → Op
+opWrote t x v = record { tx = t; isWrite = true; key = x; value = v }
 
 abbrev pub took : ℕ → ℕ → ℕ → Op
 took t x v = record { tx = t; isWrite = false; key = x; value = v }
@@ -83,13 +83,13 @@ overlapTable =
     ∷ refuses (opens 1 ∷ opens 2 ∷ wOf 1 1 5 ∷ wOf 2 1 5 ∷ []) 10 52
     ∷ refusesRaw (edition 2 ∷ ends 0 ∷ []) (7 ∷ []) 11 20
     -- two that overlap, closed in the order of opening: each operation and each close is its session's, by place
-    ∷ reads 2 (opens 7 ∷ opens 9 ∷ wOf 7 1 5 ∷ rOf 9 1 5 ∷ wOf 7 2 6 ∷ closesOf 7 2 ∷ wOf 9 3 8 ∷ closesOf 9 0 ∷ []) (a 7 2 ∷ a 9 0 ∷ [])
-    (wrote 1 1 5 ∷ took 2 1 5 ∷ wrote 1 2 6 ∷ wrote 2 3 8 ∷ [])
+    ∷ readsInto 2 (opens 7 ∷ opens 9 ∷ wOf 7 1 5 ∷ rOf 9 1 5 ∷ wOf 7 2 6 ∷ closesOf 7 2 ∷ wOf 9 3 8 ∷ closesOf 9 0 ∷ []) (a 7 2 ∷ a 9 0 ∷ [])
+    (opWrote 1 1 5 ∷ took 2 1 5 ∷ opWrote 1 2 6 ∷ opWrote 2 3 8 ∷ [])
     -- one within the other; a session that opens again after its close, while another is open; sessions 0 and 65,535
-    ∷ reads 3 (opens 65535 ∷ opens 0 ∷ wOf 0 1 5 ∷ closesOf 0 1 ∷ opens 0 ∷ rOf 65535 1 5 ∷ rOf 0 1 5 ∷ closesOf 0 0 ∷ closesOf 65535 1 ∷ [])
-    (a 65535 1 ∷ a 0 1 ∷ a 0 0 ∷ []) (wrote 2 1 5 ∷ took 1 1 5 ∷ took 3 1 5 ∷ [])
+    ∷ readsInto 3 (opens 65535 ∷ opens 0 ∷ wOf 0 1 5 ∷ closesOf 0 1 ∷ opens 0 ∷ rOf 65535 1 5 ∷ rOf 0 1 5 ∷ closesOf 0 0 ∷ closesOf 65535 1 ∷ [])
+    (a 65535 1 ∷ a 0 1 ∷ a 0 0 ∷ []) (opWrote 2 1 5 ∷ took 1 1 5 ∷ took 3 1 5 ∷ [])
     -- no transaction; "after 4,294,967,295 comes 0", kind 16 being a record like any other
-    ∷ reads 0 [] [] []
+    ∷ readsInto 0 [] [] []
     ∷ overlap (trace 4294967295 (edition 2 ∷ ends 0 ∷ [])) (read (record { txs = []; ops = [] }) 0)
     ∷ []
 

@@ -13,7 +13,7 @@ use Rattle.rules.specs.Reading.{misplaced, unlawful, excess, repeats, stepRows,
 use Rattle.rules.specs.declared.Event.{Event}
 use Rattle.rules.specs.declared.Event.the-variants.{Write, Note, Other}
 use Rattle.table.specs.Table.{historyOf, Held, Becomes}
-use Rattle.steps.specs.Steps.{put, goes, stepNo, writeRows, Took}
+use Rattle.steps.specs.Steps.{put, goes, stepNo, heldRows, Took}
 use Rattle.steps.specs.declared.Next.{Next}
 use Rattle.steps.specs.declared.Next.the-variants.{Go, Count, Refuse}
 
@@ -71,26 +71,26 @@ idle-other g t h = stays g t Other refl refl refl refl refl h refl refl
 -- ── what is held as a write ──
 
 module _ (g : List ℕ) (t x v : ℕ) (h : Held g) where
-  counted : RowsCounted (writeRows (historyOf g) t v)
-  unfolding writeRows RowsCounted
+  counted : RowsCounted (heldRows (historyOf g) t v)
+  unfolding heldRows RowsCounted
   counted = (omega arith, (omega arith, (omega arith, tt)))
 
   -- its rows are 7, 8 and 9, and 10
   abbrev tenth : List Row
   tenth = row (ltb 0 (writeOf (historyOf g) x v)) 10 ∷ []
 
-  rows-are : stepRows (historyOf g) t (Write x v) ≡ writeRows (historyOf g) t v ++ tenth
-  unfolding stepRows writeRows misplaced unlawful excess repeats
+  rows-are : stepRows (historyOf g) t (Write x v) ≡ heldRows (historyOf g) t v ++ tenth
+  unfolding stepRows heldRows misplaced unlawful excess repeats
   rows-are = refl
 
-  pub write-refused : {n : ℕ} → n ≡ firstFit (writeRows (historyOf g) t v) → 0 < n → Took (Refuse n) g g t (Write x v)
+  pub write-refused : {n : ℕ} → n ≡ firstFit (heldRows (historyOf g) t v) → 0 < n → Took (Refuse n) g g t (Write x v)
   write-refused {n} q p =
-      refuses g t (Write x v) h (q ∙ sym (ap firstFit rows-are ∙ fit-append (writeRows (historyOf g) t v) tenth (rw (← q) p))) p
+      refuses g t (Write x v) h (q ∙ sym (ap firstFit rows-are ∙ fit-append (heldRows (historyOf g) t v) tenth (rw (← q) p))) p
 
-  module _ (q : 0 ≡ firstFit (writeRows (historyOf g) t v)) where
+  module _ (q : 0 ≡ firstFit (heldRows (historyOf g) t v)) where
     write-no : {b : Bool} → ltb 0 (writeOf (historyOf g) x v) ≡ b → firstFit (stepRows (historyOf g) t (Write x v)) ≡ pick b 10 0
     unfolding firstFit pick
-    write-no {b} e = ap firstFit rows-are ∙ fit-behind (writeRows (historyOf g) t v) tenth counted (sym q) ∙ rw e (one b)
+    write-no {b} e = ap firstFit rows-are ∙ fit-behind (heldRows (historyOf g) t v) tenth counted (sym q) ∙ rw e (one b)
       where
         one : (b : Bool) → firstFit (row b 10 ∷ []) ≡ pick b 10 0
         one true = refl
@@ -102,7 +102,7 @@ module _ (g : List ℕ) (t x v : ℕ) (h : Held g) where
 
     -- it may be entered
     pub write-room : (0 < t) × (opCount (historyOf g) < 1024) × (0 < v)
-    unfolding writeRows
+    unfolding heldRows
     write-room =
         let a = fit-unfit _ 7 _ (omega arith) (sym q) in
         let b = fit-unfit _ 8 _ (omega arith) (a .1) in

@@ -39,8 +39,8 @@ unfoldable pub stepNo : History → ℕ → Event → ℕ
 stepNo h t e = firstFit (stepRows h t e)
 
 -- rows 7, 8 and 9 of a write of v, to whatever key
-unfoldable pub writeRows : History → ℕ → ℕ → List Row
-writeRows h t v = row (eqb t 0) 7 ∷ row (eqb v 0) 8 ∷ row (leb 1024 (opCount h)) 9 ∷ []
+unfoldable pub heldRows : History → ℕ → ℕ → List Row
+heldRows h t v = row (eqb t 0) 7 ∷ row (eqb v 0) 8 ∷ row (leb 1024 (opCount h)) 9 ∷ []
 
 -- an event that may be taken: its key fits, and no list read stands where it stands
 pub record Takable (h : History) (e : Event) : Type 0 where

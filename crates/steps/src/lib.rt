@@ -5,7 +5,7 @@ ghost use Prim.Native.Nat.{_+_, _≤_, _<_};
 ghost use Rattle.base.specs.Base.{firstFit};
 ghost use Rattle.rules.specs.History.{current as latest, txCount, opCount, writeOf};
 ghost use Rattle.table.specs.Table.{historyOf, Held, Below};
-ghost use Rattle.steps.specs.Steps.{writeRows, Takable, Took};
+ghost use Rattle.steps.specs.Steps.{heldRows, Takable, Took};
 use rules::Event;
 
 // How the reading goes on behind an event: with the next record; the same, behind a note, and behind an append or a list read; not at all, the end has come;
@@ -74,7 +74,7 @@ fn take_read(h: &mut [u64], t: usize, x: u32, v: u64) -> Next
 // Rows 7, 8 and 9 of a write, an append or a list read, 0 where none refuses it.
 fn write_no(h: &[u64], t: usize, v: u64) -> u8
     requires { ⌜ Held (now h) ⌝ }
-    ensures { λ r. ⌜ r ≡ firstFit (writeRows (historyOf (now (h .entry))) t v) ⌝ }
+    ensures { λ r. ⌜ r ≡ firstFit (heldRows (historyOf (now (h .entry))) t v) ⌝ }
 {
     if t == 0 {
         return 7;

@@ -30,7 +30,7 @@ use Rattle.trace.specs.declared.Way.the-variants as W
 use Rattle.trace.specs.declared.Turn.{Turn}
 use Rattle.trace.specs.declared.Turn.the-variants.{More, Stop}
 use Rattle.trace.specs.Turns.{stateAt, noAt, metAt, isOfLists, finish, putAt, enteredAt, Turned}
-use Rattle.trace.specs.Trace.{answered, recordFrom, recorded, TraceRead, Standing, Walks, Ends, Passed, Come, WayIs, AnyMore, no-more, one-more, Mixes, FirstList, EndsLists}
+use Rattle.trace.specs.Trace.{answered, recordFrom, recorded, TraceRead, Standing, Walks, WalkEnds, Passed, Come, WayIs, AnyMore, no-more, one-more, Mixes, BeforeLists, EndsLists}
 use Rattle.trace.proofs.Rows.{refused-plain, refused-mixed}
 use Rattle.trace.proofs.Turning.{fit-at, Onward, Refused, Ended, more-says, stop-says}
 use Rattle.trace.proofs.Places.{ahead-none, ahead-entered}
@@ -179,7 +179,7 @@ module _ {s : List ℕ} {at serial notes : ℕ} {g : List ℕ} {behind follow co
       ∙ along (recordFrom f s) (p .after-is) (p .follow-is) (p .history) (p .count-is) (p .words) ∙ w .words f (omega (arith, p .farther)))
 
   -- it mixes: 17
-  pub mixed-here : mixes (historyOf g) (eventAt s at) ≡ true → Ends s at serial notes g (Bad 17 at) g2
+  pub mixed-here : mixes (historyOf g) (eventAt s at) ≡ true → WalkEnds s at serial notes g (Bad 17 at) g2
   unfolding answered
   mixed-here m =
       record {
@@ -195,7 +195,7 @@ module _ {s : List ℕ} {at serial notes : ℕ} {g : List ℕ} {behind follow co
 -- ── a turn ──
 
 module _ {s : List ℕ} {at serial notes : ℕ} {g g2 : List ℕ} (y : Standing s at notes g) {r : Turn} (t : Turned r g2 g s at serial notes) where
-  refused-here : {o : Out} → Refused s at serial (historyOf g) o → Ends s at serial notes g o g2
+  refused-here : {o : Out} → Refused s at serial (historyOf g) o → WalkEnds s at serial notes g o g2
   unfolding answered putAt pick
   refused-here x =
       let l = ltb-true 0 (noAt s at serial (historyOf g)) (x .refuses) in
@@ -210,7 +210,7 @@ module _ {s : List ℕ} {at serial notes : ℕ} {g g2 : List ℕ} (y : Standing 
         reads = rw w (y .ahead .reads);
       }
 
-  ended-here : {o : Out} → Ended s at serial notes (historyOf g) o → Ends s at serial notes g o g2
+  ended-here : {o : Out} → Ended s at serial notes (historyOf g) o → WalkEnds s at serial notes g o g2
   unfolding putAt enteredAt pick
   ended-here x =
       let z : noAt s at serial (historyOf g) ≡ 0 = omega (arith, ltb-false 0 (noAt s at serial (historyOf g)) (x .passes)) in
@@ -227,7 +227,7 @@ module _ {s : List ℕ} {at serial notes : ℕ} {g g2 : List ℕ} (y : Standing 
       }
 
   -- the reading is over
-  pub turn-stops : {o : Out} → r ≡ Stop o → Ends s at serial notes g o g2
+  pub turn-stops : {o : Out} → r ≡ Stop o → WalkEnds s at serial notes g o g2
   turn-stops q = ⊎-elim refused-here ended-here (stop-says s at serial notes (historyOf g) (sym (t .is) ∙ q))
 
   -- it goes on
@@ -263,8 +263,8 @@ module _ {s : List ℕ} {at serial notes : ℕ} {g g2 : List ℕ} (y : Standing 
 
 -- an answer from a later state on is one from an earlier
 pub ends-back : {s : List ℕ} {at serial notes : ℕ} {g : List ℕ} {from expected counted : ℕ} {g₀ : List ℕ} {o : Out} {g2 : List ℕ}
-    → ((r : Reading) (g3 : List ℕ) → Walks s at serial notes g r g3 → Walks s from expected counted g₀ r g3) → Ends s at serial notes g o g2
-    → Ends s from expected counted g₀ o g2
+    → ((r : Reading) (g3 : List ℕ) → Walks s at serial notes g r g3 → Walks s from expected counted g₀ r g3) → WalkEnds s at serial notes g o g2
+    → WalkEnds s from expected counted g₀ o g2
 ends-back back x = record { comes = x .comes; walks = back _ _ (x .walks); is = x .is; held = x .held; history = x .history; reads = x .reads }
 
 -- ── up to the first append or list read ──
@@ -333,7 +333,7 @@ module _ {s : List ℕ} {from expected counted : ℕ} {g₀ : List ℕ} {each : 
 -- what comes behind its record comes from it on, whatever state it was read in
 pub record Listing (s : List ℕ) (first after follow count : ℕ) (g₀ : List ℕ) (at serial notes : ℕ) (g : List ℕ) : Type 0 where
   pub standing : Standing s at notes g
-  pub back : (x : FirstList s first after follow count g₀) (r : Reading) (g3 : List ℕ) → Walks s at serial notes g r g3
+  pub back : (x : BeforeLists s first after follow count g₀) (r : Reading) (g3 : List ℕ) → Walks s at serial notes g r g3
       → Walks s first (x .expected) (x .counted) (x .table) r g3
 
 -- its operation mixes exactly if any does
@@ -349,7 +349,7 @@ list-mixes h s t E.Note l = absurd (false≢true l)
 list-mixes h s t E.Other l = absurd (false≢true l)
 
 module _ {s : List ℕ} {first after follow count : ℕ} {g : List ℕ} where
-  first-mixes : {b : Bool} → b ≡ some 1 (opCount (historyOf g) + 1) (mixesAt (historyOf g)) → (x : FirstList s first after follow count g)
+  first-mixes : {b : Bool} → b ≡ some 1 (opCount (historyOf g) + 1) (mixesAt (historyOf g)) → (x : BeforeLists s first after follow count g)
       → b ≡ mixes (historyOf (x .table)) (eventAt s first)
   first-mixes e x = e ∙ rw (x .passed .history) (list-mixes (historyOf (x .table)) (x .singles) _ (eventAt s first) (x .of-lists))
 
@@ -357,7 +357,7 @@ module _ {s : List ℕ} {first after follow count : ℕ} {g : List ℕ} where
       → EndsLists s first after follow count g (Bad 17 first) g
   lists-mixed e t x = mixed-here (x .passed) (sym (first-mixes e x) ∙ t)
 
-  pub listing-first : {b : Bool} → b ≡ some 1 (opCount (historyOf g) + 1) (mixesAt (historyOf g)) → b ≡ false → FirstList s first after follow count g
+  pub listing-first : {b : Bool} → b ≡ some 1 (opCount (historyOf g) + 1) (mixesAt (historyOf g)) → b ≡ false → BeforeLists s first after follow count g
       → Listing s first after follow count g after follow count g
   listing-first e t y =
       record { standing = y .passed .standing; back = λ x r g3 w. on-behind (x .passed) (sym (first-mixes e x) ∙ t) r g3 w }
@@ -444,7 +444,7 @@ too-long s g₀ g b l =
     }
 
 -- the records
-pub whole-ends : (s g₀ g : List ℕ) → Becomes g (cleared g₀) empty → length s ≤ 32768 → {o : Out} {g2 : List ℕ} → Ends s 0 0 0 g o g2 → TraceRead o g2 g₀ s
+pub whole-ends : (s g₀ g : List ℕ) → Becomes g (cleared g₀) empty → length s ≤ 32768 → {o : Out} {g2 : List ℕ} → WalkEnds s 0 0 0 g o g2 → TraceRead o g2 g₀ s
 unfolding reading recorded pick
 whole-ends s g₀ g b l {o} {g2} x =
     let t = le-ltb _ _ l in
@@ -459,12 +459,12 @@ whole-ends s g₀ g b l {o} {g2} x =
 
 -- up to the first append or list read, from there on
 pub whole-first : {s g : List ℕ} {first after follow count : ℕ} {g2 : List ℕ} → WayIs s 0 0 0 g false g2 (W.Behind first after follow count)
-    → FirstList s first after follow count g2
+    → BeforeLists s first after follow count g2
 whole-first z =
     let l = z .lists refl in
     record { expected = z .expected; counted = z .counted; table = z .table; passed = z .passed; of-lists = l .0; singles = l .1 }
 
 pub whole-lists : {s g : List ℕ} {first after follow count : ℕ} {g2 : List ℕ} (z : WayIs s 0 0 0 g false g2 (W.Behind first after follow count)) {o : Out} {g3 : List ℕ}
-    → EndsLists s first after follow count g2 o g3 → Ends s 0 0 0 g o g3
+    → EndsLists s first after follow count g2 o g3 → WalkEnds s 0 0 0 g o g3
 unfolding whole-first
 whole-lists z f = ends-back (z .back) (f (whole-first z))

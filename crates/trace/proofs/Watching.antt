@@ -6,7 +6,7 @@ use mathlib.Core.List.{List}
 use native.Mathlib.Omega.{arith}
 use Rattle.rules.specs.History.{History, opCount}
 use Rattle.table.specs.Table.{historyOf, Held, HasOp}
-use Rattle.mixing.specs.Mixing.{mixesAt, Indexed, Entered}
+use Rattle.mixing.specs.Mixing.{mixesAt, Indexed, KeyEntered}
 use Rattle.trace.specs.Trace.{AnyMore, no-more, one-more, Mixes}
 
 -- how many there can be
@@ -31,7 +31,7 @@ module _ {k : List ℕ} {h : History} {n m : ℕ} (y : AnyMore k h n) (is : m �
       by (no-more e x) = absurd (d (is ∙ e))
       by (one-more e x) = (e, x)
 
-  pub one-told : (m ≡ n → ⊥) → {r : Bool} {k2 : List ℕ} → Entered r k2 h (n + 1) → Mixes r k2 h n
+  pub one-told : (m ≡ n → ⊥) → {r : Bool} {k2 : List ℕ} → KeyEntered r k2 h (n + 1) → Mixes r k2 h n
   one-told d x =
       let e = more d .0 in
       record { none = λ q. absurd (omega arith); one = λ q. x .is; indexed = λ q. rw e (x .indexed q) }

@@ -70,7 +70,7 @@ pub record Walks (s : List ℕ) (at serial notes : ℕ) (g : List ℕ) (r : Read
   pub words : (f : ℕ) → length s < f + at → recordFrom f s (stateAt at serial (historyOf g) notes) g ≡ g2
 
 -- .. and the answer is o
-pub record Ends (s : List ℕ) (at serial notes : ℕ) (g : List ℕ) (o : Out) (g2 : List ℕ) : Type 0 where
+pub record WalkEnds (s : List ℕ) (at serial notes : ℕ) (g : List ℕ) (o : Out) (g2 : List ℕ) : Type 0 where
   pub comes : Reading
   pub walks : Walks s at serial notes g comes g2
   pub is : o ≡ answered comes
@@ -104,7 +104,7 @@ pub record Come (s : List ℕ) (at serial notes : ℕ) (g : List ℕ) (each : Bo
 
 -- what each case of the answer says
 abbrev pub WayIs : List ℕ → ℕ → ℕ → ℕ → List ℕ → Bool → List ℕ → Way → Type 0
-WayIs s at serial notes g each g2 (W.Over o) = Ends s at serial notes g o g2
+WayIs s at serial notes g each g2 (W.Over o) = WalkEnds s at serial notes g o g2
 WayIs s at serial notes g each g2 (W.Behind first after follow count) = Come s at serial notes g each first after follow count g2
 
 -- ── row 17 behind a record, with the index k ──
@@ -121,7 +121,7 @@ pub record Mixes (r : Bool) (k2 : List ℕ) (h : History) (n : ℕ) : Type 0 whe
   pub indexed : r ≡ false → Indexed k2 h (opCount h + 1)
 
 -- g2 is the table behind the record at `first`, the first append or list read of the trace
-pub record FirstList (s : List ℕ) (first after follow count : ℕ) (g2 : List ℕ) : Type 0 where
+pub record BeforeLists (s : List ℕ) (first after follow count : ℕ) (g2 : List ℕ) : Type 0 where
   pub expected : ℕ
   pub counted : ℕ
   pub table : List ℕ
@@ -132,4 +132,4 @@ pub record FirstList (s : List ℕ) (first after follow count : ℕ) (g2 : List 
 -- .. from which on the reading is answered with o, and the table becomes g3
 abbrev pub EndsLists : List ℕ → ℕ → ℕ → ℕ → ℕ → List ℕ → Out → List ℕ → Type 0
 EndsLists s first after follow count g2 o g3 =
-    (x : FirstList s first after follow count g2) → Ends s first (x .expected) (x .counted) (x .table) o g3
+    (x : BeforeLists s first after follow count g2) → WalkEnds s first (x .expected) (x .counted) (x .table) o g3

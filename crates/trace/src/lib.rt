@@ -9,7 +9,7 @@ ghost use Rattle.rules.proofs.Singles.{Singles};
 ghost use Rattle.table.specs.Table.{tableWords, historyOf, Held};
 ghost use Rattle.sessions.specs.Open.{Beside};
 ghost use Rattle.trace.specs.Turns.{finish as finishing, Turned};
-ghost use Rattle.trace.specs.Trace.{TraceRead, Standing, WayIs, AnyMore, Mixes, FirstList, EndsLists};
+ghost use Rattle.trace.specs.Trace.{TraceRead, Standing, WayIs, AnyMore, Mixes, BeforeLists, EndsLists};
 use frame::Framed;
 use steps::Next;
 
@@ -142,7 +142,7 @@ fn read_lists(
     h: &mut [u64],
     o: &mut [u8],
 ) -> Out
-    requires { ⌜ FirstList (now s) first after follow count (now h) × (second ≡ isSecond (now s)) × Beside second (now o) (historyOf (now h)) ⌝ }
+    requires { ⌜ BeforeLists (now s) first after follow count (now h) × (second ≡ isSecond (now s)) × Beside second (now o) (historyOf (now h)) ⌝ }
     ensures { λ r. ⌜ EndsLists (now (s .entry)) first after follow count (now (h .entry)) r (now (h .exit)) ⌝ }
 {
     let mut k = [0u16; 1153];

@@ -1,10 +1,8 @@
 -- The whole call: a trace that is refused, and one that was read.
 use Prim.Native.Nat.{ℕ, _<_}
-use mathlib.Core.Path.{_≡_, ap, sym, _∙_}
+use mathlib.Core.Path.{_≡_, _∙_}
 use mathlib.Core.List.{List}
 use lib.ListN.{getD}
-use Rattle.rules.specs.History.{History}
-use Rattle.rules.specs.Reading.{Reading, refused, read, reading}
 use Rattle.table.specs.Table.{historyOf}
 use Rattle.settling.specs.Settling.{Settles}
 use Rattle.trace.specs.declared.Out.{Out}

@@ -9,7 +9,7 @@ use lib.Dec.{ltb, eqb}
 use lib.ListN.{getD}
 use borrow.Author.Tests.{ltb-true, ltb-false, leb-true, eqb-true, eqb-false, lt-ltb, le-ltb, le-leb, eq-eqb, ne-eqb}
 use Rattle.base.specs.Base.{_and_, _or_, pick, last}
-use Rattle.base.proofs.Tests.{clash, is-false, is-true, not-true, both, and-left, and-right, and-no-right, or-cases, or-left, or-right, ifso, pick-off, split}
+use Rattle.base.proofs.Tests.{clash, is-false, is-true, not-true, both, and-left, and-right, and-no-right, or-cases, or-left, or-right, ifso, split}
 use Rattle.base.proofs.Chains.{last-passes, last-none}
 use Rattle.base.proofs.Searches.{some-at, some-of}
 use Rattle.rules.specs.History.{History, op, txCount, opCount, current, openOf, anyOpen, writesValue, writeOf, appendKey, listKey, isSingle, isOtherSort, clashes, mixesKey}

@@ -10,7 +10,7 @@ use Rattle.base.proofs.Tests.{split}
 use Rattle.base.proofs.Rows.{RowsCounted, fit-append, fit-behind}
 use Rattle.rules.specs.History.{History}
 use Rattle.rules.specs.Records.{isSecond, eventAt, frameRows}
-use Rattle.rules.specs.Reading.{stepRows, mixes, mixRows, metIn, met, refusalNo}
+use Rattle.rules.specs.Reading.{stepRows, mixes, mixRows, met, refusalNo}
 use Rattle.rules.specs.declared.Event.{Event}
 use Rattle.frame.proofs.Frames.{behind}
 use Rattle.trace.specs.Turns.{stateAt, metAt, noAt}

@@ -1,12 +1,12 @@
 -- Row 17 behind one record: one operation more at most.
-use Prim.Native.Nat.{ℕ, _+_, _≤_, _<_}
-use mathlib.Core.Path.{_≡_, refl, sym, _∙_}
+use Prim.Native.Nat.{ℕ, _+_, _≤_}
+use mathlib.Core.Path.{_≡_, refl, _∙_}
 use mathlib.Core.Bool.{Bool, false}
 use mathlib.Core.List.{List}
 use native.Mathlib.Omega.{arith}
 use Rattle.rules.specs.History.{History, opCount}
 use Rattle.table.specs.Table.{historyOf, Held, HasOp}
-use Rattle.mixing.specs.Mixing.{mixesAt, Indexed, KeyEntered}
+use Rattle.mixing.specs.Mixing.{Indexed, KeyEntered}
 use Rattle.trace.specs.Trace.{AnyMore, no-more, one-more, Mixes}
 
 -- how many there can be

@@ -1,4 +1,4 @@
-use mathlib.Core.Path.{sym, _∙_}
+use mathlib.Core.Path.{sym}
 use native.Mathlib.Omega.{arith}
 use Rattle.frame.proofs.Frames.{kind-first, kind-lists, kind-low, misfit-first, misfit-second, misfit-note, misfit-edition}
 use borrow.Author.Needs.{needs}

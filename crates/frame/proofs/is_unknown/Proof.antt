@@ -1,5 +1,4 @@
 use mathlib.Core.Path.{sym}
-use native.Mathlib.Omega.{arith}
 use Rattle.frame.proofs.Frames.{unknown-16, unknown-0, unknown-first, unknown-low}
 use Rattle.frame.proofs.is_unknown.Statement.{statement}
 use Rattle.frame.proofs.is_unknown.Tie as tie

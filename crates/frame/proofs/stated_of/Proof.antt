@@ -1,4 +1,4 @@
-use mathlib.Core.Path.{_≡_, refl}
+use mathlib.Core.Path.{refl}
 use native.Mathlib.Omega.{arith}
 use Rattle.base.specs.Base.{pick}
 use Rattle.rules.specs.Records.{eventOf, readKey, writtenKey}

@@ -1,6 +1,5 @@
-use mathlib.Core.Path.{_≡_, _∙_, ap, sym}
+use mathlib.Core.Path.{_∙_, sym}
 use native.Mathlib.Omega.{arith}
-use Rattle.base.specs.Base.{pick}
 use Rattle.base.proofs.Tests.{pick-off}
 use Rattle.rules.specs.Reading.{entered}
 use Rattle.steps.proofs.Taken.{write-refused, write-again, write-room, write-enters}

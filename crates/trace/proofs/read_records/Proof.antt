@@ -1,9 +1,7 @@
 use Prim.Native.Nat.{_-_}
-use mathlib.Core.Path.{sym}
 use lib.ListN.{length}
 use Rattle.table.specs.Table.{historyOf}
 use Rattle.sessions.specs.Open.{Beside}
-use Rattle.trace.specs.Trace.{WayIs}
 use Rattle.trace.proofs.Going.{Going, going-first, going-over, going-behind, going-less, going-more}
 use borrow.Author.Needs.{needs}
 use Rattle.trace.proofs.read_records.Statement.{statement}

@@ -1,4 +1,3 @@
-use mathlib.Core.Path.{sym}
 use Rattle.rules.proofs.Singles.{singles-none}
 use Rattle.trace.proofs.Going.{beside-first, standing-first, too-long, whole-ends, whole-first, whole-lists}
 use borrow.Author.Needs.{needs}

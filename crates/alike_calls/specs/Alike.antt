@@ -24,11 +24,16 @@ use Rattle.claims_rules.specs.Claims.{Reply, no-read, reply}
 use Rattle.claims_rules.specs.Numbers.{replyNo}
 use Rattle.claims_laws.specs.Claims.{Claims}
 use Rattle.claims_laws.specs.Told.{ClaimNumbered}
+use Rattle.appends_rules.specs.ListOutcome.{listOutcome}
+use Rattle.appends.specs.Answering.{listReported}
+use Rattle.appends.specs.declared.ListAnswer.{ListAnswer}
+use Rattle.appends_calls.specs.Calls.{ListsPromised}
 use Rattle.vectors_calls.specs.Calls.{SaysLeads, TellsLatest}
 use Rattle.alike_calls.specs.declared.TwoAnswers.{TwoAnswers}
 use Rattle.alike_calls.specs.declared.TwoLengths.{TwoLengths}
 use Rattle.alike_calls.specs.declared.TwoNumbers.{TwoNumbers}
 use Rattle.alike_calls.specs.declared.TwoClaims.{TwoClaims}
+use Rattle.alike_calls.specs.declared.TwoLists.{TwoLists}
 use Rattle.alike_calls.specs.declared.TwoLedBy.{TwoLedBy}
 use Rattle.alike_calls.specs.declared.TwoEntries.{TwoEntries}
 use Rattle.alike_calls.specs.declared.TwoFills.{TwoFills}
@@ -111,6 +116,22 @@ pub record NumberedBoth (s t : List ℕ) (level : ℕ) (o ns ns' : List ℕ) (r 
   pub other : ClaimNumbered t level o ns' (r .other) N'
   pub was-moved : ns ≡ ns' → (second : Bool) → Moved second s t → (r .other ≡ r .one) × (((i : ℕ) → r .one ≡ replyNo (no-read i) → ⊥) → N' ≡ N)
   pub but-for-notes : ns ≡ ns' → ButForNotes s t → (r .other ≡ r .one) × (N' ≡ N)
+
+-- ── the call on lists ──
+
+-- two answers of it, and what both callers' buffers then hold, are the same
+pub record SameLists (r q : ListAnswer) (F P F' P' : List ℕ) : Type 0 where
+  pub answer : q ≡ r
+  pub findings : F' ≡ F
+  pub pairs : P' ≡ P
+
+-- "20, list kinds in a move to edition 1": what was moved has no list, and nor has a trace with notes, which are of edition 1, so nothing is found in either trace.
+-- A trace of edition 2 has no note: where its serials are others, its lists stay
+pub record ListsJudgedBoth (s t : List ℕ) (r : TwoLists) (fs ps fs' ps' F P F' P' : List ℕ) : Type 0 where
+  pub one : ListsPromised s fs ps (listOutcome (listReported (r .one)) F P)
+  pub other : ListsPromised t fs' ps' (listOutcome (listReported (r .other)) F' P')
+  pub was-moved : fs ≡ fs' → ps ≡ ps' → (second : Bool) → Moved second s t → SameLists (r .one) (r .other) F P F' P'
+  pub but-for-notes : fs ≡ fs' → ps ≡ ps' → ButForNotes s t → SameLists (r .one) (r .other) F P F' P'
 
 -- ── the calls for vectors ──
 

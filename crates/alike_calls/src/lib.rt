@@ -1,6 +1,7 @@
 // A call made on two traces that are alike: the one is the other, moved to another edition; or they differ only in their notes. Each function makes one call on
 // both, knows nothing of it but its contract, and promises what document 02 says of it for each trace, whatever they are, and what the two have in common.
-ghost use Rattle.alike_calls.specs.Alike.{JudgedBoth, PrintedBoth, ListedBoth, RewrittenBoth, WholeBoth, MovedBoth, TalliedBoth, DecidedBoth, StrongestBoth, ClaimedBoth, NumberedBoth, LedBoth, LatestBoth};
+ghost use Rattle.alike_calls.specs.Alike.{JudgedBoth, ListsJudgedBoth, PrintedBoth, ListedBoth, RewrittenBoth, WholeBoth, MovedBoth, TalliedBoth, DecidedBoth, StrongestBoth, ClaimedBoth, NumberedBoth, LedBoth, LatestBoth};
+use appends::ListAnswer;
 use claims_rules::ClaimAnswer;
 use moving::Tallied;
 use rules::Answer;
@@ -130,6 +131,32 @@ pub fn claims_numbered_both(
     let one = ferozhak::ferozhak_claim(trace, level, claim, numbers);
     let other = ferozhak::ferozhak_claim(other, level, claim, numbers2);
     TwoNumbers {
+        one: one,
+        other: other,
+    }
+}
+
+// ── the call on lists ──
+
+pub struct TwoLists {
+    pub one: ListAnswer,
+    pub other: ListAnswer,
+}
+
+// Two traces, whose lists are judged.
+pub fn lists_judged_both(
+    trace: &[u8],
+    other: &[u8],
+    findings: &mut [u8],
+    pairs: &mut [u8],
+    findings2: &mut [u8],
+    pairs2: &mut [u8],
+) -> TwoLists
+    ensures { λ r. ⌜ ListsJudgedBoth (now (trace .entry)) (now (other .entry)) r (now (findings .entry)) (now (pairs .entry)) (now (findings2 .entry)) (now (pairs2 .entry)) (now (findings .exit)) (now (pairs .exit)) (now (findings2 .exit)) (now (pairs2 .exit)) ⌝ }
+{
+    let one = appends::judge_lists(trace, findings, pairs);
+    let other = appends::judge_lists(other, findings2, pairs2);
+    TwoLists {
         one: one,
         other: other,
     }

@@ -3,3 +3,5 @@ pub mod ListPairs
 pub mod ListFindings
 pub mod ListBytes
 pub mod Singles
+pub mod NoLists
+pub mod Swapped

@@ -32,7 +32,7 @@ unfolding _and_
 and-six true b c d e f = refl
 and-six false b c d e f = refl
 
-past : (h : History) (i : ℕ) → opCount h < i → op h i ≡ noOp
+pub past : (h : History) (i : ℕ) → opCount h < i → op h i ≡ noOp
 unfolding op
 past h i l = List·getD-eq-default (noOp ∷ h .ops) noOp {n = i} (omega arith)
 

@@ -178,7 +178,7 @@ module _ {s b : List ℕ} (x : OtherTexts s b) where
   -- ── moving ──
 
   -- a trace of edition 2 that is read has no note, so that no byte of it is another
-  second-same : {h : History} → isSecond s ≡ true → HasHistory s h → b ≡ s
+  pub second-same : {h : History} → isSecond s ≡ true → HasHistory s h → b ≡ s
   second-same e r =
       ext-getD 0 b s (x .same-length)
       (λ i _. x .elsewhere i (λ t. none-counted (rw (second-none e (r .reads)) at (notes-counted (r .reads))) (t .number) (t .is-note)))

@@ -15,7 +15,7 @@ use Rattle.rules.proofs.Numbers.{appended-over}
 use Rattle.table.specs.Table.{historyOf, Held}
 use Rattle.bits.specs.Bits.{bitOf, Holds, Under}
 use Rattle.pairs.specs.Pairs.{before}
-use Rattle.lists.specs.Lists.{pairCount, allFor}
+use Rattle.sifting.specs.Lists.{pairCount, allFor}
 use Rattle.appends_rules.specs.Dependencies.{isWriteDep, isDep, depReasons, writePairs, depPairs}
 use Rattle.appends_rules.specs.ListOutcome.{listOutcome, listsRefused, listsTold, listFindings, listFindingList, writeDepList, depList, bothLists, toldLists}
 use Rattle.grading.specs.Grades.{Ungraded}

@@ -69,7 +69,7 @@ fn answer(
     ensures { λ x. ⌜ listOutcome (listReported x) (now (findings .exit)) (now (pairs .exit)) ≡ toldLists (historyOf (now (h .entry))) (listsIn (now (s .entry)) (historyOf (now (h .entry)))) (now (findings .entry)) (now (pairs .entry)) ⌝ }
 {
     let found = faults::count_faults(s, h, k);
-    let both = lists::count_pairs(c, table::txs(h) + 1);
+    let both = sifting::count_pairs(c, table::txs(h) + 1);
     if findings.len() < 6 * found {
         return ListAnswer::Refused(12, 6 * found);
     }
@@ -93,7 +93,7 @@ fn judge_read(s: &[u8], h: &[u64], findings: &mut [u8], pairs: &mut [u8]) -> Lis
     let n = table::txs(h) + 1;
     let mut c = [0u64; 256];
     listings::list_over(&w, &mut c, n);
-    let writes = lists::count_pairs(&c, n);
+    let writes = sifting::count_pairs(&c, n);
     let mut r = [0u64; 256];
     list_both(s, h, &k, &w, &mut r, &mut c);
     answer(s, h, &k, &w, &r, &mut c, writes, findings, pairs)

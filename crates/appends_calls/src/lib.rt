@@ -3,6 +3,7 @@
 ghost use Rattle.appends_rules.specs.ListOutcome.{listOutcome};
 ghost use Rattle.appends.specs.Answering.{listReported};
 ghost use Rattle.appends_calls.specs.Calls.{ListsPromised, JudgedAndListed};
+ghost use Rattle.appends_calls.specs.Printed.{ListsPrinted};
 use appends::ListAnswer;
 use rules::Answer;
 
@@ -14,6 +15,13 @@ pub fn promised_lists(trace: &[u8], findings: &mut [u8], pairs: &mut [u8]) -> Li
     ensures { λ r. ⌜ ListsPromised (now (trace .entry)) (now (findings .entry)) (now (pairs .entry)) (listOutcome (listReported r) (now (findings .exit)) (now (pairs .exit))) ⌝ }
 {
     appends::judge_lists(trace, findings, pairs)
+}
+
+// .. and as text: what is handed back, and what a program prints, is just that.
+pub fn printed_lists<'a>(trace: &[u8], text: &'a mut [u8; 655360]) -> &'a [u8]
+    ensures { λ r. ⌜ ListsPrinted (now (trace .entry)) (now r) ⌝ }
+{
+    appends_text::lists_text(trace, text)
 }
 
 // ── the judge and the call on lists ──

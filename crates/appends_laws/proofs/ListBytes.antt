@@ -86,10 +86,10 @@ module _ {h : History} (ok : LawfulHistory h) (l : ℕ → List ℕ) {C : ℕ �
   unclean-kind {i} x z =
       x .unclean (clean-list-iff ok l are i .0 (kind-clean h l i (judged-list-iff ok (x .judged .list-read .is-op) .1 (x .judged)) z))
 
-  finding-kind : {i : ℕ} → ListFinding h l C i → HasListKind h l C i (listKind h l i)
+  pub finding-kind : {i : ℕ} → ListFinding h l C i → HasListKind h l C i (listKind h l i)
   finding-kind {i} x = list-kind-iff ok l are (x .judged) (listKind h l i) (unclean-kind x) .0 refl
 
-  finding-fault : {i : ℕ} → ListFinding h l C i → FaultNumber h l i (listKind h l i) (faultOf h l i)
+  pub finding-fault : {i : ℕ} → ListFinding h l C i → FaultNumber h l i (listKind h l i) (faultOf h l i)
   finding-fault {i} x = fault-is ok l are i (x .judged) (unclean-kind x) refl
 
   fault-most : {i m w : ℕ} → FaultNumber h l i m w → w ≤ 1024
@@ -132,7 +132,7 @@ module _ {h : History} (ok : LawfulHistory h) (l : ℕ → List ℕ) {C : ℕ �
       }
 
   -- a list read has one kind at most
-  list-kind-one : {i k m : ℕ} → HasListKind h l C i k → HasListKind h l C i m → k ≡ m
+  pub list-kind-one : {i k m : ℕ} → HasListKind h l C i k → HasListKind h l C i m → k ≡ m
   list-kind-one {k = k} {m} x y =
       ⊎-elim (λ b. absurd (y .none-earlier k b (x .fits))) (λ g. ⊎-elim (λ b. absurd (x .none-earlier m b (y .fits))) (λ b. omega arith) (split m k))
       (split k m)
@@ -176,7 +176,7 @@ module _ {h : History} (ok : LawfulHistory h) (l : ℕ → List ℕ) {C : ℕ �
             (λ p i. let s = small (dep-pairs-are ok l are .entries p .0 i .is .1) in (s .0, s .1, sum-small (isReadDep h l (p .one) (p .two)) (isWriteDep h l (p .one) (p .two))));
       }
 
-  dep-reasons-one : (a b n m : ℕ) → DepReasons h l C a b n → DepReasons h l C a b m → n ≡ m
+  pub dep-reasons-one : (a b n m : ℕ) → DepReasons h l C a b n → DepReasons h l C a b m → n ≡ m
   dep-reasons-one a b n m x y = omega (arith, x .sum, y .sum, adds-one (x .adds-4) (y .adds-4), adds-one (x .adds-16) (y .adds-16))
 
   -- ── the answer ──

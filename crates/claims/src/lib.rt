@@ -178,8 +178,8 @@ fn claim_history(h: &[u64], k: &[u8], level: u8, o: &[u8]) -> ClaimAnswer
     ensures { λ r. ⌜ reply r ≡ claimedIn (historyOf (now (h .entry))) level (now (o .entry)) ⌝ }
 {
     // all that a trace with clean reads takes is a count, which goes by many bytes at once
-    if lists::count_findings(h, k) != 0 {
-        return ClaimAnswer::NoRead(lists::first_finding(h, k));
+    if sifting::count_findings(h, k) != 0 {
+        return ClaimAnswer::NoRead(sifting::first_finding(h, k));
     }
     let m = forcing::members(h);
     if !has_members(m, o) {

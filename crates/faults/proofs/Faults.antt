@@ -14,8 +14,8 @@ use Rattle.base.proofs.Searches.{some-end, joined-those, joined-length}
 use Rattle.base.proofs.Fill.{Appended}
 use Rattle.rules.specs.History.{History, tx, op, opCount}
 use Rattle.rules.proofs.History.{op-0, status-0}
-use Rattle.lists.specs.Lists.{entryAt}
-use Rattle.lists.proofs.Listings.{those-listed, room-for, put-in}
+use Rattle.sifting.specs.Lists.{entryAt}
+use Rattle.sifting.proofs.Listings.{those-listed, room-for, put-in}
 use Rattle.appends_rules.specs.Appends.{isList, keyOf, appendOf, appenderOf, isJudgedList}
 use Rattle.appends_rules.specs.ListKinds.{begins, element, isLost, isAgain, isUndone, isHalf, listKindBy, listKind, isCleanList, isListFinding, listAt, longestBelow}
 use Rattle.appends_rules.specs.ListOutcome.{faultBy, faultOf, listFindings, listFindingBytes, listFindingList}

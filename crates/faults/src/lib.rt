@@ -97,7 +97,7 @@ pub fn count_faults(s: &[u8], h: &[u64], k: &[u16]) -> usize
     let mut found: usize = 0;
     let mut i = 1;
     while i <= n {
-        found += lists::weight(7 <= grading::code_at(s, h, k, i), 1) as usize;
+        found += sifting::weight(7 <= grading::code_at(s, h, k, i), 1) as usize;
         i += 1;
     }
     found
@@ -114,9 +114,9 @@ fn put_fault(s: &[u8], h: &[u64], k: &[u16], i: usize, out: &mut [u8], at: usize
     }
     let e = grading::spot_of(s, h, i);
     let w = fault_at(s, h, e.at, e.number, e.key, v);
-    let to = lists::put2(out, at, table::tx_of(h, i) as u8, v);
-    let to = lists::put_number(out, to, i);
-    lists::put_number(out, to, w)
+    let to = sifting::put2(out, at, table::tx_of(h, i) as u8, v);
+    let to = sifting::put_number(out, to, i);
+    sifting::put_number(out, to, w)
 }
 
 // The list of findings, by operation number; where it ends.

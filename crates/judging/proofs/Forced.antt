@@ -9,8 +9,8 @@ use Rattle.table.specs.Table.{historyOf}
 use Rattle.bits.specs.Bits.{bitOf, Holds, Under}
 use Rattle.pairs.specs.Pairs.{before}
 use Rattle.rivals.proofs.Rivals.{forced-leads}
-use Rattle.lists.specs.Lists.{listedIn, Judging}
-use Rattle.lists.proofs.Levels.{told-listed-pairs}
+use Rattle.sifting.specs.Lists.{listedIn, Judging}
+use Rattle.sifting.proofs.Levels.{told-listed-pairs}
 use Rattle.forcing.specs.Forcing.{Forcing}
 use Rattle.forcing.proofs.Forced.{forced-below}
 

@@ -14,8 +14,8 @@ use Rattle.rules.proofs.Numbers.{appended-over}
 use Rattle.rules.proofs.Lists.{findings-long, pairs-long}
 use Rattle.rules.proofs.Outcome.{none-empty, is-accepted, found-rejected, listed-rejected, judged-accepted, judged-rejected, rejection-short, rejection-short-pairs, rejection-fits}
 use Rattle.table.specs.Table.{historyOf}
-use Rattle.lists.specs.Lists.{pairCount, pairsIn, Judging}
-use Rattle.lists.proofs.Levels.{told-pairs, told-count}
+use Rattle.sifting.specs.Lists.{pairCount, pairsIn, Judging}
+use Rattle.sifting.proofs.Levels.{told-pairs, told-count}
 use Rattle.judging.specs.declared.Counts.{Counts}
 use Rattle.judging.specs.Judging.{Counted, OnAcceptance, OnRejection, OnReading}
 

@@ -8,7 +8,7 @@ use Rattle.rules.specs.Reading.{read}
 use Rattle.rules.specs.Outcome.{findings, order, reported, outcome, acceptance, rejection, judgedRead}
 use Rattle.rules.specs.declared.Answer.{Answer}
 use Rattle.table.specs.Table.{historyOf}
-use Rattle.lists.specs.Lists.{pairCount}
+use Rattle.sifting.specs.Lists.{pairCount}
 use Rattle.judging.specs.declared.Counts.{Counts}
 
 -- ── what is worked out ──

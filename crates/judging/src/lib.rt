@@ -11,7 +11,7 @@ ghost use Rattle.table.specs.Table.{historyOf, Settled};
 ghost use Rattle.bits.specs.Bits.{bitOf, Holds, Under};
 ghost use Rattle.order.specs.Sets.{Gathered};
 ghost use Rattle.pairs.specs.Pairs.{Ready, before};
-ghost use Rattle.lists.specs.Lists.{listedIn, Listing, Judging};
+ghost use Rattle.sifting.specs.Lists.{listedIn, Listing, Judging};
 ghost use Rattle.forcing.specs.Forcing.{AtLevel};
 ghost use Rattle.judging.specs.Judging.{Counted, Arranged, OnAcceptance, OnRejection, OnReading};
 use order::Words;
@@ -56,8 +56,8 @@ fn count(h: &[u64], k: &[u8], l: &[u64; 256]) -> Counts
     requires { ⌜ Ready (now h) (now k) × Under (size (historyOf (now h))) (now l) ⌝ }
     ensures { λ r. ⌜ Counted (now (h .entry)) (now (l .entry)) r ⌝ }
 {
-    let findings = lists::count_findings(h, k);
-    let pairs = lists::count_pairs(l, table::txs(h) + 1);
+    let findings = sifting::count_findings(h, k);
+    let pairs = sifting::count_pairs(l, table::txs(h) + 1);
     Counts {
         findings: findings,
         pairs: pairs,
@@ -84,8 +84,8 @@ fn reject(
     if pairs.len() < 4 * n.pairs {
         return Answer::Refused(13, 4 * n.pairs);
     }
-    lists::put_findings(h, k, findings);
-    lists::put_pairs(h, l, r, v, pairs);
+    sifting::put_findings(h, k, findings);
+    sifting::put_pairs(h, l, r, v, pairs);
     Answer::Rejected(n.findings, n.pairs)
 }
 
@@ -114,7 +114,7 @@ fn reject_reads(h: &[u64], k: &[u8], n: usize, out: &mut [u8]) -> Answer
     if out.len() < 6 * n {
         return Answer::Refused(12, 6 * n);
     }
-    lists::put_findings(h, k, out);
+    sifting::put_findings(h, k, out);
     Answer::Rejected(n, 0)
 }
 
@@ -132,7 +132,7 @@ fn decide_placed(
     requires { ⌜ Ready (now h) (now k) × (n ≤ length (now shown)) ⌝ }
     ensures { λ r. ⌜ ((level : ℕ) (p : List ℕ) → (pairs (historyOf (now (h .entry))) level ≡ []) → Arranged (historyOf (now (h .entry))) level (now (shown .entry)) n → OnReading (historyOf (now (h .entry))) level (now (findings .entry)) p (now (order .entry)) (now (findings .exit)) p (now (order .exit)) r) ⌝ }
 {
-    let found = lists::count_findings(h, k);
+    let found = sifting::count_findings(h, k);
     if found == 0 {
         return accept(shown, n, order);
     }
@@ -156,7 +156,7 @@ fn list(h: &[u64], k: &[u8], f: &mut [u64; 256], s: &mut [u64; 256])
     requires { ⌜ Ready (now h) (now k) × Under (size (historyOf (now h))) (now f) × (length (now s) ≡ 256) ⌝ }
     ensures { λ r. ⌜ Holds (now (f .exit)) (listedIn (now (f .entry)) (now (s .entry))) × Holds (now (s .exit)) (before (isRead (historyOf (now (h .entry))))) ⌝ }
 {
-    lists::sift(f, s, table::txs(h) + 1);
+    sifting::sift(f, s, table::txs(h) + 1);
     pairs::fill_reads(h, k, s);
 }
 

@@ -18,9 +18,9 @@ use Rattle.bits.specs.Bits.{bitOf, Holds, Under}
 use Rattle.bits.proofs.Tables.{holds-same}
 use Rattle.pairs.specs.Pairs.{before}
 use Rattle.pairs.proofs.Pairs.{before-via}
-use Rattle.lists.specs.Lists.{listedIn, firstsOf, pairCount, rowFor, allFor}
-use Rattle.lists.proofs.Pairs.{by-second, all-long, all-fit, told-all}
-use Rattle.lists.proofs.Sifted.{listed-under}
+use Rattle.sifting.specs.Lists.{listedIn, firstsOf, pairCount, rowFor, allFor}
+use Rattle.sifting.proofs.Pairs.{by-second, all-long, all-fit, told-all}
+use Rattle.sifting.proofs.Sifted.{listed-under}
 use Rattle.appends_rules.specs.Dependencies.{pairsBy, pairsOver, pairWith}
 use Rattle.listings.specs.Listings.{ListsOver}
 

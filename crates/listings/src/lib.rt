@@ -5,7 +5,7 @@ ghost use Prim.Native.Nat.{_+_, _*_, _≤_, _<_};
 ghost use lib.ListN.{length};
 ghost use Rattle.base.proofs.Fill.{Appended};
 ghost use Rattle.bits.specs.Bits.{bitOf, Under};
-ghost use Rattle.lists.specs.Lists.{pairCount, entryFor, rowFor, allFor};
+ghost use Rattle.sifting.specs.Lists.{pairCount, entryFor, rowFor, allFor};
 ghost use Rattle.listings.specs.Listings.{ListsOver, depReasonsIn, Sheets};
 
 // c gets the listed pairs of f, by first, and f stays as it is. Of what leads to what, row a has whoever leads to a; those of them that a stands before are the
@@ -16,7 +16,7 @@ pub fn list_over(f: &[u64], c: &mut [u64], n: usize)
 {
     bits::copy(f, c);
     bits::close(c, n);
-    lists::sift(c, f, n);
+    sifting::sift(c, f, n);
 }
 
 // ── the list of these ──
@@ -26,7 +26,7 @@ fn reasons(w: &[u64], r: &[u64], four: u8, a: usize, b: usize) -> u8
     requires { ⌜ (length (now w) ≡ 256) × (length (now r) ≡ 256) × (four ≤ 4) × (a < 128) × (b < 128) ⌝ }
     ensures { λ x. ⌜ x ≡ depReasonsIn (now (w .entry)) (now (r .entry)) four a b ⌝ }
 {
-    lists::weight(bits::bit(r, b, a), four) + lists::weight(bits::bit(w, b, a), 16)
+    sifting::weight(bits::bit(r, b, a), four) + sifting::weight(bits::bit(w, b, a), 16)
 }
 
 // The pair, where it is listed: "first, second, reasons, 0".
@@ -47,8 +47,8 @@ fn put_entry(
     if !bits::bit(c, a, b) {
         return at;
     }
-    let to = lists::put2(out, at, a as u8, b as u8);
-    lists::put2(out, to, reasons(w, r, four, a, b), 0)
+    let to = sifting::put2(out, at, a as u8, b as u8);
+    sifting::put2(out, to, reasons(w, r, four, a, b), 0)
 }
 
 // The listed pairs with the first a, by second.

@@ -19,9 +19,10 @@ use Rattle.table.specs.Table.{historyOf}
 use Rattle.show.specs.Laid.{Put, Short}
 use Rattle.show.proofs.Laws.{laid-over}
 use Rattle.forcing.specs.Forcing.{ReadInto}
+use Rattle.entries.proofs.Entries.{over-most}
 use Rattle.printing.specs.Printing.{Written, Taken, blocksText, rejectedText}
 use Rattle.printing.proofs.Lengths.{answer-short}
-use Rattle.printing.proofs.Entries.{over-most, findings-lines, pairs-lines}
+use Rattle.printing.proofs.Entries.{findings-lines, pairs-lines}
 use Rattle.printing.proofs.Judged.{newFindings, newPairs, newOrder, AcceptedBy, RejectedBy}
 
 pub taken-lawful : {h k : List ℕ} → Taken h k → LawfulHistory (historyOf h)

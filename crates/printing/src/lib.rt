@@ -1,13 +1,12 @@
 // Judges a trace at the three levels and puts the text of its answer into a lent buffer: what the programs share.
 ghost use mathlib.Core.Path.{_≡_};
-ghost use Prim.Native.Nat.{_+_, _*_, _≤_, _<_};
-ghost use lib.ListN.{length, getD};
-ghost use Rattle.rules.specs.Numbers.{le};
+ghost use Prim.Native.Nat.{_*_, _≤_};
+ghost use lib.ListN.{length};
 ghost use Rattle.text.specs.Answer.{blockText, answerText};
 ghost use Rattle.table.specs.Table.{historyOf};
 ghost use Rattle.show.specs.Laid.{Put, Short};
-ghost use Rattle.printing.specs.Printing.{Written, Taken, blocksText, width, entryLine, listText, rejectedText};
-ghost use Rattle.printing.specs.declared.Lines.the-variants.{ReadLines, PairLines};
+ghost use Rattle.printing.specs.Printing.{Written, Taken, blocksText, rejectedText};
+use entries::Lines;
 use rules::Answer;
 use trace::Out;
 
@@ -87,78 +86,6 @@ fn put_rejected(
     ensures { λ r. ⌜ Put (now (out .entry)) at (now (out .exit)) r (rejectedText level reads listed (now (findings .entry)) (now (pairs .entry))) ⌝ }
 {
     let to = show::put_rejected(out, at, level, reads, listed);
-    let to = put_entries(Lines::ReadLines, findings, reads, out, to);
-    put_entries(Lines::PairLines, pairs, listed, out, to)
-}
-
-// ── lists ──
-
-// What a list's entries are printed as.
-enum Lines {
-    ReadLines,
-    PairLines,
-}
-
-// The lines of the first n entries of a list.
-fn put_entries(lines: Lines, list: &[u8], n: usize, out: &mut [u8], at: usize) -> usize
-    requires { ⌜ (width lines * n ≤ length (now list)) × Short at (listText lines (now list) n) ⌝ }
-    ensures { λ r. ⌜ Put (now (out .entry)) at (now (out .exit)) r (listText lines (now (list .entry)) n) ⌝ }
-{
-    let mut to = at;
-    let mut i = 0;
-    while i < n {
-        to = put_entry(lines, list, i, out, to);
-        i += 1;
-    }
-    to
-}
-
-// The line of a list's entry i.
-fn put_entry(lines: Lines, list: &[u8], i: usize, out: &mut [u8], at: usize) -> usize
-    requires { ⌜ (width lines * i + width lines ≤ length (now list)) × Short at (entryLine lines (now list) i) ⌝ }
-    ensures { λ r. ⌜ Put (now (out .entry)) at (now (out .exit)) r (entryLine lines (now (list .entry)) i) ⌝ }
-{
-    match lines {
-        Lines::ReadLines => put_finding(list, i, out, at),
-        Lines::PairLines => put_listed(list, i, out, at),
-    }
-}
-
-// `read T OP KIND WRITE`
-fn put_finding(findings: &[u8], i: usize, out: &mut [u8], at: usize) -> usize
-    requires { ⌜ (6 * i + 6 ≤ length (now findings)) × Short at (entryLine ReadLines (now findings) i) ⌝ }
-    ensures { λ r. ⌜ Put (now (out .entry)) at (now (out .exit)) r (entryLine ReadLines (now (findings .entry)) i) ⌝ }
-{
-    let t = number_at(findings, 6 * i);
-    let kind = number_at(findings, 6 * i + 1);
-    let op = number2_at(findings, 6 * i + 2);
-    let write = number2_at(findings, 6 * i + 4);
-    show::put_read(out, at, t, op, kind, write)
-}
-
-// `pair A B REASONS`
-fn put_listed(pairs: &[u8], i: usize, out: &mut [u8], at: usize) -> usize
-    requires { ⌜ (4 * i + 4 ≤ length (now pairs)) × Short at (entryLine PairLines (now pairs) i) ⌝ }
-    ensures { λ r. ⌜ Put (now (out .entry)) at (now (out .exit)) r (entryLine PairLines (now (pairs .entry)) i) ⌝ }
-{
-    let a = number_at(pairs, 4 * i);
-    let b = number_at(pairs, 4 * i + 1);
-    let reasons = number_at(pairs, 4 * i + 2);
-    show::put_pair(out, at, a, b, reasons)
-}
-
-// A list's byte as a number.
-fn number_at(list: &[u8], i: usize) -> usize
-    requires { ⌜ i < length (now list) ⌝ }
-    ensures { λ r. ⌜ (r ≡ getD (now (list .entry)) i 0) × (r < 256) ⌝ }
-{
-    list[i] as usize
-}
-
-// Two bytes of a list as a number, little-endian.
-fn number2_at(list: &[u8], i: usize) -> usize
-    requires { ⌜ i + 2 ≤ length (now list) ⌝ }
-    ensures { λ r. ⌜ r ≡ le 2 (now (list .entry)) i ⌝ }
-{
-    number_at(list, i) + 256 * number_at(list, i + 1)
+    let to = entries::put_entries(Lines::ReadLines, findings, reads, out, to);
+    entries::put_entries(Lines::PairLines, pairs, listed, out, to)
 }

@@ -2,7 +2,7 @@
 // ends. Every other byte stays as it was.
 ghost use mathlib.Core.List.{[], _∷_, _++_};
 ghost use Prim.Native.Nat.{_+_, _<_};
-ghost use Rattle.text.specs.Lines.{decimal, field, fields, line, levelWord, refusedLine, rejectedLine, acceptedLine, readLine, pairLine, notesLine};
+ghost use Rattle.text.specs.Lines.{decimal, field, fields, line, levelWord, refusedLine, rejectedLine, acceptedLine, readLine, notesLine};
 ghost use Rattle.show.specs.Laid.{Put, Short};
 
 fn put_byte(out: &mut [u8], at: usize, b: u8) -> usize
@@ -118,7 +118,7 @@ fn put_verdict(out: &mut [u8], at: usize, level: u8, word: &[u8]) -> usize
     put_word(out, to, word)
 }
 
-// A line of a word alone; of a word and one number; of a word and two.
+// A line of a word alone; of a word and one number; of a word and two; and three.
 pub fn put_plain(out: &mut [u8], at: usize, word: &[u8]) -> usize
     requires { ⌜ Short at (line (now word) []) ⌝ }
     ensures { λ r. ⌜ Put (now (out .entry)) at (now (out .exit)) r (line (now (word .entry)) []) ⌝ }
@@ -141,6 +141,21 @@ pub fn put_two_numbers(out: &mut [u8], at: usize, word: &[u8], a: usize, b: usiz
 {
     let to = put_word(out, at, word);
     put_two(out, to, a, b)
+}
+
+pub fn put_three_numbers(
+    out: &mut [u8],
+    at: usize,
+    word: &[u8],
+    a: usize,
+    b: usize,
+    c: usize,
+) -> usize
+    requires { ⌜ Short at (line (now word) (a ∷ b ∷ c ∷ [])) ⌝ }
+    ensures { λ r. ⌜ Put (now (out .entry)) at (now (out .exit)) r (line (now (word .entry)) (a ∷ b ∷ c ∷ [])) ⌝ }
+{
+    let to = put_word(out, at, word);
+    put_three(out, to, a, b, c)
 }
 
 // `refused NO PLACE`
@@ -176,15 +191,6 @@ pub fn put_read(out: &mut [u8], at: usize, tx: usize, op: usize, kind: usize, wr
     let to = put_word(out, at, b"read");
     let to = put_field(out, to, tx);
     put_three(out, to, op, kind, write)
-}
-
-// `pair A B REASONS`
-pub fn put_pair(out: &mut [u8], at: usize, a: usize, b: usize, reasons: usize) -> usize
-    requires { ⌜ Short at (pairLine a b reasons) ⌝ }
-    ensures { λ r. ⌜ Put (now (out .entry)) at (now (out .exit)) r (pairLine a b reasons) ⌝ }
-{
-    let to = put_word(out, at, b"pair");
-    put_three(out, to, a, b, reasons)
 }
 
 // `notes N`

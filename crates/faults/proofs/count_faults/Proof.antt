@@ -9,8 +9,8 @@ use Rattle.rules.specs.History.{opCount}
 use Rattle.appends_rules.specs.ListKinds.{isListFinding}
 use Rattle.appends_rules.specs.Appends.{listsIn}
 use Rattle.table.specs.Table.{historyOf}
-use Rattle.lists.specs.Lists.{entryAt}
-use Rattle.lists.proofs.Listings.{pick-most, count-on, counting-most}
+use Rattle.sifting.specs.Lists.{entryAt}
+use Rattle.sifting.proofs.Listings.{pick-most, count-on, counting-most}
 use Rattle.faults.proofs.Faults.{code-finding, faults-listed}
 use Rattle.faults.proofs.count_faults.Statement.{statement}
 use Rattle.faults.proofs.count_faults.Tie as tie

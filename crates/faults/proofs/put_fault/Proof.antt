@@ -1,7 +1,7 @@
 use native.Mathlib.Omega.{arith}
 use borrow.Author.Needs.{needs}
 use Rattle.base.proofs.Fill.{appended-length, appended-then}
-use Rattle.lists.proofs.Listings.{left-out}
+use Rattle.sifting.proofs.Listings.{left-out}
 use Rattle.elements.proofs.Lists.{at-length}
 use Rattle.grading.proofs.Spots.{list-found}
 use Rattle.faults.specs.Faults.{findingIn}

@@ -2,8 +2,8 @@ use mathlib.Core.Path.{refl, sym, _∙_}
 use borrow.Author.Needs.{needs}
 use Rattle.rules.proofs.Forced.{placed-iff}
 use Rattle.causal.proofs.Given.{fresh}
-use Rattle.lists.proofs.Sifted.{listed-under}
-use Rattle.lists.proofs.Levels.{told-listing}
+use Rattle.sifting.proofs.Sifted.{listed-under}
+use Rattle.sifting.proofs.Levels.{told-listing}
 use Rattle.forcing.proofs.Forced.{forced-below}
 use Rattle.judging.proofs.Forced.{forced-under, judging}
 use Rattle.judging.proofs.Lists.{listed-rejects}

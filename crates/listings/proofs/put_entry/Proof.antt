@@ -2,8 +2,8 @@ use native.Mathlib.Omega.{arith}
 use borrow.Author.Needs.{needs}
 use Rattle.base.proofs.Fill.{appended-length, appended-then}
 use Rattle.base.proofs.Tests.{denied, granted}
-use Rattle.lists.specs.Lists.{entryFor}
-use Rattle.lists.proofs.Listings.{left-out, put-in, room-for}
+use Rattle.sifting.specs.Lists.{entryFor}
+use Rattle.sifting.proofs.Listings.{left-out, put-in, room-for}
 use Rattle.listings.proofs.put_entry.Statement.{statement}
 use Rattle.listings.proofs.put_entry.Tie as tie
 

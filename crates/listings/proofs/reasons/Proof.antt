@@ -1,6 +1,6 @@
 use native.Mathlib.Omega.{arith}
 use borrow.Author.Needs.{needs}
-use Rattle.lists.proofs.Listings.{pick-most}
+use Rattle.sifting.proofs.Listings.{pick-most}
 use Rattle.listings.specs.Listings.{depReasonsIn}
 use Rattle.listings.proofs.reasons.Statement.{statement}
 use Rattle.listings.proofs.reasons.Tie as tie

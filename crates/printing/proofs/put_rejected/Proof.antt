@@ -1,5 +1,6 @@
 use Rattle.show.proofs.Laws.{first-short, then-short, put-then}
-use Rattle.printing.specs.Printing.{width, rejectedText}
+use Rattle.entries.specs.Entries.{width}
+use Rattle.printing.specs.Printing.{rejectedText}
 use borrow.Author.Needs.{needs}
 use Rattle.printing.proofs.put_rejected.Statement.{statement}
 use Rattle.printing.proofs.put_rejected.Tie as tie

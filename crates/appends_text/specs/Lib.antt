@@ -1,0 +1,3 @@
+pub mod ListsText
+pub mod TextCases
+pub mod Told

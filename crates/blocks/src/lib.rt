@@ -1,6 +1,7 @@
 // A history's transactions, one after the other, put into a lent buffer as steps or as records. They are put from the last event backwards, since a
 // transaction's operations are reached from its last one down: each function puts its bytes before a place and answers where they start. Every other byte
 // stays as it was.
+#![tactic(auto)]
 ghost use Rattle.std.specs.Prelude.{◌≡◌, ◌+◌, false, [], ◌∷◌};
 ghost use Rattle.rules.specs.History.{tx, op, op_count, is_open};
 ghost use Rattle.rules.proofs.Singles.{ReadsSingle};

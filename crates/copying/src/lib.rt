@@ -1,4 +1,5 @@
 // Bytes copied from one lent buffer to another.
+#![tactic(auto)]
 ghost use Rattle.std.specs.Prelude.{◌≤◌, length, take};
 ghost use Rattle.base.proofs.Fill.{Appended};
 

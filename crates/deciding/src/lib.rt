@@ -1,4 +1,5 @@
 // What the calls for the index daemon answer. specs/ gives each case its number; nothing here computes.
+#![tactic(auto)]
 
 // What becomes of a replica.
 #[derive(Drop)]

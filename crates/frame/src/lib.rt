@@ -1,4 +1,6 @@
 // One record of a trace: its fields, the framing checks in the document's order, and what its payload says.
+#![tactic(auto)]
+
 ghost use Rattle.std.specs.Prelude.{◌≡◌, true, false, ◌+◌, ◌≤◌, ◌<◌, length, get_or, ltb};
 ghost use Rattle.base.specs.Base.{◌or◌, first_fit};
 ghost use Rattle.rules.specs.Numbers.{le};

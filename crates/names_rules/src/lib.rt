@@ -1,4 +1,5 @@
 // The answers about names files that code and definitions share. specs/ says what they mean; nothing here computes.
+#![tactic(auto)]
 
 // What comes of checking a names file: it is lawful; or it is refused, with the refusal's number and place.
 #[derive(Drop)]

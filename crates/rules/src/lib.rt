@@ -1,4 +1,5 @@
 // The answers and events that code and definitions share. specs/ says what they mean; nothing here computes.
+#![tactic(auto)]
 
 // A record's kind with what its payload says, but for the session that an operation or a close of edition 2 has. A write's key is below 2^32 in a trace; an
 // append and a list read are held as writes to greater ones (specs/History.antt). Other is the record that says the edition, which does nothing to the

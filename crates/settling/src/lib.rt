@@ -1,6 +1,7 @@
 // Who counts as committed, worked out once, behind the reading: "Such a transaction counts as committed exactly if a transaction counted as committed, other
 // than itself, reads one of its values; the smallest such set is meant. All others count as aborted." Those that count get the table's mark. They also
 // stand in a queue, in the order in which they come to count, so that the reads of each are looked at once.
+#![tactic(auto)]
 ghost use Rattle.std.specs.Prelude.{◌≡◌, true, ◌+◌, ◌<◌, length};
 ghost use Rattle.rules.specs.History.{op};
 ghost use Rattle.table.specs.Table.{history_of, marked, Held, HasTx, HasOp};

@@ -2,6 +2,7 @@
 // printed: a program writes these, and nothing else. What they are is said in specs/, without a buffer; that stands here, since no crate below knows both the
 // lines (`text`) and the calls that write and move traces. Of the bytes behind the text nothing can be said, since a buffer whose part is handed back has no
 // exit; no program looks at them.
+#![tactic(auto)]
 ghost use Rattle.std.specs.Prelude.{true, false, ◌≡◌, ◌≤◌, length};
 ghost use Rattle.writing.specs.Filling.{said};
 ghost use Rattle.telling.specs.Telling.{given_text, rewritten_text, moved_text, notes_text};

@@ -1,4 +1,5 @@
 // Reads a trace from standard input and prints it, moved to edition 1.
+#![tactic(auto)]
 
 fn main() {
     // One byte more than a trace may have, so that a longer one is seen to be too long. Whatever stands behind, the text is the same (`kept-moved`,

@@ -1,4 +1,5 @@
 // Reads a trace from standard input and prints it, moved to edition 2; on standard error, how many notes it had.
+#![tactic(auto)]
 
 fn main() {
     // One byte more than a trace may have, so that a longer one is seen to be too long. Whatever stands behind, both texts are the same (`kept-moved`,

@@ -1,4 +1,5 @@
 // Reads a starting serial and steps from standard input and prints the trace that they make.
+#![tactic(auto)]
 
 fn main() {
     // The serial, and 1,279 steps at most: 127 opens, as many closes and 1,024 operations can pass, so the last of these is refused, if none before it is,

@@ -1,4 +1,5 @@
 // What the calls share which fill a lent buffer: their answer, and how an event is put. specs/ says what they mean; nothing here computes.
+#![tactic(auto)]
 
 // Refused, with the refusal's number and place; or filled, with the length of what was put at the buffer's front.
 #[derive(Drop)]

@@ -1,6 +1,7 @@
 // A call made on two traces that are alike: the one is the other, moved to another edition; or they differ only in their notes. Each function makes one call on
 // both, knows nothing of it but its contract, and promises what document 02 says of it for each trace, whatever they are, and what the two have in common.
 #![tactic(auto)]
+
 ghost use Rattle.alike_calls.specs.Alike.{JudgedBoth, ListsJudgedBoth, PrintedBoth, ListedBoth, RewrittenBoth, WholeBoth, MovedBoth, TalliedBoth, DecidedBoth, StrongestBoth, ClaimedBoth, NumberedBoth, LedBoth, LatestBoth};
 
 use appends::ListAnswer;

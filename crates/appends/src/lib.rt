@@ -1,6 +1,7 @@
 // The call on lists. A trace is read into the table h, with marks on those that count as committed. Row b of a table of pairs has the bits of what
 // stands before b; but where listed pairs are held, row a has the seconds of those whose first is a.
 #![tactic(auto)]
+
 ghost use Rattle.std.specs.Prelude.{◌≡◌, ◌+◌, ◌*◌, ◌≤◌, length};
 ghost use Rattle.table.specs.Table.{history_of, Settled};
 ghost use Rattle.bits.specs.Bits.{Holds};

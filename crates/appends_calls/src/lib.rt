@@ -1,6 +1,7 @@
 // Whoever has the lists of a trace judged has what document 02 promises. These functions know nothing of `appends::judge_lists` and of `judging::judge` but their
 // contracts: were one of those weaker, they would not be proved.
 #![tactic(auto)]
+
 ghost use Rattle.appends_rules.specs.ListOutcome.{list_outcome};
 ghost use Rattle.appends.specs.Answering.{list_reported};
 ghost use Rattle.appends_calls.specs.Calls.{ListsPromised, JudgedAndListed};

@@ -1,6 +1,7 @@
 // What the program `lists` prints. The text is handed back as the front of a lent buffer, just the bytes that are to be printed: the program writes these, and
 // nothing else.
 #![tactic(auto)]
+
 ghost use Rattle.std.specs.Prelude.{◌≡◌, ◌+◌, ◌*◌, ◌≤◌, length};
 ghost use Rattle.show.specs.Laid.{Put, Short};
 ghost use Rattle.appends_text.specs.ListsText.{lists_text};

@@ -1,5 +1,6 @@
 // Tables of bits: 128 rows of two words each, lent by the caller as 256 words.
 #![tactic(auto)]
+
 ghost use Rattle.std.specs.Prelude.{◌≡◌, ◌≤◌, ◌<◌, length};
 ghost use Rattle.base.specs.Base.{last};
 ghost use Rattle.theory.specs.Leads.{via};

@@ -2,6 +2,7 @@
 // transaction's operations are reached from its last one down: each function puts its bytes before a place and answers where they start. Every other byte
 // stays as it was.
 #![tactic(auto)]
+
 ghost use Rattle.std.specs.Prelude.{◌≡◌, ◌+◌, false, [], ◌∷◌};
 ghost use Rattle.rules.specs.History.{tx, op, op_count, is_open};
 ghost use Rattle.rules.proofs.Singles.{ReadsSingle};

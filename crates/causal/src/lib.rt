@@ -1,5 +1,6 @@
 // Level 3: what leads to what is read off vectors, where basic pairs form no cycle, and else off the closed table.
 #![tactic(auto)]
+
 ghost use Rattle.std.specs.Prelude.{◌≡◌, ◌<◌, length};
 ghost use Rattle.rules.specs.History.{size};
 ghost use Rattle.rules.specs.Levels.{basic};

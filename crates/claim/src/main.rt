@@ -1,5 +1,6 @@
 // Reads a trace from standard input and prints what is to be said of an order that is claimed for it: `claim LEVEL T.. < trace`.
 #![tactic(auto)]
+
 ghost use Rattle.std.specs.Prelude.{◌<◌, ◌≤◌};
 
 // One entry more than a claim with the right members can have: a longer claim is answered as its first 129 are (`kept_claim`, claims_text/proofs/Kept.antt).

@@ -1,5 +1,6 @@
 // Orders from elsewhere: a trace, a level and an order that somebody claims in; yes, or the first reason why not, out. Nothing is written.
 #![tactic(auto)]
+
 ghost use Rattle.std.specs.Prelude.{true, ◌≡◌, ℕ, ◌≤◌, ◌<◌, eqb, length};
 ghost use Rattle.base.specs.Base.{first};
 ghost use Rattle.theory.specs.Order.{place};

@@ -1,6 +1,7 @@
 // Whoever asks about a claimed order has what document 02 promises. These functions know nothing of `claims::claim`, of what prints its answer, of
 // `ferozhak::ferozhak_claim` and of `judging::judge` but their contracts: were one of those weaker, they would not be proved.
 #![tactic(auto)]
+
 ghost use Rattle.std.specs.Prelude.{◌≡◌};
 ghost use Rattle.claims_laws.specs.Told.{ClaimPrinted, ClaimNumbered};
 ghost use Rattle.claims_calls.specs.Calls.{ClaimPromised, JudgedAndClaimed, ShownClaimed, ClaimedAtLevels, shown_length};

@@ -1,6 +1,7 @@
 // What the program `claim` prints, and what the words mean that it is called with. The text is handed back as the front of a lent buffer, just the bytes that
 // are to be printed: the program writes these, and nothing else.
 #![tactic(auto)]
+
 ghost use Rattle.std.specs.Prelude.{true, ◌≡◌, ◌<◌, length};
 ghost use Rattle.base.specs.Base.{some};
 ghost use Rattle.text.specs.Digits.{denoted};

@@ -1,5 +1,6 @@
 // The columns of a table of vectors: a transaction's column is the number of its session's first transaction.
 #![tactic(auto)]
+
 ghost use Rattle.std.specs.Prelude.{◌≡◌, ◌+◌, ◌≤◌, ◌<◌};
 ghost use Rattle.base.specs.Base.{last};
 ghost use Rattle.table.specs.Table.{history_of, HasTx, Settled};

@@ -1,5 +1,6 @@
 // Bytes copied from one lent buffer to another.
 #![tactic(auto)]
+
 ghost use Rattle.std.specs.Prelude.{◌≤◌, length, take};
 ghost use Rattle.base.proofs.Fill.{Appended};
 

@@ -1,5 +1,6 @@
 // One list read: its elements, read from the trace where its record stands, and what is at fault with them.
 #![tactic(auto)]
+
 ghost use Rattle.std.specs.Prelude.{◌≡◌, ◌+◌, ◌*◌, ◌≤◌, ◌<◌, length};
 ghost use Rattle.rules.specs.History.{op, op_count};
 ghost use Rattle.rules.specs.Records.{number_at};

@@ -1,6 +1,7 @@
 // The lines of a list's entries, from the bytes that it has in a buffer: of findings and of pairs, each sort of pairs with its own word. Each function puts its
 // text at `at`, as far as the buffer `out` reaches, and answers where the text ends.
 #![tactic(auto)]
+
 ghost use Rattle.std.specs.Prelude.{◌≡◌, ◌+◌, ◌*◌, ◌≤◌, ◌<◌, length, get_or};
 ghost use Rattle.rules.specs.Numbers.{le};
 ghost use Rattle.show.specs.Laid.{Put, Short};

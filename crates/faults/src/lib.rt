@@ -1,5 +1,6 @@
 // The findings of the call on lists, each with the append that it ends with.
 #![tactic(auto)]
+
 ghost use Rattle.std.specs.Prelude.{◌≡◌, ◌+◌, ◌*◌, ◌≤◌, ◌<◌, length};
 ghost use Rattle.base.specs.Base.{first};
 ghost use Rattle.base.proofs.Fill.{Appended};

@@ -1,6 +1,7 @@
 // The calls for C programs, the index daemon first: numbers and byte slices in, a number out. They know nothing of the judge and of claims but their contracts.
 // include/ferozhak.h has them as C sees them.
 #![tactic(auto)]
+
 ghost use Rattle.std.specs.Prelude.{◌≡◌, ℕ, ◌≤◌, List, length};
 ghost use Rattle.base.proofs.Fill.{Appended};
 ghost use Rattle.rules.specs.Outcome.{reported};

@@ -1,6 +1,7 @@
 // From a trace to the pairs that a level forces: what whoever judges it, or an order that is claimed for it, begins with. Nothing is closed here but, at level 3,
 // basic pairs that form a cycle.
 #![tactic(auto)]
+
 ghost use Rattle.std.specs.Prelude.{◌≡◌, ◌+◌, ◌≤◌, ◌<◌, length};
 ghost use Rattle.base.specs.Base.{pick, count};
 ghost use Rattle.rules.specs.History.{size, committed};

@@ -1,5 +1,6 @@
 // What each list read is, worked out once, in order: a number for each operation.
 #![tactic(auto)]
+
 ghost use Rattle.std.specs.Prelude.{◌≡◌, not, ℕ, ◌+◌, ◌<◌, length};
 ghost use Rattle.base.specs.Base.{pick};
 ghost use Rattle.table.specs.Table.{history_of, HasOp, HasList, Settled};

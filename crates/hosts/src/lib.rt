@@ -1,6 +1,7 @@
 // Whoever calls the writer has what document 02 promises. These functions know nothing of `maker::write_trace`, `lister::list_steps` and the calls of
 // `rewriting` and `telling` but their contracts: were one of those weaker, they would not be proved.
 #![tactic(auto)]
+
 ghost use Rattle.written.specs.Writes.{WritesTrace};
 ghost use Rattle.written.specs.Lists.{ListsSteps};
 ghost use Rattle.written.specs.Rewrites.{RewritesTrace, RewritesWhole};

@@ -1,6 +1,7 @@
 // Whoever decides by the two calls has what document 02 promises. These functions know nothing of `ferozhak::ferozhak_decide` and `ferozhak::ferozhak_strongest`
 // but their contracts: were one of those weaker, they would not be proved.
 #![tactic(auto)]
+
 ghost use Rattle.std.specs.Prelude.{◌≤◌, length};
 ghost use Rattle.decided.specs.Decides.{Decides, DecidesOutright};
 ghost use Rattle.decided.specs.Strongest.{StrongestIs};

@@ -1,5 +1,6 @@
 // The judge: a trace, a level and three lent buffers in; the answer out, and the buffers as the definition's outcome says.
 #![tactic(auto)]
+
 ghost use Rattle.std.specs.Prelude.{◌≡◌, List, [], ℕ, ◌+◌, ◌≤◌, ◌<◌, length};
 ghost use Rattle.theory.specs.Leads.{via};
 ghost use Rattle.rules.specs.History.{History, size, committed};

@@ -2,6 +2,7 @@
 // different keys of a bucket are read, it has the bits of those that write any of the bucket's keys: so a transaction without the bit does not write the key
 // that is read, and one with it may; where the bucket is not shared so, it does.
 #![tactic(auto)]
+
 ghost use Rattle.std.specs.Prelude.{◌≡◌, List, ℕ, ◌+◌, ◌<◌, length};
 ghost use Rattle.rules.specs.History.{op};
 ghost use Rattle.table.specs.Table.{history_of, Held, HasOp};

@@ -1,5 +1,6 @@
 // A trace turned into steps: its history goes into a table, and from there into a lent buffer, sixteen bytes a step.
 #![tactic(auto)]
+
 ghost use Rattle.std.specs.Prelude.{◌≡◌};
 ghost use Rattle.table.specs.Table.{history_of, Held};
 ghost use Rattle.writing.specs.Filling.{said, fill_of, content, into};

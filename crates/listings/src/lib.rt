@@ -1,6 +1,7 @@
 // The listed pairs of any relation that a table holds, and the list of them with the reasons of dependencies. Row b of a table has the bits of what stands
 // before b: w has write dependencies, r read dependencies.
 #![tactic(auto)]
+
 ghost use Rattle.std.specs.Prelude.{◌≡◌, ◌+◌, ◌*◌, ◌≤◌, ◌<◌, length};
 ghost use Rattle.base.proofs.Fill.{Appended};
 ghost use Rattle.bits.specs.Bits.{bit_of, Under};

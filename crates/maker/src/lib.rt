@@ -1,5 +1,6 @@
 // A trace from steps: the steps are followed into a table, as a reading's records are; then, if no row refuses, a record is put for each.
 #![tactic(auto)]
+
 ghost use Rattle.std.specs.Prelude.{◌≡◌, ◌+◌, ◌*◌, ◌<◌, ◌≤◌, length};
 ghost use Rattle.base.proofs.Fill.{Appended};
 ghost use Rattle.rules.specs.History.{tx_count, op_count};

@@ -1,5 +1,6 @@
 // Row 17, "a key with single values and lists". An index of keys stands beside the table h, so that no check looks through all earlier operations.
 #![tactic(auto)]
+
 ghost use Rattle.std.specs.Prelude.{◌≡◌, ◌<◌, replicate};
 ghost use Rattle.rules.specs.History.{is_single, is_other_sort};
 ghost use Rattle.table.specs.Table.{history_of, Held, HasOp, Below};

@@ -1,5 +1,6 @@
 // A trace moved from one edition to the other: its history goes into a table, and from there, transaction by transaction, into a lent buffer.
 #![tactic(auto)]
+
 ghost use Rattle.std.specs.Prelude.{◌≡◌, true, false, ◌≤◌, length};
 ghost use Rattle.rules.specs.History.{tx_count, op_count};
 ghost use Rattle.rules.specs.Records.{serial_at, is_second};

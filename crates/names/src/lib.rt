@@ -1,5 +1,6 @@
 // Names in place of numbers: a names file checked and indexed, and a key's name handed back as a part of the file that has it.
 #![tactic(auto)]
+
 ghost use Rattle.std.specs.Prelude.{◌≤◌, ◌<◌, ◌≡◌, length, get_or, ltb};
 ghost use Rattle.base.specs.Base.{some, pick};
 ghost use Rattle.names_rules.specs.Names.{key_at, is_odd, name_no, checked, record_with, IndexOf, Indexes, refusal, place_in, place_of, bytes_at, memory_at, PlaceWithin};

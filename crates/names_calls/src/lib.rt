@@ -1,6 +1,7 @@
 // Whoever asks for names has what document 02 promises. These functions know nothing of the calls of `names`, `names_text` and `printing` but their contracts:
 // were one of those weaker, they would not be proved.
 #![tactic(auto)]
+
 ghost use Rattle.std.specs.Prelude.{◌≤◌, length};
 ghost use Rattle.demands.specs.Printed.{PrintsTo, TextPutTo};
 ghost use Rattle.names_laws.specs.Names.{FilesSay, HandsBack};

@@ -1,5 +1,6 @@
 // What the programs print of names: how a `read` line ends, and what is said of a file that is refused.
 #![tactic(auto)]
+
 ghost use Rattle.std.specs.Prelude.{◌≡◌, [], ◌≤◌, length};
 ghost use Rattle.show.specs.Laid.{Put, Short};
 ghost use Rattle.names_rules.specs.Names.{IndexOf};

@@ -1,5 +1,6 @@
 // The order: each next place has the smallest number not yet placed whose forced predecessors all are; the rest is ordered by the same rule.
 #![tactic(auto)]
+
 ghost use Rattle.std.specs.Prelude.{◌≡◌, [], not, ◌+◌, ◌≤◌, ◌<◌, length, take};
 ghost use Rattle.base.specs.Base.{some, first};
 ghost use Rattle.base.proofs.Fill.{Appended};

@@ -1,5 +1,6 @@
 // "Basic pairs, always forced": start, session and read. A table of pairs is kept by predecessor: row b has the bits of what stands before b.
 #![tactic(auto)]
+
 ghost use Rattle.std.specs.Prelude.{◌≡◌, ◌+◌, ◌<◌, length};
 ghost use Rattle.rules.specs.History.{size};
 ghost use Rattle.rules.specs.Levels.{is_start, is_session, is_read, basic};

@@ -1,5 +1,6 @@
 // Judges a trace at the three levels and puts the text of its answer into a lent buffer: what the programs share.
 #![tactic(auto)]
+
 ghost use Rattle.std.specs.Prelude.{◌≡◌, ◌*◌, ◌≤◌, length};
 ghost use Rattle.text.specs.Answer.{block_text, answer_text};
 ghost use Rattle.table.specs.Table.{history_of};

@@ -1,6 +1,7 @@
 // Numbers, records and steps as bytes, put into a lent buffer. Each function puts its bytes at `at` and answers where they end. Every other byte
 // stays as it was.
 #![tactic(auto)]
+
 ghost use Rattle.std.specs.Prelude.{◌≡◌, ◌++◌, ◌+◌, ◌≤◌, length};
 ghost use Rattle.base.proofs.Fill.{Appended};
 ghost use Rattle.rules.specs.Numbers.{bytes};

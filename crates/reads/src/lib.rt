@@ -1,4 +1,5 @@
 #![tactic(auto)]
+
 ghost use Rattle.std.specs.Prelude.{◌≡◌, ◌+◌, ◌≤◌, ◌<◌, length};
 ghost use Rattle.rules.specs.History.{op, tx_count, op_count, origin_of, source_of, committed};
 ghost use Rattle.rules.specs.Reads.{wrote_between, kind_by, kind_of};

@@ -1,5 +1,6 @@
 // A trace read and written again: it is turned into steps, and a trace is made of these.
 #![tactic(auto)]
+
 ghost use Rattle.std.specs.Prelude.{◌≡◌, ◌≤◌, length, take};
 ghost use Rattle.rules.specs.Records.{serial_at};
 ghost use Rattle.writing.specs.Filling.{fill_of, said, Gives};

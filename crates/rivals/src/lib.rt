@@ -1,6 +1,7 @@
 // "Take a clean external read of x in t3 from t1, and a rival t2 that writes x and is neither t1 nor t3. The level adds the pair t2 before t1 when" t3 sees
 // t2 in the level's own way. A table of pairs is kept by predecessor: row t1 has the bits of the rivals before t1.
 #![tactic(auto)]
+
 ghost use Rattle.std.specs.Prelude.{◌≡◌, true, List, ℕ, ◌+◌, ◌≤◌, ◌<◌, length, get_or, eqb};
 ghost use Rattle.base.specs.Base.{pick, last};
 ghost use Rattle.rules.specs.History.{op, tx_count};

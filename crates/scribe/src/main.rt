@@ -2,6 +2,7 @@
 // given, 2 bytes little-endian each; and what is given. Each answer, or the line of a refusal, stands behind its length, 2 bytes little-endian; behind an answer to
 // `2` stands the number of notes, 2 bytes little-endian, 0 with a refusal.
 #![tactic(auto)]
+
 ghost use Rattle.std.specs.Prelude.{◌≤◌, length};
 ghost use Rattle.writing.specs.Filling.{said};
 ghost use Rattle.moving.specs.Tally.{filled_of};

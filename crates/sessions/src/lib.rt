@@ -1,6 +1,7 @@
 // Which transaction is open in each session of an edition 2 trace, and the step of any event of it. The bytes o say it beside the table h, so that
 // no call looks at all transactions but that of an end record.
 #![tactic(auto)]
+
 ghost use Rattle.std.specs.Prelude.{◌≡◌, true, ◌+◌, ◌<◌, length, get_or};
 ghost use Rattle.rules.specs.History.{tx_count, is_open, open_of, any_open};
 ghost use Rattle.rules.specs.Reading.{is_end, met_in};

@@ -2,6 +2,7 @@
 // than itself, reads one of its values; the smallest such set is meant. All others count as aborted." Those that count get the table's mark. They also
 // stand in a queue, in the order in which they come to count, so that the reads of each are looked at once.
 #![tactic(auto)]
+
 ghost use Rattle.std.specs.Prelude.{◌≡◌, true, ◌+◌, ◌<◌, length};
 ghost use Rattle.rules.specs.History.{op};
 ghost use Rattle.table.specs.Table.{history_of, marked, Held, HasTx, HasOp};

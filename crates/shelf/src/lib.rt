@@ -1,6 +1,7 @@
 // Whoever moves a trace has what document 02 promises. These functions know nothing of `mover::to_edition_1`, `mover::to_edition_2`, `judging::judge` and the
 // calls of `telling` but their contracts: were one of those weaker, they would not be proved.
 #![tactic(auto)]
+
 ghost use Rattle.std.specs.Prelude.{◌≡◌, true, false, ◌≤◌, length, take};
 ghost use Rattle.rules.specs.Outcome.{reported, outcome, judged};
 ghost use Rattle.writing.specs.Filling.{said, Gives};

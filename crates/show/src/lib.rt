@@ -1,6 +1,7 @@
 // The lines that the programs print, put into a lent buffer. Each function puts its text at `at`, as far as the buffer reaches, and answers where the text
 // ends. Every other byte stays as it was.
 #![tactic(auto)]
+
 ghost use Rattle.std.specs.Prelude.{[], ◌∷◌, ◌++◌, ◌+◌, ◌<◌};
 ghost use Rattle.text.specs.Lines.{decimal, field, fields, line, level_word, refused_line, rejected_line, accepted_line, read_line, notes_line};
 ghost use Rattle.show.specs.Laid.{Put, Short};

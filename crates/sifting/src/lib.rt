@@ -1,5 +1,6 @@
 // The two lists of a rejection: what was found in reads, and the pairs that no order can keep.
 #![tactic(auto)]
+
 ghost use Rattle.std.specs.Prelude.{◌≡◌, List, ◌∷◌, [], ℕ, ◌+◌, ◌*◌, ◌/◌, ◌%◌, ◌≤◌, ◌<◌, length};
 ghost use Rattle.base.specs.Base.{pick, first};
 ghost use Rattle.base.proofs.Fill.{Appended};

@@ -1,5 +1,6 @@
 // What an event does to the history in the table h, or the row, 7 to 10, that refuses it.
 #![tactic(auto)]
+
 ghost use Rattle.std.specs.Prelude.{◌≡◌, ltb, leb, ◌+◌, ◌≤◌, ◌<◌};
 ghost use Rattle.base.specs.Base.{first_fit};
 ghost use Rattle.rules.specs.History.{current as latest, tx_count, op_count, write_of};

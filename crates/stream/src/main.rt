@@ -1,5 +1,6 @@
 // Judges many traces in one run. Standard input has each trace behind its length, 2 bytes little-endian; a line `--` follows each answer.
 #![tactic(auto)]
+
 ghost use Rattle.std.specs.Prelude.{◌≡◌, ◌<◌, ◌≤◌, length};
 
 fn main() {

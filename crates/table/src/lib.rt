@@ -1,4 +1,5 @@
 #![tactic(auto)]
+
 ghost use Rattle.std.specs.Prelude.{◌≡◌, ◌+◌, ◌<◌, length, true, false};
 ghost use Rattle.rules.specs.History.{tx, op, tx_count, op_count, empty, opened, closed, with_op, writes_value, write_of, origin_of};
 ghost use Rattle.table.specs.Table.{table_words, history_of, marked, last_of, prev_of, bucket_of, head_of, link_of, Held, HasTx, HasOp, HasWrite, HasList, prev_list, Below, Becomes, cleared, put_tx, close_tx, mark_tx, put_words, put_op};

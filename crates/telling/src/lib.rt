@@ -3,6 +3,7 @@
 // lines (`text`) and the calls that write and move traces. Of the bytes behind the text nothing can be said, since a buffer whose part is handed back has no
 // exit; no program looks at them.
 #![tactic(auto)]
+
 ghost use Rattle.std.specs.Prelude.{true, false, ◌≡◌, ◌≤◌, length};
 ghost use Rattle.writing.specs.Filling.{said};
 ghost use Rattle.telling.specs.Telling.{given_text, rewritten_text, moved_text, notes_text};

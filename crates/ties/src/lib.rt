@@ -1,6 +1,7 @@
 // The tables of write and of read dependencies. Every clean list of a key begins the longest one, so that its neighbours are neighbours there: none has to be
 // told apart.
 #![tactic(auto)]
+
 ghost use Rattle.std.specs.Prelude.{◌≡◌, ◌+◌, ◌<◌, length};
 ghost use Rattle.rules.specs.History.{tx_count};
 ghost use Rattle.table.specs.Table.{history_of, HasOp, Below};

@@ -1,5 +1,6 @@
 // The whole reading of a trace: its history goes into the table h, and its notes are counted.
 #![tactic(auto)]
+
 ghost use Rattle.std.specs.Prelude.{◌≡◌, ◌+◌, ◌<◌, true, false, length};
 ghost use Rattle.base.specs.Base.{◌or◌};
 ghost use Rattle.rules.specs.Records.{is_second};

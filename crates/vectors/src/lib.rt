@@ -1,5 +1,6 @@
 // Vectors in a table of 128 rows of 128 bytes: row t, column s has the latest of that column's session that t knows, and for t's own column t itself.
 #![tactic(auto)]
+
 ghost use Rattle.std.specs.Prelude.{◌≡◌, ◌<◌, ◌≤◌, length};
 ghost use Rattle.order.specs.declared.Words.{Words};
 ghost use Rattle.vectors_rules.specs.Latest.{greater};

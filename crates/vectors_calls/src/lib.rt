@@ -1,6 +1,7 @@
 // Request Nine's vectors, asked of a trace: functions that read it, make the step of level 3, and promise the request's words of what they answer. Any two
 // numbers may be asked for: one past the last transaction leads nowhere.
 #![tactic(auto)]
+
 ghost use Rattle.std.specs.Prelude.{◌≡◌, ◌<◌, ◌≤◌};
 ghost use Rattle.base.specs.Base.{some};
 ghost use Rattle.rules.specs.Levels.{leads};

@@ -13,7 +13,7 @@ use writing::Filled;
 
 // ── the judge ──
 
-#[derive(Drop)]
+#[derive(Clone, Copy)]
 pub struct TwoAnswers {
     pub one: Answer,
     pub other: Answer,
@@ -41,7 +41,7 @@ pub fn judged_both(
     }
 }
 
-#[derive(Drop)]
+#[derive(Clone, Copy)]
 pub struct TwoLengths {
     pub one: usize,
     pub other: usize,
@@ -61,7 +61,7 @@ pub fn printed_both(trace: &[u8], other: &[u8], out: &mut [u8], out2: &mut [u8])
 
 // ── the calls for C ──
 
-#[derive(Drop)]
+#[derive(Clone, Copy)]
 pub struct TwoNumbers {
     pub one: u32,
     pub other: u32,
@@ -105,7 +105,7 @@ pub fn strongest_both(trace: &[u8], other: &[u8]) -> TwoNumbers
 
 // ── orders from elsewhere ──
 
-#[derive(Drop)]
+#[derive(Clone, Copy)]
 pub struct TwoClaims {
     pub one: ClaimAnswer,
     pub other: ClaimAnswer,
@@ -144,7 +144,7 @@ pub fn claims_numbered_both(
 
 // ── the call on lists ──
 
-#[derive(Drop)]
+#[derive(Clone, Copy)]
 pub struct TwoLists {
     pub one: ListAnswer,
     pub other: ListAnswer,
@@ -171,7 +171,7 @@ pub fn lists_judged_both(
 
 // ── the calls for vectors ──
 
-#[derive(Drop)]
+#[derive(Clone, Copy)]
 pub struct TwoLedBy {
     pub one: LedBy,
     pub other: LedBy,
@@ -189,7 +189,7 @@ pub fn led_both(trace: &[u8], other: &[u8], a: usize, b: usize) -> TwoLedBy
     }
 }
 
-#[derive(Drop)]
+#[derive(Clone, Copy)]
 pub struct TwoEntries {
     pub one: Entry,
     pub other: Entry,
@@ -209,7 +209,7 @@ pub fn latest_both(trace: &[u8], other: &[u8], t: usize, a: usize) -> TwoEntries
 
 // ── the calls that fill a buffer ──
 
-#[derive(Drop)]
+#[derive(Clone, Copy)]
 pub struct TwoFills {
     pub one: Filled,
     pub other: Filled,
@@ -270,7 +270,7 @@ pub fn moved_both_1(trace: &[u8], other: &[u8], out: &mut [u8], out2: &mut [u8])
     }
 }
 
-#[derive(Drop)]
+#[derive(Clone, Copy)]
 pub struct TwoTallies {
     pub one: Tallied,
     pub other: Tallied,

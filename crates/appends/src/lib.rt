@@ -15,7 +15,7 @@ ghost use Rattle.appends.specs.Answering.{list_reported, BothListed, Worked, Put
 use trace::Out;
 
 // Refused, with the refusal's number and place; or the counts of findings, of pairs over write dependencies, and of pairs over both.
-#[derive(Drop)]
+#[derive(Clone, Copy)]
 pub enum ListAnswer {
     Refused(u8, usize),
     Told(usize, usize, usize),

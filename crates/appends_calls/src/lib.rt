@@ -30,7 +30,7 @@ pub fn printed_lists<'a>(trace: &[u8], text: &'a mut [u8; 655360]) -> &'a [u8]
 // ── the judge and the call on lists ──
 
 // What the judge answers of a trace, and what is said of its lists.
-#[derive(Drop)]
+#[derive(Clone, Copy)]
 pub struct JudgedLists {
     pub judged: Answer,
     pub listed: ListAnswer,

@@ -15,7 +15,7 @@ use rules::Event;
 use writing::Form;
 
 // Where something starts or is to end, and how many events stand before it.
-#[derive(Drop)]
+#[derive(Clone, Copy)]
 pub struct Place {
     pub at: usize,
     pub count: u32,

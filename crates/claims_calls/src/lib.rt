@@ -35,7 +35,7 @@ pub fn printed_claim<'a>(trace: &[u8], level: u8, order: &[u8], line: &'a mut [u
 // ── the judge and a claim ──
 
 // What the judge answers of a trace, and what is said of an order that is claimed for it.
-#[derive(Drop)]
+#[derive(Clone, Copy)]
 pub struct JudgedClaim {
     pub judged: Answer,
     pub claimed: ClaimAnswer,
@@ -93,7 +93,7 @@ pub fn claim_shown(
 // ── two levels ──
 
 // What is said of one claim at two levels.
-#[derive(Drop)]
+#[derive(Clone, Copy)]
 pub struct TwoLevels {
     pub stronger: ClaimAnswer,
     pub weaker: ClaimAnswer,

@@ -2,7 +2,7 @@
 #![tactic(auto)]
 
 // What becomes of a replica.
-#[derive(Drop)]
+#[derive(Clone, Copy)]
 pub enum Decision {
     Promote,
     Hold,
@@ -10,7 +10,7 @@ pub enum Decision {
 }
 
 // The strongest level that accepts a trace.
-#[derive(Drop)]
+#[derive(Clone, Copy)]
 pub enum Strongest {
     NoLevel,
     ReadCommitted,

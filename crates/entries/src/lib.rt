@@ -9,7 +9,7 @@ ghost use Rattle.entries.specs.Entries.{width, pair_entry, entry_line, list_text
 ghost use Rattle.entries.specs.declared.Lines.TheVariants.{ReadLines};
 
 // What a list's entries are printed as: findings; the judge's pairs; pairs over write dependencies, and over both sorts.
-#[derive(Drop)]
+#[derive(Clone, Copy)]
 pub enum Lines {
     ReadLines,
     PairLines,

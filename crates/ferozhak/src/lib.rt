@@ -195,7 +195,7 @@ fn accepts(h: &[u64], k: &[u8], level: u8) -> bool
 }
 
 // Where a trace is accepted, by a look at one level: at this one; not at this one, for its pairs; at none, for an unclean read.
-#[derive(Drop)]
+#[derive(Clone, Copy)]
 enum Seen {
     Here,
     NotHere,

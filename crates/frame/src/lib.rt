@@ -53,7 +53,7 @@ fn payload_at(s: &[u8], at: usize) -> &[u8]
 }
 
 // What a record says: the session that it names, 0 where it names none, and its event.
-#[derive(Drop)]
+#[derive(Clone, Copy)]
 pub struct Stated {
     pub session: u16,
     pub event: Event,
@@ -414,7 +414,7 @@ fn frame_no(s: &[u8], at: usize, expected: u32, second: bool) -> u8
 }
 
 // What comes of framing a record: what it says, or the number of the row that refuses it.
-#[derive(Drop)]
+#[derive(Clone, Copy)]
 pub enum Framed {
     Good(Stated),
     Bad(u8),

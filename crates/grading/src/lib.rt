@@ -23,7 +23,7 @@ pub fn is_list(h: &[u64], i: usize) -> bool
 }
 
 // A list read's list: where its record stands in the trace, how many elements it has, and its key.
-#[derive(Drop)]
+#[derive(Clone, Copy)]
 pub struct Spot {
     pub at: usize,
     pub number: usize,

@@ -26,7 +26,7 @@ pub fn promised_given(given: &[u8], out: &mut [u8]) -> Filled
 }
 
 // The answers of two calls.
-#[derive(Drop)]
+#[derive(Clone, Copy)]
 pub struct Answers {
     pub first: Filled,
     pub second: Filled,

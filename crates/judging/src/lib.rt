@@ -47,7 +47,7 @@ fn accept(shown: &[u8; 128], n: usize, out: &mut [u8]) -> Answer
 // ── rejection ──
 
 // How many findings there are, and how many listed pairs.
-#[derive(Drop)]
+#[derive(Clone, Copy)]
 struct Counts {
     findings: usize,
     pairs: usize,

@@ -101,7 +101,7 @@ fn end_no(h: &mut [u64]) -> u8
 }
 
 // No row refused, and the table has the history; or one did, with its number and the step's.
-#[derive(Drop)]
+#[derive(Clone, Copy)]
 pub enum Course {
     Good,
     Bad(u8, usize),

@@ -1,4 +1,3 @@
 pub mod Agree
 pub mod Stretches
 pub mod Answers
-pub mod Endings

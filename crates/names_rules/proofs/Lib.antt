@@ -2,5 +2,4 @@ pub mod Walking
 pub mod Offsets
 pub mod Loops
 pub mod Places
-pub mod Endings
 pub mod Kept

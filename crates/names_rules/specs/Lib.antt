@@ -1,4 +1,2 @@
 pub mod Names
 pub mod NameCases
-pub mod Endings
-pub mod EndCases

@@ -2,14 +2,14 @@
 #![tactic(auto)]
 
 // What comes of checking a names file: it is lawful; or it is refused, with the refusal's number and place.
-#[derive(Drop)]
+#[derive(Clone, Copy)]
 pub enum FileCheck {
     Good,
     Bad(u8, usize),
 }
 
 // Of two names files, the own and the shared one: both are lawful; or the first that is not, with the refusal's number and place.
-#[derive(Drop)]
+#[derive(Clone, Copy)]
 pub enum Refusal {
     Accepted,
     OwnRefused(u8, usize),
@@ -17,7 +17,7 @@ pub enum Refusal {
 }
 
 // Where a name is: nowhere; in the own file or in the shared one, from its first byte to before the byte behind it.
-#[derive(Drop)]
+#[derive(Clone, Copy)]
 pub enum NamePlace {
     Nowhere,
     InOwn(usize, usize),

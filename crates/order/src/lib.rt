@@ -10,7 +10,7 @@ ghost use Rattle.order.specs.Sets.{words, in_words, is_left, Plus, Given};
 ghost use Rattle.order.specs.Ordering.{stands_before, waits, is_next, is_free, Orderable};
 
 // A set of numbers below 128.
-#[derive(Drop)]
+#[derive(Clone, Copy)]
 pub struct Words {
     pub lo: u64,
     pub hi: u64,

@@ -222,7 +222,7 @@ fn is_told(h: &[u64], k: &[u8], w: &[u64], level: u8, i: usize) -> bool
 }
 
 // A set of transactions that are left to be looked at, in two words.
-#[derive(Drop)]
+#[derive(Clone, Copy)]
 struct Left {
     lo: u64,
     hi: u64,

@@ -50,7 +50,7 @@ pub fn there_and_back(trace: &[u8], between: &mut [u8], out: &mut [u8]) -> Fille
 // ── moved, and judged before and after ──
 
 // The answer to a move, and the judge's answers to the trace and to what came out.
-#[derive(Drop)]
+#[derive(Clone, Copy)]
 pub struct MovedJudged {
     pub moved: Filled,
     pub before: Answer,

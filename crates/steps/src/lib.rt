@@ -11,7 +11,7 @@ use rules::Event;
 
 // How the reading goes on behind an event: with the next record; the same, behind a note, and behind an append or a list read; not at all, the end has come;
 // refused.
-#[derive(Drop)]
+#[derive(Clone, Copy)]
 pub enum Next {
     Go,
     Count,

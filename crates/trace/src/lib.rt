@@ -14,7 +14,7 @@ use frame::Framed;
 use steps::Next;
 
 // The trace was read, with its number of notes; or it was refused, with the number of the row and the place.
-#[derive(Drop)]
+#[derive(Clone, Copy)]
 pub enum Out {
     Good(usize),
     Bad(u8, usize),
@@ -22,7 +22,7 @@ pub enum Out {
 
 // Behind a record: where the next one starts, the serial that has to come, the number of notes so far, and whether the record is an append or a list read; or
 // the reading is over.
-#[derive(Drop)]
+#[derive(Clone, Copy)]
 pub enum Turn {
     More(usize, u32, usize, bool),
     Stop(Out),
@@ -73,7 +73,7 @@ fn turn_at(
 }
 
 // How far records were read: to behind one whose offset comes first, with what is known there; or to the end of the reading.
-#[derive(Drop)]
+#[derive(Clone, Copy)]
 pub enum Way {
     Behind(usize, usize, u32, usize),
     Over(Out),

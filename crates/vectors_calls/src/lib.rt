@@ -62,7 +62,7 @@ fn is_led(h: &[u64], s: &[u64; 256], x: &[u8; 16384], width: usize, a: usize, b:
 }
 
 // What is said of two transactions, and by which of the two; or the trace is refused, with the number of the row and the place.
-#[derive(Drop)]
+#[derive(Clone, Copy)]
 pub enum LedBy {
     Refused(u8, usize),
     ByVectors(bool),
@@ -118,7 +118,7 @@ fn entry_for(h: &[u64], p: &[u8; 128], x: &[u8; 16384], t: usize, a: usize) -> u
 }
 
 // What a transaction's vector has for a session; where basic pairs form a cycle no vectors are made.
-#[derive(Drop)]
+#[derive(Clone, Copy)]
 pub enum Entry {
     Refused(u8, usize),
     Cycle,

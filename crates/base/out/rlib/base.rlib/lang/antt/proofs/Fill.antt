@@ -6,7 +6,7 @@ use native.Mathlib.Omega.{arith}
 use lib.ListN.{set, length, take, drop, length-append, length-drop, take-append-drop}
 use lib.Seq.{length-take-le, take_at, take-take, drop_at, drop-drop, sets-eq}
 use Rattle.base.specs.Base.{listed}
-use Rattle.base.proofs.Searches.{listed-step, listed-end}
+use Rattle.base.proofs.Searches.{listed-step, listed_end}
 
 -- xs was written into o from `at` on, up to r, which made b of it
 pub record Appended (o : List ℕ) (at : ℕ) (b : List ℕ) (r : ℕ) (xs : List ℕ) : Type 0 where
@@ -79,8 +79,8 @@ pub record Room (o : List ℕ) (at e : ℕ) (xs : List ℕ) : Type 0 where
   pub within : e ≤ length o
 
 -- .. to the buffer's end
-pub room-from : {o : List ℕ} {at : ℕ} (xs : List ℕ) → at + length xs ≤ length o → Room o at (length o) xs
-room-from xs h = record { fits = h; within = omega arith }
+pub room_from : {o : List ℕ} {at : ℕ} (xs : List ℕ) → at + length xs ≤ length o → Room o at (length o) xs
+room_from xs h = record { fits = h; within = omega arith }
 
 pub room_in : {o : List ℕ} {at e : ℕ} {xs : List ℕ} → Room o at e xs → at + length xs ≤ length o
 room_in h = omega (arith, h.fits, h.within)
@@ -95,8 +95,8 @@ module _ {o : List ℕ} {at e : ℕ} where
       record { fits = omega (arith, h.fits, length-append xs ys, x.end); within = omega (arith, h.within, appended-length x) }
 
 -- four parts, in the order in which they are put
-pub four-parts : (p q r s : List ℕ) → ((p ++ q) ++ r) ++ s ≡ p ++ (q ++ (r ++ s))
-four-parts p q r s = append_assoc (p ++ q) r s ∙ append_assoc p q (r ++ s)
+pub four_parts : (p q r s : List ℕ) → ((p ++ q) ++ r) ++ s ≡ p ++ (q ++ (r ++ s))
+four_parts p q r s = append_assoc (p ++ q) r s ∙ append_assoc p q (r ++ s)
 
 -- ── loops that put `whole` into o ──
 
@@ -106,28 +106,28 @@ pub record Forth (o : List ℕ) (at : ℕ) (whole b : List ℕ) (r : ℕ) (left 
   pub is : Appended o at b r done
   pub rest : done ++ left ≡ whole
 
-pub forth-start : {o : List ℕ} {at : ℕ} (whole : List ℕ) → at ≤ length o → Forth o at whole o at whole
-forth-start {o} {at} whole h = record { done = []; is = appended-none o at h; rest = refl }
+pub forth_start : {o : List ℕ} {at : ℕ} (whole : List ℕ) → at ≤ length o → Forth o at whole o at whole
+forth_start {o} {at} whole h = record { done = []; is = appended-none o at h; rest = refl }
 
 module _ {o : List ℕ} {at : ℕ} {whole b : List ℕ} {r : ℕ} {left : List ℕ} (x : Forth o at whole b r left) where
   -- there is room for what is left
-  pub forth-room : {e : ℕ} → Room o at e whole → Room b r e left
-  forth-room h = room-then x.is (rw x.rest h)
+  pub forth_room : {e : ℕ} → Room o at e whole → Room b r e left
+  forth_room h = room-then x.is (rw x.rest h)
 
   -- a part of it; the last of it
-  pub forth-step : {xs : List ℕ} (ys : List ℕ) {c : List ℕ} {s : ℕ} → left ≡ xs ++ ys → Appended b r c s xs → Forth o at whole c s ys
-  forth-step {xs} ys q y =
+  pub forth_step : {xs : List ℕ} (ys : List ℕ) {c : List ℕ} {s : ℕ} → left ≡ xs ++ ys → Appended b r c s xs → Forth o at whole c s ys
+  forth_step {xs} ys q y =
       record {
         done = x.done ++ xs;
         is = appended_then x.is y;
         rest = append_assoc x.done xs ys ∙ ap (λ (l : List ℕ). x.done ++ l) (sym q) ∙ x.rest;
       }
 
-  pub forth-last : {c : List ℕ} {s : ℕ} → Appended b r c s left → Appended o at c s whole
-  forth-last y = rw (← x.rest) (appended_then x.is y)
+  pub forth_last : {c : List ℕ} {s : ℕ} → Appended b r c s left → Appended o at c s whole
+  forth_last y = rw (← x.rest) (appended_then x.is y)
 
-  pub forth-end : left ≡ [] → Appended o at b r whole
-  forth-end q = let d : x.done ≡ whole = sym (append-nil x.done) ∙ ap (λ (l : List ℕ). x.done ++ l) (sym q) ∙ x.rest in rw (← d) x.is
+  pub forth_end : left ≡ [] → Appended o at b r whole
+  forth_end q = let d : x.done ≡ whole = sym (append-nil x.done) ∙ ap (λ (l : List ℕ). x.done ++ l) (sym q) ∙ x.rest in rw (← d) x.is
 
 -- ── what f gives for each number ──
 
@@ -137,32 +137,32 @@ Filling f a e o at j b r = Forth o at (listed a e f) b r (listed j e f)
 
 module _ (f : ℕ → List ℕ) (a e : ℕ) (o : List ℕ) (at : ℕ) where
   pub fill_start : at ≤ length o → Filling f a e o at a o at
-  fill_start h = forth-start (listed a e f) h
+  fill_start h = forth_start (listed a e f) h
 
   module _ {j : ℕ} {b : List ℕ} {r : ℕ} (x : Filling f a e o at j b r) where
     -- there is room for what is to be written
     pub fill-room : at + length (listed a e f) ≤ length o → j < e → r + length (f j) ≤ length b
-    fill-room m h = room_in (room-first (f j) (listed (j + 1) e f) (rw (listed-step f j e h) at (forth-room x (room-from (listed a e f) m))))
+    fill-room m h = room_in (room-first (f j) (listed (j + 1) e f) (rw (listed-step f j e h) at (forth_room x (room_from (listed a e f) m))))
 
     pub fill_step : {c : List ℕ} {s : ℕ} → j < e → Appended b r c s (f j) → Filling f a e o at (j + 1) c s
-    fill_step h y = forth-step x (listed (j + 1) e f) (listed-step f j e h) y
+    fill_step h y = forth_step x (listed (j + 1) e f) (listed-step f j e h) y
 
     pub fill_end : e ≤ j → Appended o at b r (listed a e f)
-    fill_end h = forth-end x (listed-end f j e h)
+    fill_end h = forth_end x (listed_end f j e h)
 
 -- how long it will be: a loop that has come to j, and to n bytes
 pub record Sizing (f : ℕ → List ℕ) (a e j n : ℕ) : Type 0 where
   pub rest : n + length (listed j e f) ≡ length (listed a e f)
 
 module _ (f : ℕ → List ℕ) (a e : ℕ) where
-  pub size-start : Sizing f a e a 0
-  size-start = record { rest = omega arith }
+  pub size_start : Sizing f a e a 0
+  size_start = record { rest = omega arith }
 
   pub size_step : {j n : ℕ} → Sizing f a e j n → j < e → Sizing f a e (j + 1) (n + length (f j))
   size_step {j} {n} x h = record { rest = omega (arith, x.rest, ap length (listed-step f j e h), length-append (f j) (listed (j + 1) e f)) }
 
-  pub size-end : {j n : ℕ} → Sizing f a e j n → e ≤ j → n ≡ length (listed a e f)
-  size-end {j} {n} x h = omega (arith, x.rest, ap length (listed-end f j e h))
+  pub size_end : {j n : ℕ} → Sizing f a e j n → e ≤ j → n ≡ length (listed a e f)
+  size_end {j} {n} x h = omega (arith, x.rest, ap length (listed_end f j e h))
 
 -- one byte
 pub one : (o : List ℕ) (at a : ℕ) → at < length o → Appended o at (set o at a) (at + 1) (a ∷ [])

@@ -67,33 +67,33 @@ and_right true b e = e
 and_right false b e = absurd (false≢true e)
 
 -- a first test that passes leaves the second, one that fails decides
-pub and-on : (a b : Bool) → a ≡ true → a and b ≡ b
+pub and_on : (a b : Bool) → a ≡ true → a and b ≡ b
 unfolding ◌and◌
-and-on true b e = refl
-and-on false b e = absurd (false≢true e)
+and_on true b e = refl
+and_on false b e = absurd (false≢true e)
 
-pub and-no-left : (a b : Bool) → a ≡ false → a and b ≡ false
+pub and_no_left : (a b : Bool) → a ≡ false → a and b ≡ false
 unfolding ◌and◌
-and-no-left true b e = absurd (true≢false e)
-and-no-left false b e = refl
+and_no_left true b e = absurd (true≢false e)
+and_no_left false b e = refl
 
-pub and-no-right : (a b : Bool) → b ≡ false → a and b ≡ false
+pub and_no_right : (a b : Bool) → b ≡ false → a and b ≡ false
 unfolding ◌and◌
-and-no-right true b e = e
-and-no-right false b e = refl
+and_no_right true b e = e
+and_no_right false b e = refl
 
 -- the second matters only where the first passes
-pub and-when : (a : Bool) {b c : Bool} → (a ≡ true → b ≡ c) → a and b ≡ a and c
+pub and_when : (a : Bool) {b c : Bool} → (a ≡ true → b ≡ c) → a and b ≡ a and c
 unfolding ◌and◌
-and-when true f = f refl
-and-when false f = refl
+and_when true f = f refl
+and_when false f = refl
 
-pub and-swap : (a b : Bool) → a and b ≡ b and a
+pub and_swap : (a b : Bool) → a and b ≡ b and a
 unfolding ◌and◌
-and-swap true true = refl
-and-swap true false = refl
-and-swap false true = refl
-and-swap false false = refl
+and_swap true true = refl
+and_swap true false = refl
+and_swap false true = refl
+and_swap false false = refl
 
 -- one passes
 pub or_cases : (a b : Bool) → a or b ≡ true → (a ≡ true) ⊎ (b ≡ true)
@@ -111,10 +111,10 @@ unfolding ◌or◌
 or_right true b h = refl
 or_right false b h = h
 
-pub or-on : (a b : Bool) → a ≡ false → a or b ≡ b
+pub or_on : (a b : Bool) → a ≡ false → a or b ≡ b
 unfolding ◌or◌
-or-on true b e = absurd (true≢false e)
-or-on false b e = refl
+or_on true b e = absurd (true≢false e)
+or_on false b e = refl
 
 pub or_assoc : (a b c : Bool) → (a or b) or c ≡ a or (b or c)
 unfolding ◌or◌
@@ -133,31 +133,31 @@ neither_right true b e = absurd (true≢false e)
 neither_right false b e = e
 
 -- a choice
-pub pick-on {ℓ} : {X : Type ℓ} (b : Bool) (x y : X) → b ≡ true → pick b x y ≡ x
+pub pick_on {ℓ} : {X : Type ℓ} (b : Bool) (x y : X) → b ≡ true → pick b x y ≡ x
 unfolding pick
-pick-on b x y e = rw e
+pick_on b x y e = rw e
 
-pub pick-off {ℓ} : {X : Type ℓ} (b : Bool) (x y : X) → b ≡ false → pick b x y ≡ y
+pub pick_off {ℓ} : {X : Type ℓ} (b : Bool) (x y : X) → b ≡ false → pick b x y ≡ y
 unfolding pick
-pick-off b x y e = rw e
+pick_off b x y e = rw e
 
 -- what f makes of a choice is the choice of what it makes
-pub pick-of : {X Y : Type 0} (f : X → Y) (b : Bool) (x y : X) → f (pick b x y) ≡ pick b (f x) (f y)
+pub pick_of : {X Y : Type 0} (f : X → Y) (b : Bool) (x y : X) → f (pick b x y) ≡ pick b (f x) (f y)
 unfolding pick
-pick-of f true x y = refl
-pick-of f false x y = refl
+pick_of f true x y = refl
+pick_of f false x y = refl
 
 -- what holds of both is so of the one that a test picks
-pub pick-both : {X : Type 0} (Q : X → Type 0) (b : Bool) {x y : X} → Q x → Q y → Q (pick b x y)
+pub pick_both : {X : Type 0} (Q : X → Type 0) (b : Bool) {x y : X} → Q x → Q y → Q (pick b x y)
 unfolding pick
-pick-both Q true u v = u
-pick-both Q false u v = v
+pick_both Q true u v = u
+pick_both Q false u v = v
 
 -- two choices by one test are alike where the first ones are and the second ones are
-pub pick-alike : {X : Type 0} (R : X → X → Type 0) (b : Bool) {x y u v : X} → R x u → R y v → R (pick b x y) (pick b u v)
+pub pick_alike : {X : Type 0} (R : X → X → Type 0) (b : Bool) {x y u v : X} → R x u → R y v → R (pick b x y) (pick b u v)
 unfolding pick
-pick-alike R true p q = p
-pick-alike R false p q = q
+pick_alike R true p q = p
+pick_alike R false p q = q
 
 -- a number is below another or not
 pub split : (a b : ℕ) → (a < b) ⊎ (b ≤ a)

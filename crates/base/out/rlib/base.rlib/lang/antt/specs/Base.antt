@@ -18,9 +18,9 @@ pick true x y = x
 pick false x y = y
 
 -- of the n numbers from a on: does one pass; the first that does, else d; how many do; what f gives for each, in one list
-unfoldable pub someOf : (ℕ → Bool) → ℕ → ℕ → Bool
-someOf p a zero = false
-someOf p a (suc n) = p a or someOf p (a + 1) n
+unfoldable pub some_of : (ℕ → Bool) → ℕ → ℕ → Bool
+some_of p a zero = false
+some_of p a (suc n) = p a or some_of p (a + 1) n
 
 unfoldable pub first_of : ℕ → (ℕ → Bool) → ℕ → ℕ → ℕ
 first_of d p a zero = d
@@ -36,7 +36,7 @@ list_of f a (suc n) = f a ++ list_of f (a + 1) n
 
 -- the same of the numbers from a to before e
 unfoldable pub some : ℕ → ℕ → (ℕ → Bool) → Bool
-some a e p = someOf p a (e - a)
+some a e p = some_of p a (e - a)
 
 unfoldable pub first : ℕ → ℕ → ℕ → (ℕ → Bool) → ℕ
 first d a e p = first_of d p a (e - a)
@@ -70,7 +70,7 @@ numbered (suc n) f = numbered n f ++ (f (suc n) ∷ [])
 pub data Row : Type 0 where
   row : Bool → ℕ → Row
 
-unfoldable pub firstFit : List Row → ℕ
-firstFit [] = 0
-firstFit (row true n ∷ rs) = n
-firstFit (row false n ∷ rs) = firstFit rs
+unfoldable pub first_fit : List Row → ℕ
+first_fit [] = 0
+first_fit (row true n ∷ rs) = n
+first_fit (row false n ∷ rs) = first_fit rs

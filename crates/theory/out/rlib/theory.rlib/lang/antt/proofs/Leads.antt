@@ -5,21 +5,21 @@ use mathlib.Core.Bool.{Bool, true, false}
 use mathlib.Core.Logic.{◌⊎◌, inl, inr, ⊎_elim, ◌↔◌}
 use native.Mathlib.Omega.{arith}
 use Rattle.base.specs.Base.{◌and◌, ◌or◌}
-use Rattle.base.proofs.Tests.{known, clash, is_false, both, and_left, and_right, and-swap, or_cases, or_left, or_right, below_suc}
-use Rattle.theory.specs.Leads.{Leads, step, then, via, Listed, isListed}
+use Rattle.base.proofs.Tests.{known, clash, is_false, both, and_left, and_right, and_swap, or_cases, or_left, or_right, below_suc}
+use Rattle.theory.specs.Leads.{Leads, step, then, via, Listed, is_listed}
 use Rattle.theory.specs.Order.{Forces}
 
 -- ── ways ──
 
 -- two ways that meet are one
-pub leads-on : {f : ℕ → ℕ → Bool} {a b c : ℕ} → Leads f a b → Leads f b c → Leads f a c
-leads-on (step e) q = then e q
-leads-on (then e p) q = then e (leads-on p q)
+pub leads_on : {f : ℕ → ℕ → Bool} {a b c : ℕ} → Leads f a b → Leads f b c → Leads f a c
+leads_on (step e) q = then e q
+leads_on (then e p) q = then e (leads_on p q)
 
 -- more pairs lead further
-pub leads-more : {f g : ℕ → ℕ → Bool} {a b : ℕ} → ((x y : ℕ) → f x y ≡ true → g x y ≡ true) → Leads f a b → Leads g a b
-leads-more s (step e) = step (s _ _ e)
-leads-more s (then e p) = then (s _ _ e) (leads-more s p)
+pub leads_more : {f g : ℕ → ℕ → Bool} {a b : ℕ} → ((x y : ℕ) → f x y ≡ true → g x y ≡ true) → Leads f a b → Leads g a b
+leads_more s (step e) = step (s _ _ e)
+leads_more s (then e p) = then (s _ _ e) (leads_more s p)
 
 -- ── the test, by its last round ──
 
@@ -35,70 +35,70 @@ module _ (f : ℕ → ℕ → Bool) where
     via-suc = refl
 
     -- what a round finds was there, or goes through k
-    pub via-cases : via f (suc k) a b ≡ true → (via f k a b ≡ true) ⊎ ((via f k a k ≡ true) × (via f k k b ≡ true))
-    via-cases e = ⊎_elim (λ p. inl p) (λ q. inr (and_left _ _ q, and_right _ _ q)) (or_cases _ _ (rw via-suc at e))
+    pub via_cases : via f (suc k) a b ≡ true → (via f k a b ≡ true) ⊎ ((via f k a k ≡ true) × (via f k k b ≡ true))
+    via_cases e = ⊎_elim (λ p. inl p) (λ q. inr (and_left _ _ q, and_right _ _ q)) (or_cases _ _ (rw via-suc at e))
 
     -- it loses nothing
-    pub via-more : via f k a b ≡ true → via f (suc k) a b ≡ true
-    via-more p = rw via-suc (or_left _ _ p)
+    pub via_more : via f k a b ≡ true → via f (suc k) a b ≡ true
+    via_more p = rw via-suc (or_left _ _ p)
 
     -- and it finds what goes through k
-    pub via-through : via f k a k ≡ true → via f k k b ≡ true → via f (suc k) a b ≡ true
-    via-through p q = rw via-suc (or_right _ _ (both _ _ p q))
+    pub via_through : via f k a k ≡ true → via f k k b ≡ true → via f (suc k) a b ≡ true
+    via_through p q = rw via-suc (or_right _ _ (both _ _ p q))
 
   -- every pair is found
-  pub via-keeps : (k a b : ℕ) → f a b ≡ true → via f k a b ≡ true
-  via-keeps zero a b e = rw via-zero e
-  via-keeps (suc k) a b e = via-more k a b (via-keeps k a b e)
+  pub via_keeps : (k a b : ℕ) → f a b ≡ true → via f k a b ≡ true
+  via_keeps zero a b e = rw via-zero e
+  via_keeps (suc k) a b e = via_more k a b (via_keeps k a b e)
 
   -- a way to k, or from k, does not need k in between
-  via-to : (k a : ℕ) → via f (suc k) a k ≡ true → via f k a k ≡ true
-  via-to k a e = ⊎_elim (λ p. p) (λ q. q.0) (via-cases k a k e)
+  via_to : (k a : ℕ) → via f (suc k) a k ≡ true → via f k a k ≡ true
+  via_to k a e = ⊎_elim (λ p. p) (λ q. q.0) (via_cases k a k e)
 
-  via-from : (k b : ℕ) → via f (suc k) k b ≡ true → via f k k b ≡ true
-  via-from k b e = ⊎_elim (λ p. p) (λ q. q.1) (via-cases k k b e)
+  via_from : (k b : ℕ) → via f (suc k) k b ≡ true → via f k k b ≡ true
+  via_from k b e = ⊎_elim (λ p. p) (λ q. q.1) (via_cases k k b e)
 
   -- two ways that meet below k are one
-  pub via-on : (k a c b : ℕ) → c < k → via f k a c ≡ true → via f k c b ≡ true → via f k a b ≡ true
-  via-on zero a c b h p q = absurd (omega arith)
-  via-on (suc k) a c b h p q = ⊎_elim at-k (λ l. under (λ x y. via-on k x c y l)) (below_suc h)
+  pub via_on : (k a c b : ℕ) → c < k → via f k a c ≡ true → via f k c b ≡ true → via f k a b ≡ true
+  via_on zero a c b h p q = absurd (omega arith)
+  via_on (suc k) a c b h p q = ⊎_elim at_k (λ l. under (λ x y. via_on k x c y l)) (below_suc h)
     where
-      at-k : c ≡ k → via f (suc k) a b ≡ true
-      at-k e = via-through k a b (via-to k a (rw e at p)) (via-from k b (rw e at q))
+      at_k : c ≡ k → via f (suc k) a b ≡ true
+      at_k e = via_through k a b (via_to k a (rw e at p)) (via_from k b (rw e at q))
 
       under : ((x y : ℕ) → via f k x c ≡ true → via f k c y ≡ true → via f k x y ≡ true) → via f (suc k) a b ≡ true
       under ih =
           ⊎_elim
-          (λ r. ⊎_elim (λ s. via-more k a b (ih a b r s)) (λ s. via-through k a b (ih a k r s.0) s.1) (via-cases k c b q))
-          (λ r. via-through k a b r.0 (⊎_elim (λ s. ih k b r.1 s) (λ s. s.1) (via-cases k c b q)))
-          (via-cases k a c p)
+          (λ r. ⊎_elim (λ s. via_more k a b (ih a b r s)) (λ s. via_through k a b (ih a k r s.0) s.1) (via_cases k c b q))
+          (λ r. via_through k a b r.0 (⊎_elim (λ s. ih k b r.1 s) (λ s. s.1) (via_cases k c b q)))
+          (via_cases k a c p)
 
   -- ── the test is right ──
 
   -- what is found lies in every relation that has the pairs and is closed
-  pub via-within : (n : ℕ) (T : ℕ → ℕ → Bool) → ((x y : ℕ) → f x y ≡ true → T x y ≡ true)
+  pub via_within : (n : ℕ) (T : ℕ → ℕ → Bool) → ((x y : ℕ) → f x y ≡ true → T x y ≡ true)
       → ((x z y : ℕ) → z < n → T x z ≡ true → T z y ≡ true → T x y ≡ true) → (k a b : ℕ) → k ≤ n → via f k a b ≡ true → T a b ≡ true
-  via-within n T has on zero a b h e = has a b (rw via-zero at e)
-  via-within n T has on (suc k) a b h e =
-      let go : (x y : ℕ) → via f k x y ≡ true → T x y ≡ true = λ x y. via-within n T has on k x y (omega arith) in
-      ⊎_elim (λ p. go a b p) (λ q. on a k b h (go a k q.0) (go k b q.1)) (via-cases k a b e)
+  via_within n T has on zero a b h e = has a b (rw via-zero at e)
+  via_within n T has on (suc k) a b h e =
+      let go : (x y : ℕ) → via f k x y ≡ true → T x y ≡ true = λ x y. via_within n T has on k x y (omega arith) in
+      ⊎_elim (λ p. go a b p) (λ q. on a k b h (go a k q.0) (go k b q.1)) (via_cases k a b e)
 
   -- it finds ways only
   pub via-leads : (k a b : ℕ) → via f k a b ≡ true → Leads f a b
   via-leads zero a b e = step (rw via-zero at e)
   via-leads (suc k) a b e =
-      ⊎_elim (λ p. via-leads k a b p) (λ q. leads-on (via-leads k a k q.0) (via-leads k k b q.1)) (via-cases k a b e)
+      ⊎_elim (λ p. via-leads k a b p) (λ q. leads_on (via-leads k a k q.0) (via-leads k k b q.1)) (via_cases k a b e)
 
   -- and finds each, where every pair's second is below n
   pub leads-via : (n : ℕ) → ((x y : ℕ) → f x y ≡ true → y < n) → {a b : ℕ} → Leads f a b → via f n a b ≡ true
-  leads-via n below (step e) = via-keeps n _ _ e
-  leads-via n below (then {b = b} e p) = via-on n _ b _ (below _ b e) (via-keeps n _ b e) (leads-via n below p)
+  leads-via n below (step e) = via_keeps n _ _ e
+  leads-via n below (then {b = b} e p) = via_on n _ b _ (below _ b e) (via_keeps n _ b e) (leads-via n below p)
 
 -- with every pair turned round, what leads is turned round
-pub via-flip : (f : ℕ → ℕ → Bool) (k a b : ℕ) → via (λ x y. f y x) k a b ≡ via f k b a
+pub via_flip : (f : ℕ → ℕ → Bool) (k a b : ℕ) → via (λ x y. f y x) k a b ≡ via f k b a
 unfolding via
-via-flip f zero a b = refl
-via-flip f (suc k) a b = rw (via-flip f k a b, via-flip f k a k, via-flip f k k b, and-swap (via f k k a) (via f k b k))
+via_flip f zero a b = refl
+via_flip f (suc k) a b = rw (via_flip f k a b, via_flip f k a k, via_flip f k k b, and_swap (via f k k a) (via f k b k))
 
 -- ── a lowest, where nothing leads to itself ──
 
@@ -126,8 +126,8 @@ module _ (r : ℕ → ℕ → Bool) (n : ℕ) (trans : (a b c : ℕ) → b < n �
       record { at = k; under = omega arith; passes = t; none = λ b u s. ⊎_elim (λ e. rw e (irr k l)) (λ v. h b v s) (below_suc u) }
 
   -- it is that number where it passes and goes before the lowest so far
-  lowest-suc : {k : ℕ} → k < n → Lowest r p k → Lowest r p (suc k)
-  lowest-suc {k} u l =
+  lowest_suc : {k : ℕ} → k < n → Lowest r p k → Lowest r p (suc k)
+  lowest_suc {k} u l =
       ⊎_elim
       (λ t.
       ⊎_elim (λ before. goes u t (λ b v s. is_false (r b k) (λ e. clash (trans b k l.at u e before) (l.none b v s))))
@@ -145,38 +145,38 @@ module _ (r : ℕ → ℕ → Bool) (n : ℕ) (trans : (a b c : ℕ) → b < n �
       ⊎_elim (λ t. inr (goes le t (λ b v s. absurd (clash s (none b v)))))
       (λ t. inl (λ a h. ⊎_elim (λ e. rw e t) (λ v. none a v) (below_suc h)))
       (known (p k)))
-      (λ l. inr (lowest-suc le l))
+      (λ l. inr (lowest_suc le l))
       (lowest k (omega arith))
 
 -- ── listed pairs ──
 
 -- with more pairs, what is listed stays listed
 pub listed_more : {f g : ℕ → ℕ → Bool} {a b : ℕ} → ((x y : ℕ) → f x y ≡ true → g x y ≡ true) → Listed f a b → Listed g a b
-listed_more s l = record { forced = s _ _ l.forced; back = leads-more s l.back }
+listed_more s l = record { forced = s _ _ l.forced; back = leads_more s l.back }
 
 module _ {f : ℕ → ℕ → Bool} where
   -- a listed pair's first leads to itself; what does is the first of a listed pair
-  pub listed-loop : {a b : ℕ} → Listed f a b → Leads f a a
-  listed-loop l = then l.forced l.back
+  pub listed_loop : {a b : ℕ} → Listed f a b → Leads f a a
+  listed_loop l = then l.forced l.back
 
-  pub loop-listed : {a : ℕ} → Leads f a a → (b : ℕ) × Listed f a b
-  loop-listed {a} (step e) = (a, record { forced = e; back = step e })
-  loop-listed (then {b = b} e p) = (b, record { forced = e; back = p })
+  pub loop_listed : {a : ℕ} → Leads f a a → (b : ℕ) × Listed f a b
+  loop_listed {a} (step e) = (a, record { forced = e; back = step e })
+  loop_listed (then {b = b} e p) = (b, record { forced = e; back = p })
 
   -- none is listed exactly if none leads to itself
   pub listed-none : ((a b : ℕ) → Listed f a b → ⊥) → (a : ℕ) → Leads f a a → ⊥
-  listed-none h a p = let l = loop-listed p in h a l.0 l.1
+  listed-none h a p = let l = loop_listed p in h a l.0 l.1
 
   pub none-listed : ((a : ℕ) → Leads f a a → ⊥) → (a b : ℕ) → Listed f a b → ⊥
-  none-listed h a b l = h a (listed-loop l)
+  none-listed h a b l = h a (listed_loop l)
 
 module _ {n : ℕ} {m : ℕ → Bool} {f : ℕ → ℕ → Bool} (w : Forces n m f) where
   -- `via` decides what leads
-  pub via-iff : (a b : ℕ) → (via f n a b ≡ true) ↔ Leads f a b
-  via-iff a b = (via-leads f n a b, leads-via f n (λ x y e. (w.second-in x y e).0))
+  pub via_iff : (a b : ℕ) → (via f n a b ≡ true) ↔ Leads f a b
+  via_iff a b = (via-leads f n a b, leads-via f n (λ x y e. (w.second_in x y e).0))
 
   -- the test for a listed pair is right
-  pub listed-iff : (a b : ℕ) → (isListed n f a b ≡ true) ↔ Listed f a b
-  unfolding isListed
-  listed-iff a b =
-      (λ e. record { forced = and_left _ _ e; back = (via-iff b a).0 (and_right _ _ e) }, λ l. both _ _ l.forced ((via-iff b a).1 l.back))
+  pub listed_iff : (a b : ℕ) → (is_listed n f a b ≡ true) ↔ Listed f a b
+  unfolding is_listed
+  listed_iff a b =
+      (λ e. record { forced = and_left _ _ e; back = (via_iff b a).0 (and_right _ _ e) }, λ l. both _ _ l.forced ((via_iff b a).1 l.back))

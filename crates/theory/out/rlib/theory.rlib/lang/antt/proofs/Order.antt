@@ -10,12 +10,12 @@ use lib.ListN.{length, get_or, length-append}
 use lib.Seq.{get_or-append_seam}
 use borrow.Author.Tests.{lt-ltb, le-ltb}
 use Rattle.base.specs.Base.{◌and◌, first, count}
-use Rattle.base.proofs.Tests.{clash, is_false, is_true, not-true, both, and_left, and_right, and-on, and-swap, pick-on, pick-off, split}
-use Rattle.base.proofs.Searches.{none-at, some-none, first-cases, count_same, count-zero, count_none, count_less}
+use Rattle.base.proofs.Tests.{clash, is_false, is_true, not-true, both, and_left, and_right, and_on, and_swap, pick_on, pick_off, split}
+use Rattle.base.proofs.Searches.{none-at, some-none, first_cases, count_same, count-zero, count_none, count_less}
 use Rattle.theory.specs.Leads.{Leads, step, then, via, Listed}
-use Rattle.theory.specs.Order.{mem, place, Forces, Lawful, misses, ready, isUnplaced, unplaced, next, fill, rest, Lex, short, less, same}
-use Rattle.theory.proofs.Leads.{via-leads, via-keeps, via-on, Lowest, lowest, listed-none, none-listed}
-use Rattle.theory.proofs.Places.{mem-last, mem-snoc, mem-other, place_in, in_place, place-front, place-back, place-new, entry-snoc}
+use Rattle.theory.specs.Order.{mem, place, Forces, Lawful, misses, ready, is_unplaced, unplaced, next, fill, rest, Lex, short, less, same}
+use Rattle.theory.proofs.Leads.{via-leads, via_keeps, via_on, Lowest, lowest, listed-none, none-listed}
+use Rattle.theory.proofs.Places.{mem-last, mem_snoc, mem-other, place_in, in_place, place-front, place-back, place-new, entry_snoc}
 
 -- ── what may come next ──
 
@@ -32,9 +32,9 @@ ready-is {n} {m} {f} {p} {a} r =
     both _ _ (both _ _ r.member (ap not r.new))
     (ap not (some-none (misses f p a) n 0 (λ b _ h. is_false _ (λ t. clash (r.after b h (and_left _ _ t)) (not-true _ (and_right _ _ t))))))
 
-pub ready-parts : (n : ℕ) (m : ℕ → Bool) (f : ℕ → ℕ → Bool) (p : List ℕ) (a : ℕ) → a < n → ready n m f p a ≡ true → NextReady n m f p a
+pub ready_parts : (n : ℕ) (m : ℕ → Bool) (f : ℕ → ℕ → Bool) (p : List ℕ) (a : ℕ) → a < n → ready n m f p a ≡ true → NextReady n m f p a
 unfolding ready misses
-ready-parts n m f p a l e =
+ready_parts n m f p a l e =
     record {
       below = l;
       member = and_left _ _ (and_left _ _ e);
@@ -45,40 +45,40 @@ ready-parts n m f p a l e =
 -- ── how many are unplaced ──
 
 module _ (m : ℕ → Bool) (p : List ℕ) (a : ℕ) where
-  -- `isUnplaced` in parts
-  pub unplaced-is : m a ≡ true → mem a p ≡ false → isUnplaced m p a ≡ true
-  unfolding isUnplaced
+  -- `is_unplaced` in parts
+  pub unplaced-is : m a ≡ true → mem a p ≡ false → is_unplaced m p a ≡ true
+  unfolding is_unplaced
   unplaced-is x y = both _ _ x (ap not y)
 
-  pub unplaced-parts : isUnplaced m p a ≡ true → (m a ≡ true) × (mem a p ≡ false)
-  unfolding isUnplaced
-  unplaced-parts e = (and_left _ _ e, not-true _ (and_right _ _ e))
+  pub unplaced_parts : is_unplaced m p a ≡ true → (m a ≡ true) × (mem a p ≡ false)
+  unfolding is_unplaced
+  unplaced_parts e = (and_left _ _ e, not-true _ (and_right _ _ e))
 
 module _ (n : ℕ) (m : ℕ → Bool) where
   -- at first each member is
   pub unplaced-all : unplaced n m [] ≡ count 0 n m
-  unfolding unplaced isUnplaced mem
-  unplaced-all = count_same (isUnplaced m []) m n 0 (λ a _ l. and-swap (m a) true ∙ and-on true (m a) refl)
+  unfolding unplaced is_unplaced mem
+  unplaced-all = count_same (is_unplaced m []) m n 0 (λ a _ l. and_swap (m a) true ∙ and_on true (m a) refl)
 
   -- none is exactly if each member is placed
   pub unplaced-none : (p : List ℕ) → ((a : ℕ) → a < n → m a ≡ true → mem a p ≡ true) → unplaced n m p ≡ 0
   unfolding unplaced
   unplaced-none p h =
-      count-zero (isUnplaced m p) n 0 (λ a _ l. is_false _ (λ e. let u = unplaced-parts m p a e in clash (h a l u.0) u.1))
+      count-zero (is_unplaced m p) n 0 (λ a _ l. is_false _ (λ e. let u = unplaced_parts m p a e in clash (h a l u.0) u.1))
 
   pub none-unplaced : (p : List ℕ) → unplaced n m p ≡ 0 → (a : ℕ) → a < n → m a ≡ true → mem a p ≡ true
   unfolding unplaced
-  none-unplaced p e a l x = is_true (mem a p) (λ t. clash (unplaced-is m p a x t) (count_none (isUnplaced m p) n 0 e a (omega arith) l))
+  none-unplaced p e a l x = is_true (mem a p) (λ t. clash (unplaced-is m p a x t) (count_none (is_unplaced m p) n 0 e a (omega arith) l))
 
   -- one more placed: one unplaced less
-  pub unplaced-less : (p : List ℕ) (a : ℕ) → a < n → m a ≡ true → mem a p ≡ false → unplaced n m p ≡ suc (unplaced n m (p ++ (a ∷ [])))
-  unfolding unplaced isUnplaced
-  unplaced-less p a l x y =
-      count_less (isUnplaced m p) (isUnplaced m (p ++ (a ∷ []))) a n 0 (omega arith) l (unplaced-is m p a x y)
-      (is_false _ (λ t. clash (mem-last a p) (unplaced-parts m (p ++ (a ∷ [])) a t).1)) (λ b _ d. ap (λ t. m b and not t) (mem-other b p a d))
+  pub unplaced_less : (p : List ℕ) (a : ℕ) → a < n → m a ≡ true → mem a p ≡ false → unplaced n m p ≡ suc (unplaced n m (p ++ (a ∷ [])))
+  unfolding unplaced is_unplaced
+  unplaced_less p a l x y =
+      count_less (is_unplaced m p) (is_unplaced m (p ++ (a ∷ []))) a n 0 (omega arith) l (unplaced-is m p a x y)
+      (is_false _ (λ t. clash (mem-last a p) (unplaced_parts m (p ++ (a ∷ [])) a t).1)) (λ b _ d. ap (λ t. m b and not t) (mem-other b p a d))
 
-ready-less : {n : ℕ} {m : ℕ → Bool} {f : ℕ → ℕ → Bool} {p : List ℕ} {a : ℕ} → NextReady n m f p a → unplaced n m p ≡ suc (unplaced n m (p ++ (a ∷ [])))
-ready-less {n} {m} {p = p} {a} r = unplaced-less n m p a r.below r.member r.new
+ready_less : {n : ℕ} {m : ℕ → Bool} {f : ℕ → ℕ → Bool} {p : List ℕ} {a : ℕ} → NextReady n m f p a → unplaced n m p ≡ suc (unplaced n m (p ++ (a ∷ [])))
+ready_less {n} {m} {p = p} {a} r = unplaced_less n m p a r.below r.member r.new
 
 -- ── the smallest that may come next ──
 
@@ -86,21 +86,21 @@ module _ (n : ℕ) (m : ℕ → Bool) (f : ℕ → ℕ → Bool) (p : List ℕ) 
   pub next-ready : next n m f p < n → NextReady n m f p (next n m f p)
   unfolding next
   next-ready l =
-      ⊎_elim (λ z. absurd (omega (arith, z.0))) (λ g. ready-parts n m f p _ l g.passes) (first-cases n (ready n m f p) n 0)
+      ⊎_elim (λ z. absurd (omega (arith, z.0))) (λ g. ready_parts n m f p _ l g.passes) (first_cases n (ready n m f p) n 0)
 
   -- with it placed, one unplaced less
   pub unplaced-step : next n m f p < n → unplaced n m p ≡ suc (unplaced n m (p ++ (next n m f p ∷ [])))
-  unplaced-step l = ready-less (next-ready l)
+  unplaced-step l = ready_less (next-ready l)
 
   -- `fill` by its first place: the smallest that may come next, or none
   fill_step : (k : ℕ) → next n m f p < n → fill n m f (suc k) p ≡ next n m f p ∷ fill n m f k (p ++ (next n m f p ∷ []))
   unfolding fill
-  fill_step k l = pick-on _ _ _ (lt-ltb (next n m f p) n l)
+  fill_step k l = pick_on _ _ _ (lt-ltb (next n m f p) n l)
 
   fill_end : (k : ℕ) → n ≤ next n m f p → fill n m f k p ≡ []
   unfolding fill
   fill_end zero l = refl
-  fill_end (suc k) l = pick-off _ _ _ (le-ltb (next n m f p) n l)
+  fill_end (suc k) l = pick_off _ _ _ (le-ltb (next n m f p) n l)
 
   -- `rest` likewise
   pub rest-step : next n m f p < n → rest n m f p ≡ next n m f p ∷ rest n m f (p ++ (next n m f p ∷ []))
@@ -117,25 +117,25 @@ unfolding next
 next-first {n} {m} {f} {p} {a} r =
     ⊎_elim (λ z. absurd (clash (ready-is r) (z.1 a (omega arith) r.below)))
     (λ g. ⊎_elim (λ l. absurd (clash (ready-is r) (g.none a (omega arith) l))) (λ h. h) (split a (first n 0 n (ready n m f p))))
-    (first-cases n (ready n m f p) n 0)
+    (first_cases n (ready n m f p) n 0)
 
 -- ── the entries of what is filled ──
 
 module _ (n : ℕ) (m : ℕ → Bool) (f : ℕ → ℕ → Bool) where
   -- at most k, each below n
-  fill-bound : (k : ℕ) (p : List ℕ) → length (fill n m f k p) ≤ k
+  fill_bound : (k : ℕ) (p : List ℕ) → length (fill n m f k p) ≤ k
   unfolding fill
-  fill-bound zero p = omega arith
-  fill-bound (suc k) p =
-      ⊎_elim (λ l. rw (fill_step n m f p k l) (omega (arith, fill-bound k (p ++ (next n m f p ∷ [])))))
+  fill_bound zero p = omega arith
+  fill_bound (suc k) p =
+      ⊎_elim (λ l. rw (fill_step n m f p k l) (omega (arith, fill_bound k (p ++ (next n m f p ∷ [])))))
       (λ g. rw (fill_end n m f p (suc k) g) (omega arith)) (split (next n m f p) n)
 
-  fill-below : (k : ℕ) (p : List ℕ) (i : ℕ) → i < length (fill n m f k p) → get_or (fill n m f k p) i 0 < n
+  fill_below : (k : ℕ) (p : List ℕ) (i : ℕ) → i < length (fill n m f k p) → get_or (fill n m f k p) i 0 < n
   unfolding fill
-  fill-below zero p i h = absurd (omega arith)
-  fill-below (suc k) p i h =
+  fill_below zero p i h = absurd (omega arith)
+  fill_below (suc k) p i h =
       let q : List ℕ = p ++ (next n m f p ∷ []) in
-      ⊎_elim (λ l. rw (fill_step n m f p k l) (go (fill n m f k q) l (fill-below k q) i (rw (fill_step n m f p k l) at h)))
+      ⊎_elim (λ l. rw (fill_step n m f p k l) (go (fill n m f k q) l (fill_below k q) i (rw (fill_step n m f p k l) at h)))
       (λ g. absurd (let z = rw (fill_end n m f p (suc k) g) at h in omega arith))
       (split (next n m f p) n)
     where
@@ -144,13 +144,13 @@ module _ (n : ℕ) (m : ℕ → Bool) (f : ℕ → ℕ → Bool) where
       go xs l ih (suc i) h = ih i (omega arith)
 
   -- so no more than are unplaced
-  pub rest-bound : (p : List ℕ) → length (rest n m f p) ≤ unplaced n m p
+  pub rest_bound : (p : List ℕ) → length (rest n m f p) ≤ unplaced n m p
   unfolding rest
-  rest-bound p = fill-bound (unplaced n m p) p
+  rest_bound p = fill_bound (unplaced n m p) p
 
   pub rest_below : (p : List ℕ) (i : ℕ) → i < length (rest n m f p) → get_or (rest n m f p) i 0 < n
   unfolding rest
-  rest_below p = fill-below (unplaced n m p) p
+  rest_below p = fill_below (unplaced n m p) p
 
 -- ── ways to fill the rest ──
 
@@ -169,7 +169,7 @@ module _ {n : ℕ} {m : ℕ → Bool} {f : ℕ → ℕ → Bool} where
   -- it has as many as are unplaced
   pub fits-length : {p o : List ℕ} → NextFits n m f p o → length o ≡ unplaced n m p
   fits-length {p} (done h) = sym (unplaced-none n m p h)
-  fits-length (more r t) = omega (arith, ready-less r, fits-length t)
+  fits-length (more r t) = omega (arith, ready_less r, fits-length t)
 
   -- `fill` goes before every other
   fill-first : (k : ℕ) {p o : List ℕ} → NextFits n m f p o → Lex (fill n m f k p) o
@@ -183,10 +183,10 @@ module _ {n : ℕ} {m : ℕ → Bool} {f : ℕ → ℕ → Bool} where
       (⊎_elim (λ e. same e (rw e (fill-first k t))) (λ l. less l) (eq-or-lt_of_le (next-first r)))
 
   -- a lawful order fits
-  pub lawful-fits : (o p : List ℕ) → Lawful n m f (p ++ o) → NextFits n m f p o
-  lawful-fits [] p l = done (λ a h x. in_place a p (rw append-nil at (l.has a h x)))
-  lawful-fits (x ∷ o) p l =
-      more (record { below = x-in.0; member = x-in.1; new = new; after = after }) (lawful-fits o (p ++ (x ∷ [])) (rw append_assoc l))
+  pub lawful_fits : (o p : List ℕ) → Lawful n m f (p ++ o) → NextFits n m f p o
+  lawful_fits [] p l = done (λ a h x. in_place a p (rw append-nil at (l.has a h x)))
+  lawful_fits (x ∷ o) p l =
+      more (record { below = x_in.0; member = x_in.1; new = new; after = after }) (lawful_fits o (p ++ (x ∷ [])) (rw append_assoc l))
     where
       here : get_or (p ++ x ∷ o) (length p) 0 ≡ x
       here = get_or-append_seam p x o 0
@@ -194,8 +194,8 @@ module _ {n : ℕ} {m : ℕ → Bool} {f : ℕ → ℕ → Bool} where
       inside : length p < length (p ++ x ∷ o)
       inside = simp length-append (omega arith)
 
-      x-in : (x < n) × (m x ≡ true)
-      x-in = rw here at (l.lists (length p) inside)
+      x_in : (x < n) × (m x ≡ true)
+      x_in = rw here at (l.lists (length p) inside)
 
       at_x : place x (p ++ x ∷ o) ≡ length p
       at_x = rw here at (l.once (length p) inside)
@@ -214,16 +214,16 @@ module _ {n : ℕ} {m : ℕ → Bool} {f : ℕ → ℕ → Bool} where
   starts_more : {p : List ℕ} {x : ℕ} → Forces n m f → NextReady n m f p x → Starts n m f p → Starts n m f (p ++ (x ∷ []))
   starts_more {p} {x} w r s =
       record {
-        lists = λ i h. ⊎_elim (λ c. rw c.1 (s.lists i c.0)) (λ c. rw c.1 (r.below, r.member)) (entry-snoc p x i h);
-        once = λ i h. ⊎_elim (λ c. rw c.1 (front (get_or p i 0) (known_in i c.0) ∙ s.once i c.0)) (λ c. rw c.1 (at_x ∙ sym c.0)) (entry-snoc p x i h);
+        lists = λ i h. ⊎_elim (λ c. rw c.1 (s.lists i c.0)) (λ c. rw c.1 (r.below, r.member)) (entry_snoc p x i h);
+        once = λ i h. ⊎_elim (λ c. rw c.1 (front (get_or p i 0) (known_in i c.0) ∙ s.once i c.0)) (λ c. rw c.1 (at_x ∙ sym c.0)) (entry_snoc p x i h);
         before =
             λ a b e h.
             ⊎_elim
             (λ k. let u = s.before a b e k in let v = place_in b p k in omega (arith, front b k, front a (in_place a p (omega arith))))
             (λ k.
-            let a_in = r.after a (w.first-in a b e).0 (rw k at e) in
+            let a_in = r.after a (w.first_in a b e).0 (rw k at e) in
             rw k (omega (arith, front a a_in, place_in a p a_in, at_x)))
-            (mem-snoc b p x h);
+            (mem_snoc b p x h);
       }
     where
       at_x : place x (p ++ (x ∷ [])) ≡ length p
@@ -252,50 +252,50 @@ module _ {n : ℕ} {m : ℕ → Bool} {f : ℕ → ℕ → Bool} where
           omega (arith, head, s.before 0 (get_or p 0 0) f0 (in_place (get_or p 0 0) p (omega (arith, head, some_in))))
 
   -- what fits is lawful
-  fits-lawful : {o p : List ℕ} → Forces n m f → Starts n m f p → NextFits n m f p o → Lawful n m f (p ++ o)
-  fits-lawful {p = p} w s (done h) =
+  fits_lawful : {o p : List ℕ} → Forces n m f → Starts n m f p → NextFits n m f p o → Lawful n m f (p ++ o)
+  fits_lawful {p = p} w s (done h) =
       rw append-nil
       (record {
         lists = s.lists;
         once = s.once;
         has = λ a l x. place_in a p (h a l x);
         first = starts_first w s (h 0 w.some w.zero_in);
-        before = λ a b e. let y = w.second-in a b e in s.before a b e (h b y.0 y.1);
+        before = λ a b e. let y = w.second_in a b e in s.before a b e (h b y.0 y.1);
       })
-  fits-lawful w s (more r t) = rw append_assoc at (fits-lawful w (starts_more w r s) t)
+  fits_lawful w s (more r t) = rw append_assoc at (fits_lawful w (starts_more w r s) t)
 
   -- ── the theorems ──
 
   -- a lawful order has each member once: as many as there are
-  pub lawful-length : {o : List ℕ} → Lawful n m f o → length o ≡ count 0 n m
-  lawful-length l = fits-length (lawful-fits _ [] l) ∙ unplaced-all n m
+  pub lawful_length : {o : List ℕ} → Lawful n m f o → length o ≡ count 0 n m
+  lawful_length l = fits-length (lawful_fits _ [] l) ∙ unplaced-all n m
 
   -- `rest` goes before every lawful order
   pub rest-first : {o : List ℕ} → Lawful n m f o → Lex (rest n m f []) o
   unfolding rest
-  rest-first l = fill-first (unplaced n m []) (lawful-fits _ [] l)
+  rest-first l = fill-first (unplaced n m []) (lawful_fits _ [] l)
 
   -- along a way the places rise, so none leads to itself
   pub leads-before : {o : List ℕ} → Lawful n m f o → {a b : ℕ} → Leads f a b → place a o < place b o
   leads-before l (step e) = l.before _ _ e
   leads-before l (then e p) = omega (arith, l.before _ _ e, leads-before l p)
 
-  pub lawful-free : {o : List ℕ} → Lawful n m f o → (a : ℕ) → Leads f a a → ⊥
-  lawful-free l a p = omega (arith, leads-before l p)
+  pub lawful_free : {o : List ℕ} → Lawful n m f o → (a : ℕ) → Leads f a a → ⊥
+  lawful_free l a p = omega (arith, leads-before l p)
 
   module _ (w : Forces n m f) where
     module _ (free : (a : ℕ) → Leads f a a → ⊥) where
       -- while a member is unplaced, one may come next: the lowest of them by what leads to what
-      next-below : (k : ℕ) (p : List ℕ) → unplaced n m p ≡ suc k → next n m f p < n
+      next_below : (k : ℕ) (p : List ℕ) → unplaced n m p ≡ suc k → next n m f p < n
       unfolding unplaced
-      next-below k p e =
-          ⊎_elim (λ none. absurd (omega (arith, count-zero (isUnplaced m p) n 0 (λ a _ l. none a l))))
+      next_below k p e =
+          ⊎_elim (λ none. absurd (omega (arith, count-zero (is_unplaced m p) n 0 (λ a _ l. none a l))))
           (λ l. omega (arith, next-first (at_ready l), l.under))
-          (lowest (via f n) n (via-on f n) (λ a h. is_false (via f n a a) (λ x. free a (via-leads f n a a x))) (isUnplaced m p) n (omega arith))
+          (lowest (via f n) n (via_on f n) (λ a h. is_false (via f n a a) (λ x. free a (via-leads f n a a x))) (is_unplaced m p) n (omega arith))
         where
-          at_ready : (l : Lowest (via f n) (isUnplaced m p) n) → NextReady n m f p l.at
+          at_ready : (l : Lowest (via f n) (is_unplaced m p) n) → NextReady n m f p l.at
           at_ready l =
-              let u = unplaced-parts m p l.at l.passes in
+              let u = unplaced_parts m p l.at l.passes in
               record {
                 below = l.under;
                 member = u.0;
@@ -303,7 +303,7 @@ module _ {n : ℕ} {m : ℕ → Bool} {f : ℕ → ℕ → Bool} where
                 after =
                     λ b h x.
                     is_true (mem b p)
-                    (λ t. clash (via-keeps f n b l.at x) (l.none b h (unplaced-is m p b (w.first-in b l.at x).1 t)));
+                    (λ t. clash (via_keeps f n b l.at x) (l.none b h (unplaced-is m p b (w.first_in b l.at x).1 t)));
               }
 
       -- so `fill` fits
@@ -311,13 +311,13 @@ module _ {n : ℕ} {m : ℕ → Bool} {f : ℕ → ℕ → Bool} where
       unfolding fill
       fill-fits zero p e = done (none-unplaced n m p e)
       fill-fits (suc k) p e =
-          let l = next-below k p e in
+          let l = next_below k p e in
           rw (fill_step n m f p k l) (more (next-ready n m f p l) (fill-fits k (p ++ (next n m f p ∷ [])) (omega (arith, unplaced-step n m f p l))))
 
       -- where none leads to itself, `rest` is lawful
-      pub rest-lawful : Lawful n m f (rest n m f [])
+      pub rest_lawful : Lawful n m f (rest n m f [])
       unfolding rest
-      rest-lawful = fits-lawful w starts_none (fill-fits (unplaced n m []) [] refl)
+      rest_lawful = fits_lawful w starts_none (fill-fits (unplaced n m []) [] refl)
 
     -- what is filled fits as well where it has as many as are unplaced
     fill-whole : (k : ℕ) (p : List ℕ) → unplaced n m p ≡ k → length (fill n m f k p) ≡ k → NextFits n m f p (fill n m f k p)
@@ -333,23 +333,23 @@ module _ {n : ℕ} {m : ℕ → Bool} {f : ℕ → ℕ → Bool} where
 
     rest-whole : length (rest n m f []) ≡ count 0 n m → Lawful n m f (rest n m f [])
     unfolding rest
-    rest-whole e = fits-lawful w starts_none (fill-whole (unplaced n m []) [] refl (e ∙ sym (unplaced-all n m)))
+    rest-whole e = fits_lawful w starts_none (fill-whole (unplaced n m []) [] refl (e ∙ sym (unplaced-all n m)))
 
     -- so no pair is listed exactly if `rest` has every member
-    pub whole-iff : (length (rest n m f []) ≡ count 0 n m) ↔ ((a b : ℕ) → Listed f a b → ⊥)
-    whole-iff = (λ e. none-listed (lawful-free (rest-whole e)), λ h. lawful-length (rest-lawful (listed-none h)))
+    pub whole_iff : (length (rest n m f []) ≡ count 0 n m) ↔ ((a b : ℕ) → Listed f a b → ⊥)
+    whole_iff = (λ e. none-listed (lawful_free (rest-whole e)), λ h. lawful_length (rest_lawful (listed-none h)))
 
     -- a lawful order exists exactly if no pair is listed
-    pub lawful-iff : ((o : List ℕ) × Lawful n m f o) ↔ ((a b : ℕ) → Listed f a b → ⊥)
-    lawful-iff = (λ l. none-listed (lawful-free l.1), λ h. (rest n m f [], rest-lawful (listed-none h)))
+    pub lawful_iff : ((o : List ℕ) × Lawful n m f o) ↔ ((a b : ℕ) → Listed f a b → ⊥)
+    lawful_iff = (λ l. none-listed (lawful_free l.1), λ h. (rest n m f [], rest_lawful (listed-none h)))
 
 -- dictionary order leaves one first
-pub lex-both : {xs ys : List ℕ} → Lex xs ys → Lex ys xs → xs ≡ ys
-lex-both short short = refl
-lex-both (less p) (less q) = absurd (omega arith)
-lex-both (less p) (same e q) = absurd (omega arith)
-lex-both (same e p) (less q) = absurd (omega arith)
-lex-both (same e p) (same d q) = rw (e, lex-both p q)
+pub lex_both : {xs ys : List ℕ} → Lex xs ys → Lex ys xs → xs ≡ ys
+lex_both short short = refl
+lex_both (less p) (less q) = absurd (omega arith)
+lex_both (less p) (same e q) = absurd (omega arith)
+lex_both (same e p) (less q) = absurd (omega arith)
+lex_both (same e p) (same d q) = rw (e, lex_both p q)
 
 -- the first of the lawful orders
 pub record FirstLawful (n : ℕ) (m : ℕ → Bool) (f : ℕ → ℕ → Bool) (o : List ℕ) : Type 0 where
@@ -359,8 +359,8 @@ pub record FirstLawful (n : ℕ) (m : ℕ → Bool) (f : ℕ → ℕ → Bool) (
 module _ {n : ℕ} {m : ℕ → Bool} {f : ℕ → ℕ → Bool} (w : Forces n m f) {o : List ℕ} where
   -- where an order is lawful, `rest` is the first that is
   pub rest-is-first : Lawful n m f o → FirstLawful n m f (rest n m f [])
-  rest-is-first l = record { lawful = rest-lawful w (lawful-free l); first = rest-first }
+  rest-is-first l = record { lawful = rest_lawful w (lawful_free l); first = rest-first }
 
   -- and no other is
-  pub rest-is-only : FirstLawful n m f o → o ≡ rest n m f []
-  rest-is-only l = let r = rest-is-first l.lawful in lex-both (l.first r.lawful) (r.first l.lawful)
+  pub rest-is_only : FirstLawful n m f o → o ≡ rest n m f []
+  rest-is_only l = let r = rest-is-first l.lawful in lex_both (l.first r.lawful) (r.first l.lawful)

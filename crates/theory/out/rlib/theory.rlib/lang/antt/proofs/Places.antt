@@ -16,29 +16,29 @@ use Rattle.theory.specs.Order.{mem, place}
 -- ── members ──
 
 -- a list's members are those of its parts
-pub mem-append : (a : ℕ) (xs ys : List ℕ) → mem a (xs ++ ys) ≡ mem a xs or mem a ys
+pub mem_append : (a : ℕ) (xs ys : List ℕ) → mem a (xs ++ ys) ≡ mem a xs or mem a ys
 unfolding mem ◌or◌
-mem-append a [] ys = refl
-mem-append a (x ∷ xs) ys = ap (λ b. eqb a x or b) (mem-append a xs ys) ∙ sym (or_assoc (eqb a x) (mem a xs) (mem a ys))
+mem_append a [] ys = refl
+mem_append a (x ∷ xs) ys = ap (λ b. eqb a x or b) (mem_append a xs ys) ∙ sym (or_assoc (eqb a x) (mem a xs) (mem a ys))
 
-pub mem-one : (a x : ℕ) → mem a (x ∷ []) ≡ eqb a x
+pub mem_one : (a x : ℕ) → mem a (x ∷ []) ≡ eqb a x
 unfolding mem ◌or◌
-mem-one a x = ⊎_elim (λ t. rw t) (λ t. rw t) (known (eqb a x))
+mem_one a x = ⊎_elim (λ t. rw t) (λ t. rw t) (known (eqb a x))
 
 -- what the first part has, the list has
 pub mem-front : (a : ℕ) (xs ys : List ℕ) → mem a xs ≡ true → mem a (xs ++ ys) ≡ true
-mem-front a xs ys e = rw mem-append (or_left _ _ e)
+mem-front a xs ys e = rw mem_append (or_left _ _ e)
 
 -- what a list with one more at its end has
 pub mem-last : (a : ℕ) (xs : List ℕ) → mem a (xs ++ (a ∷ [])) ≡ true
-mem-last a xs = rw mem-append (or_right _ _ (mem-one a a ∙ eq-eqb a a refl))
+mem-last a xs = rw mem_append (or_right _ _ (mem_one a a ∙ eq-eqb a a refl))
 
-pub mem-snoc : (a : ℕ) (xs : List ℕ) (x : ℕ) → mem a (xs ++ (x ∷ [])) ≡ true → (mem a xs ≡ true) ⊎ (a ≡ x)
-mem-snoc a xs x e = ⊎_elim (λ h. inl h) (λ h. inr (eqb-true a x (rw mem-one at h))) (or_cases _ _ (rw mem-append at e))
+pub mem_snoc : (a : ℕ) (xs : List ℕ) (x : ℕ) → mem a (xs ++ (x ∷ [])) ≡ true → (mem a xs ≡ true) ⊎ (a ≡ x)
+mem_snoc a xs x e = ⊎_elim (λ h. inl h) (λ h. inr (eqb-true a x (rw mem_one at h))) (or_cases _ _ (rw mem_append at e))
 
 -- one more changes nothing for the others
 pub mem-other : (a : ℕ) (xs : List ℕ) (x : ℕ) → (a ≡ x → ⊥) → mem a xs ≡ mem a (xs ++ (x ∷ []))
-mem-other a xs x d = same_test _ _ (mem-front a xs (x ∷ [])) (λ e. ⊎_elim (λ h. h) (λ h. absurd (d h)) (mem-snoc a xs x e))
+mem-other a xs x d = same_test _ _ (mem-front a xs (x ∷ [])) (λ e. ⊎_elim (λ h. h) (λ h. absurd (d h)) (mem_snoc a xs x e))
 
 -- ── places ──
 
@@ -65,12 +65,12 @@ pub place_same : (a b : ℕ) (xs : List ℕ) → place a xs < length xs → plac
 place_same a b xs p q e = sym (place_at a xs p) ∙ ap (λ (i : ℕ). get_or xs i 0) e ∙ place_at b xs q
 
 -- an entry's place is no later than where it stands
-pub place-most : (xs : List ℕ) (i : ℕ) → i < length xs → place (get_or xs i 0) xs ≤ i
+pub place_most : (xs : List ℕ) (i : ℕ) → i < length xs → place (get_or xs i 0) xs ≤ i
 unfolding place pick
-place-most [] i l = absurd (omega arith)
-place-most (x ∷ xs) zero l = rw (eq-eqb x x refl) (omega arith)
-place-most (x ∷ xs) (suc i) l =
-    let k = place-most xs i (omega arith) in
+place_most [] i l = absurd (omega arith)
+place_most (x ∷ xs) zero l = rw (eq-eqb x x refl) (omega arith)
+place_most (x ∷ xs) (suc i) l =
+    let k = place_most xs i (omega arith) in
     ⊎_elim (λ (t : eqb (get_or xs i 0) x ≡ true). rw t (omega arith)) (λ (t : eqb (get_or xs i 0) x ≡ false). rw t (omega arith)) (known (eqb (get_or xs i 0) x))
 
 -- the place of one that is in the first part; of one that is not
@@ -91,9 +91,9 @@ unfolding place pick
 place-new a xs ys e = let h : place a (a ∷ ys) ≡ 0 = rw (eq-eqb a a refl) in omega (arith, place-back a xs (a ∷ ys) e)
 
 -- an entry of a list with one more at its end
-pub entry-snoc : (xs : List ℕ) (x i : ℕ) → i < length (xs ++ (x ∷ []))
+pub entry_snoc : (xs : List ℕ) (x i : ℕ) → i < length (xs ++ (x ∷ []))
     → ((i < length xs) × (get_or (xs ++ (x ∷ [])) i 0 ≡ get_or xs i 0)) ⊎ ((i ≡ length xs) × (get_or (xs ++ (x ∷ [])) i 0 ≡ x))
-entry-snoc xs x i h =
+entry_snoc xs x i h =
     ⊎_elim (λ l. inl (l, get_or-append xs (x ∷ []) 0 i l))
     (λ g. let e : i ≡ length xs = omega (arith, length-append xs (x ∷ [])) in inr (e, rw e (get_or-append_seam xs x [] 0)))
     (split i (length xs))

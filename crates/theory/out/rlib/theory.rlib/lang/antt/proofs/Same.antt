@@ -7,11 +7,11 @@ use native.Mathlib.Omega.{arith}
 use Rattle.base.specs.Base.{◌and◌}
 use Rattle.base.proofs.Searches.{some_same, first-same, count_same}
 use Rattle.theory.specs.Leads.{via}
-use Rattle.theory.specs.Order.{mem, misses, ready, isUnplaced, unplaced, next, fill, rest}
+use Rattle.theory.specs.Order.{mem, misses, ready, is_unplaced, unplaced, next, fill, rest}
 
 pub unplaced-same : (n : ℕ) (m m' : ℕ → Bool) → ((a : ℕ) → a < n → m a ≡ m' a) → (p : List ℕ) → unplaced n m p ≡ unplaced n m' p
-unfolding unplaced isUnplaced
-unplaced-same n m m' h p = count_same (isUnplaced m p) (isUnplaced m' p) n 0 (λ a _ l. ap (λ t. t and not (mem a p)) (h a l))
+unfolding unplaced is_unplaced
+unplaced-same n m m' h p = count_same (is_unplaced m p) (is_unplaced m' p) n 0 (λ a _ l. ap (λ t. t and not (mem a p)) (h a l))
 
 module _ (n : ℕ) (f g : ℕ → ℕ → Bool) (hf : (a b : ℕ) → a < n → b < n → f a b ≡ g a b) where
   pub via-same : (k : ℕ) → k ≤ n → (a b : ℕ) → a < n → b < n → via f k a b ≡ via g k a b

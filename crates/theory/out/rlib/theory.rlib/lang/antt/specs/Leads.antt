@@ -18,5 +18,5 @@ pub record Listed (f : ℕ → ℕ → Bool) (a b : ℕ) : Type 0 where
   pub back : Leads f b a
 
 -- the same as a test, where every pair is of numbers below n
-unfoldable pub isListed : ℕ → (ℕ → ℕ → Bool) → ℕ → ℕ → Bool
-isListed n f a b = f a b and via f n b a
+unfoldable pub is_listed : ℕ → (ℕ → ℕ → Bool) → ℕ → ℕ → Bool
+is_listed n f a b = f a b and via f n b a

@@ -16,8 +16,8 @@ place a (x ∷ xs) = pick (eqb a x) zero (suc (place a xs))
 pub record Forces (n : ℕ) (m : ℕ → Bool) (f : ℕ → ℕ → Bool) : Type 0 where
   pub some : 0 < n
   pub zero_in : m 0 ≡ true
-  pub first-in : (a b : ℕ) → f a b ≡ true → (a < n) × (m a ≡ true)
-  pub second-in : (a b : ℕ) → f a b ≡ true → (b < n) × (m b ≡ true)
+  pub first_in : (a b : ℕ) → f a b ≡ true → (a < n) × (m a ≡ true)
+  pub second_in : (a b : ℕ) → f a b ≡ true → (b < n) × (m b ≡ true)
   pub start : (b : ℕ) → b < n → m b ≡ true → (b ≡ 0 → ⊥) → f 0 b ≡ true
 
 -- a lawful order has every member once, 0 first, and each forced pair's first before its second
@@ -37,11 +37,11 @@ unfoldable pub ready : ℕ → (ℕ → Bool) → (ℕ → ℕ → Bool) → Lis
 ready n m f p a = m a and not (mem a p) and not (some 0 n (misses f p a))
 
 -- a is a member that is not placed; how many are
-unfoldable pub isUnplaced : (ℕ → Bool) → List ℕ → ℕ → Bool
-isUnplaced m p a = m a and not (mem a p)
+unfoldable pub is_unplaced : (ℕ → Bool) → List ℕ → ℕ → Bool
+is_unplaced m p a = m a and not (mem a p)
 
 unfoldable pub unplaced : ℕ → (ℕ → Bool) → List ℕ → ℕ
-unplaced n m p = count 0 n (isUnplaced m p)
+unplaced n m p = count 0 n (is_unplaced m p)
 
 -- the smallest that may come next; n where none may
 unfoldable pub next : ℕ → (ℕ → Bool) → (ℕ → ℕ → Bool) → List ℕ → ℕ

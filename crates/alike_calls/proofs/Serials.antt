@@ -135,7 +135,7 @@ module _ (s : List ℕ) (bytes : AllBytes s) {st : State} (p : Passes s st) (y :
   -- of a list read
   stands_here : kind s st.at ≡ 24 → (o : Op) → o.value ≡ st.at → Stands s o
   stands_here k o e =
-      let f = passes_framed p in
+      let f = passes_framed st p in
       let n = exactly _ _ (λ d. f.fits (list_not_its (f.sized.list_second k) k d)) in
       record {
         number = y.number;

@@ -96,14 +96,14 @@ module _ (f : ℕ → Bool) (s : List ℕ) where
       p = u.passes
 
       c : is_unanswered_close (event_in s st) ≡ true
-      c = close_unanswered (passes_framed p) u.closes u.unanswered
+      c = close_unanswered (passes_framed st p) u.closes u.unanswered
 
   -- any other byte
   module _ (i : ℕ) (d : (st : State) → Unanswered s st → i ≡ fields_at s st.at → ⊥) where
     at_elsewhere : {st : State} → Reaches s st → Passes s st → (b : List ℕ) → get_or (chosen_at f s st b) i 0 ≡ get_or b i 0
     at_elsewhere {st} r p b =
         at_other f s st b i
-        (λ t. let c = unanswered_close (passes_framed p) t in d st (record { reached = r; passes = p; closes = c.0; unanswered = c.1 }))
+        (λ t. let c = unanswered_close (passes_framed st p) t in d st (record { reached = r; passes = p; closes = c.0; unanswered = c.1 }))
 
     from_elsewhere : (k : ℕ) {st : State} → Reaches s st → get_or (chosen_from k f s st) i 0 ≡ get_or s i 0
     unfolding chosen_from

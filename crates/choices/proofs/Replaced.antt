@@ -44,7 +44,7 @@ module _ {s : List ℕ} {at : ℕ} (w : Framed s at) where
 -- its status lies within it
 pub status_within : (s : List ℕ) (st : State) → Passes s st → is_unanswered_close (event_in s st) ≡ true → fields_at s st.at < (after s st).at
 unfolding after
-status_within s st p u = let w = passes_framed p in omega (arith, close_length (is_second s) w.fits (unanswered_close w u).0)
+status_within s st p u = let w = passes_framed st p in omega (arith, close_length (is_second s) w.fits (unanswered_close w u).0)
 
 -- ── the bytes with one status replaced ──
 
@@ -115,5 +115,5 @@ module _ (f : ℕ → Bool) (s : List ℕ) where
       let p = none-refuses s st t in
       let far = (after_within s st p).0 in
       rw (from_on k st t e)
-      (at_other f s st (chosen_from k f s (after s st)) i (λ u. d (unanswered_close (passes_framed p) u).0)
+      (at_other f s st (chosen_from k f s (after s st)) i (λ u. d (unanswered_close (passes_framed st p) u).0)
       ∙ from_before k (after s st) i (omega arith) (λ _ q. omega arith)))

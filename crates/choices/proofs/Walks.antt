@@ -73,7 +73,7 @@ module _ (f : ℕ → Bool) (s : List ℕ) where
     passes = none-refuses s st t
 
     framed : Framed s st.at
-    framed = passes_framed passes
+    framed = passes_framed st passes
 
     abbrev behind : List ℕ
     behind = chosen_from k f s (after s st)

@@ -482,14 +482,14 @@ check_row s st bytesThere p = (ltb-true _ _, lt-ltb _ _)
 check_row s st serialFollows p = serial-test s st.at st.serial
 check_row s st kindKnown p = kind-test (is_second s) (kind s st.at)
 check_row s st lengthFits p =
-    let z = is_sized p in
+    let z = is_sized st p in
     length-test (is_second s) (kind s st.at) (len s st.at) (number s st.at) z.known z.no_note (λ l d. of_second z l d) z.low
 check_row s st editionFirst p = first-test (kind s st.at) st.at
 check_row s st editionIs2 p = edition-test (kind s st.at) (edition s st.at)
-check_row s st inPlace p = place-row s st (is_framed (λ d l. p d (omega arith)))
-check_row s st valueLawful p = unlawful-row (kinded (is_framed (λ d l. p d (omega arith)))) st.history
-check_row s st withinLimit p = excess-row (kinded (is_framed (λ d l. p d (omega arith)))) st.history
+check_row s st inPlace p = place-row s st (is_framed st (λ d l. p d (omega arith)))
+check_row s st valueLawful p = unlawful-row (kinded (is_framed st (λ d l. p d (omega arith)))) st.history
+check_row s st withinLimit p = excess-row (kinded (is_framed st (λ d l. p d (omega arith)))) st.history
 check_row s st newWrite p =
-    let w = kinded (is_framed {s = s} {st = st} (λ d l. p d (omega arith))) in
+    let w = kinded (is_framed st (λ d l. p d (omega arith))) in
     same_place s st (λ k l. p valueLawful (omega arith) (number_33 k l)) (repeated_row w st.history)
-check_row s st oneSort p = mixed_row (kinded (is_framed (λ d l. p d (omega arith)))) st.history
+check_row s st oneSort p = mixed_row (kinded (is_framed st (λ d l. p d (omega arith)))) st.history

@@ -93,8 +93,8 @@ lists_second false k u l d = absurd (u (above_6 l d none))
     none (lists q e) = clash q refl
 
 -- the checks leave it
-pub is_sized : {s : List ℕ} {st : State} → Clear (Fails s st) 5 → Sized s st.at
-is_sized p =
+pub is_sized : {s : List ℕ} (st : State) → Clear (Fails s st) 5 → Sized s st.at
+is_sized st p =
     record {
       low = at_least 6 _ (p lengthLow (omega arith));
       there = at_least _ _ (p bytesThere (omega arith));
@@ -104,11 +104,11 @@ is_sized p =
       list_second = λ k. lists_second _ _ (p kindKnown (omega arith)) (omega arith) (λ e. omega arith);
     }
 
-pub is_framed : {s : List ℕ} {st : State} → Clear (Fails s st) 6 → Framed s st.at
-is_framed p = record { sized = is_sized (λ d l. p d (omega arith)); fits = p lengthFits (omega arith) }
+pub is_framed : {s : List ℕ} (st : State) → Clear (Fails s st) 6 → Framed s st.at
+is_framed st p = record { sized = is_sized st (λ d l. p d (omega arith)); fits = p lengthFits (omega arith) }
 
-pub passes_framed : {s : List ℕ} {st : State} → Passes s st → Framed s st.at
-passes_framed p = is_framed (λ c _. p c)
+pub passes_framed : {s : List ℕ} (st : State) → Passes s st → Framed s st.at
+passes_framed st p = is_framed st (λ c _. p c)
 
 -- an event by its kind k, where its session, key, value, status and end number would be s, x, v, c and n, and what is held of a list read w
 pub data ShapeOf (k s x v c n w : ℕ) (e : Event) : Type 0 where

@@ -212,11 +212,11 @@ module _ (s : List ℕ) (st : State) (p : Passes s st) (g : Growing (is_second s
       grown_op (op_in s st.at t true) g (whose_tx w (write_outside k)) (below _ 1024 (λ l. p withinLimit (write_1025th k l)))
       (λ _ z. p valueLawful (written_0 k z)) (λ _ i w. p newWrite (write_again k w))
   grown (after_append {t} k w) =
-      grown_op (append_in s st.at t) g (in_second-tx w ((passes_framed p).sized.append_second k)) (below _ 1024 (λ l. p withinLimit (append_1025th k l)))
+      grown_op (append_in s st.at t) g (in_second-tx w ((passes_framed st p).sized.append_second k)) (below _ 1024 (λ l. p withinLimit (append_1025th k l)))
       (λ _ z. p valueLawful (appended_0 k z)) (λ _ i w. p newWrite (append_again k w))
   grown (after_list {t} k w) =
-      grown_op (list_in s st.at t) g (in_second-tx w ((passes_framed p).sized.list_second k)) (below _ 1024 (λ l. p withinLimit (list_1025th k l)))
-      (λ _ z. omega (arith, list_behind (passes_framed p) k)) (λ _ i w. p newWrite (list_again k w))
+      grown_op (list_in s st.at t) g (in_second-tx w ((passes_framed st p).sized.list_second k)) (below _ 1024 (λ l. p withinLimit (list_1025th k l)))
+      (λ _ z. omega (arith, list_behind (passes_framed st p) k)) (λ _ i w. p newWrite (list_again k w))
   grown (after_close {t} k w) =
       let h = st.history in
       record {

@@ -27,11 +27,11 @@ module _ (s : List ℕ) (st : State) (p : Passes s st) where
   -- the end is what `is_end` takes for one
   pub is_end_lem : kind s st.at ≡ 5 → is_end (event_in s st) ≡ true
   unfolding is_end
-  is_end_lem k = rw (end_event (passes_framed p) k)
+  is_end_lem k = rw (end_event (passes_framed st p) k)
 
   pub not_end : (kind s st.at ≡ 5 → ⊥) → is_end (event_in s st) ≡ false
   unfolding is_end
-  not_end d = go (shape (passes_framed p))
+  not_end d = go (shape (passes_framed st p))
     where
       go : Shape s st.at → is_end (event_in s st) ≡ false
       go (open_record k e) = rw e
@@ -78,10 +78,10 @@ module _ (s : List ℕ) (st : State) (p : Passes s st) where
 
   -- appends and list reads are of edition 2
   pub append_of : kind s st.at ≡ 23 → Whose s st (met s st)
-  append_of k = of_second ((passes_framed p).sized.append_second k) (λ e. omega arith) (append_of_none k)
+  append_of k = of_second ((passes_framed st p).sized.append_second k) (λ e. omega arith) (append_of_none k)
 
   pub list_of : kind s st.at ≡ 24 → Whose s st (met s st)
-  list_of k = of_second ((passes_framed p).sized.list_second k) (λ e. omega arith) (list_of_none k)
+  list_of k = of_second ((passes_framed st p).sized.list_second k) (λ e. omega arith) (list_of_none k)
 
   pub close_of : kind s st.at ≡ 4 → Whose s st (met s st)
   close_of k = belongs (λ e. omega arith) (close_outside k) (close_of_none k)
@@ -90,20 +90,20 @@ module _ (s : List ℕ) (st : State) (p : Passes s st) where
 
   read-after : kind s st.at ≡ 2 → moved s st (with_op st.history (op_in s st.at (met s st) false)) st.notes ≡ after s st
   unfolding after entered notes_behind
-  read-after k = rw (read-event (passes_framed p) k)
+  read-after k = rw (read-event (passes_framed st p) k)
 
   write_after : kind s st.at ≡ 3 → moved s st (with_op st.history (op_in s st.at (met s st) true)) st.notes ≡ after s st
   unfolding after entered notes_behind
-  write_after k = rw (write_event (passes_framed p) k)
+  write_after k = rw (write_event (passes_framed st p) k)
 
   append_after : kind s st.at ≡ 23 → moved s st (with_op st.history (append_in s st.at (met s st))) st.notes ≡ after s st
   unfolding after entered notes_behind
-  append_after k = rw (append_event (passes_framed p) k)
+  append_after k = rw (append_event (passes_framed st p) k)
 
   -- a list read that passes has a lawful number, so that its offset is held
   pub list_held : kind s st.at ≡ 24 → event_in s st ≡ Write (list_key (key s st.at)) st.at
   list_held k =
-      list_event (passes_framed p) k
+      list_event (passes_framed st p) k
       ∙ ap (Write (list_key (key s st.at))) (list_place_lem st.at (number s st.at) (at_least _ _ (λ l. p valueLawful (number_33 k l))))
 
   list_after : kind s st.at ≡ 24 → moved s st (with_op st.history (list_in s st.at (met s st))) st.notes ≡ after s st
@@ -112,23 +112,23 @@ module _ (s : List ℕ) (st : State) (p : Passes s st) where
 
   close_after : kind s st.at ≡ 4 → moved s st (closed st.history (met s st) (status s st.at)) st.notes ≡ after s st
   unfolding after entered notes_behind
-  close_after k = rw (close_event (passes_framed p) k)
+  close_after k = rw (close_event (passes_framed st p) k)
 
   -- it is `after`
   pub next-is : (is_second s ≡ true → OneOpenEach st.history) → {x : State} → Next s st x → x ≡ after s st
   unfolding after entered notes_behind
-  next-is one (after_open k) = rw (open_event (passes_framed p) k)
+  next-is one (after_open k) = rw (open_event (passes_framed st p) k)
   next-is one (after_read k w) = rw (whose_one one w (read_of k)) (read-after k)
   next-is one (after_write k w) = rw (whose_one one w (write_of k)) (write_after k)
   next-is one (after_append k w) = rw (whose_one one w (append_of k)) (append_after k)
   next-is one (after_list k w) = rw (whose_one one w (list_of k)) (list_after k)
   next-is one (after_close k w) = rw (whose_one one w (close_of k)) (close_after k)
   next-is one (after_note k) = rw (note-event s st.at k)
-  next-is one (after_edition k) = rw (edition-event (passes_framed p) k)
+  next-is one (after_edition k) = rw (edition-event (passes_framed st p) k)
 
   pub next-after : (kind s st.at ≡ 5 → ⊥) → Next s st (after s st)
   unfolding after entered notes_behind
-  next-after d = go (shape (passes_framed p))
+  next-after d = go (shape (passes_framed st p))
     where
       go : Shape s st.at → Next s st (after s st)
       go (open_record k e) = rw (e) (after_open k)
@@ -144,12 +144,12 @@ module _ (s : List ℕ) (st : State) (p : Passes s st) where
   -- the end leaves history and notes as they are
   pub end_after : kind s st.at ≡ 5 → ((after s st).history ≡ st.history) × ((after s st).notes ≡ st.notes)
   unfolding after entered notes_behind
-  end_after k = (rw (end_event (passes_framed p) k), rw (end_event (passes_framed p) k))
+  end_after k = (rw (end_event (passes_framed st p) k), rw (end_event (passes_framed st p) k))
 
   -- it has 8 bytes or more, and ends within the trace
   pub after_within : (st.at + 8 ≤ (after s st).at) × ((after s st).at ≤ length s)
   unfolding after
-  after_within = let f = passes_framed p in (omega (arith, f.sized.low), omega (arith, f.sized.there))
+  after_within = let f = passes_framed st p in (omega (arith, f.sized.low), omega (arith, f.sized.there))
 
 -- a record with a state behind it is not the end
 pub next-not_end : {s : List ℕ} {st x : State} → Next s st x → kind s st.at ≡ 5 → ⊥

@@ -173,7 +173,7 @@ module _ {s : List ℕ} {h : History} (x : HasHistory s h) where
   record_whole : (j : ℕ) → record_at s j < length s → record_at s j + 4 ≤ length s
   record_whole j l =
       let y = passed j l in
-      let z = (passes_framed y.passes).sized in
+      let z = (passes_framed y.state y.passes).sized in
       omega (arith, y.here, z.low, z.there)
 
   -- one of lists is held
@@ -184,7 +184,7 @@ module _ {s : List ℕ} {h : History} (x : HasHistory s h) where
 pub no_lists_single : {s : List ℕ} → NoLists s → SingleValues s
 no_lists_single {s} u st r p o =
     let c = passed_before r in
-    let z = (passes_framed p).sized in
+    let z = (passes_framed st p).sized in
     u c.number (record { there = omega (arith, c.here, z.low, z.there); of_lists = rw c.here at o })
 
 -- ── the search ──

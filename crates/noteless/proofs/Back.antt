@@ -71,7 +71,7 @@ module _ {s : List ℕ} (b : AllBytes s) (first : is_second s ≡ false) where
   told_without (on {st} {next} rs p nx) = by (stepped s first st p nx) (told_without rs)
     where
       f : Framed s st.at
-      f = passes_framed p
+      f = passes_framed st p
 
       by : Stepped s first st p next → ClosedTo s st.at st.history → ClosedTo s next.at next.history
       by (by_step e t q i m) u =

@@ -103,24 +103,24 @@ module _ {s b : List ℕ} {st : State} {c : ℕ} (x : Copied s st.at b c) (next 
   copied_met =
       let q = came_to c next st in
       ifso (is_second s)
-      (λ t. met-second b q (x.second_is ∙ t) ∙ rw (copied_number x 8 (omega arith) (two_bytes (passes_framed p) t), copied_event x) (sym (met-second s st t)))
+      (λ t. met-second b q (x.second_is ∙ t) ∙ rw (copied_number x 8 (omega arith) (two_bytes (passes_framed st p) t), copied_event x) (sym (met-second s st t)))
       (λ t. met-first b q (x.second_is ∙ t) ∙ sym (met-first s st t))
 
   -- it passes, where its serial follows and a first record stays the first
   pub copied_passes : (0 < c → serial b c ≡ next) → (st.at ≡ 0 → c ≡ 0) → Passes b (came_to c next st)
   copied_passes follows first =
-      framed_passes b (came_to c next st) (copied_framed x (passes_framed p)) follows says (rw (copied_met, copied_event x) (passes_steps s st p))
+      framed_passes b (came_to c next st) (copied_framed x (passes_framed st p)) follows says (rw (copied_met, copied_event x) (passes_steps s st p))
     where
       -- the record that says the edition stands first in s, too, and says the same
       says : kind b c ≡ 16 → (c ≡ 0) × (edition b c ≡ 2)
       says e =
           let k : kind s st.at ≡ 16 = sym x.kind_is ∙ e in (
             first (exactly st.at 0 (λ d. p editionFirst (k, omega arith))),
-            copied_number x 8 (omega arith) (omega (arith, exactly (len s st.at) 8 (λ d. (passes_framed p).fits (edition_not_8 k d))))
+            copied_number x 8 (omega arith) (omega (arith, exactly (len s st.at) 8 (λ d. (passes_framed st p).fits (edition_not_8 k d))))
                 ∙ exactly (edition s st.at) 2 (λ d. p editionIs2 (k, d)),
           )
 
   -- it leaves the same history
   pub copied_after : (kind s st.at ≡ 6 → ⊥) → after b (came_to c next st) ≡ came_to (behind b c) (next_serial b c) (after s st)
   unfolding after
-  copied_after d = rw (copied_met, copied_event x, no_note (passes_framed p) d 0)
+  copied_after d = rw (copied_met, copied_event x, no_note (passes_framed st p) d 0)

@@ -45,7 +45,7 @@ module _ (s : List ℕ) (first : is_second s ≡ false) (st : State) (p : Passes
   h = st.history
 
   f : Framed s st.at
-  f = passes_framed p
+  f = passes_framed st p
 
   -- none says the edition: one that begins the trace would be edition 2's, and no other passes
   no_edition : kind s st.at ≡ 16 → ⊥

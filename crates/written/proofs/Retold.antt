@@ -49,7 +49,7 @@ pub last-bytes : {s : List ℕ} → AllBytes s → is_second s ≡ false → (st
     → take st.at s ++ record_of (serial s st.at) (item_of (End (tx_count st.history))) ≡ s
 last-bytes {s} b first st p k e =
     let n = exactly (end_number s st.at) (tx_count st.history) (λ d. p valueLawful (end_wrong k d)) in
-    rw (← n) (sym (last-spelt b first (passes_framed p) k) ∙ rw e (take-length s))
+    rw (← n) (sym (last-spelt b first (passes_framed st p) k) ∙ rw e (take-length s))
 
 -- ── all of them ──
 
@@ -84,7 +84,7 @@ module _ (s : List ℕ) (b : AllBytes s) (first : is_second s ≡ false) where
       es = history_steps st.history
 
       f : Framed s st.at
-      f = passes_framed p
+      f = passes_framed st p
 
       at_is : x.at ≡ behind s st.at
       at_is = (behind_it nx).0

@@ -92,8 +92,8 @@ module _ (s : List ℕ) (b : AllBytes s) (single : SingleValues s) where
   small_next {st} r p h (after_open k) = small_open st.history h _ (le_below 2 s (st.at + 8) b)
   small_next {st} r p h (after_read k w) = small_op st.history h _ (record { key = le_below 4 s (fields_at s st.at) b; value = le_below 8 s (fields_at s st.at + 4) b })
   small_next {st} r p h (after_write k w) = small_op st.history h _ (record { key = le_below 4 s (fields_at s st.at) b; value = le_below 8 s (fields_at s st.at + 4) b })
-  small_next {st} r p h (after_append k w) = absurd (single st r p (appends ((passes_framed p).sized.append_second k) k))
-  small_next {st} r p h (after_list k w) = absurd (single st r p (lists ((passes_framed p).sized.list_second k) k))
+  small_next {st} r p h (after_append k w) = absurd (single st r p (appends ((passes_framed st p).sized.append_second k) k))
+  small_next {st} r p h (after_list k w) = absurd (single st r p (lists ((passes_framed st p).sized.list_second k) k))
   small_next {st} r p h (after_close {t} k w) = small_close st.history h t _
   small_next r p h (after_note k) = h
   small_next r p h (after_edition k) = h

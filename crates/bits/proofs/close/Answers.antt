@@ -1,0 +1,25 @@
+use Prim.Native.Nat.{◌-◌}
+use mathlib.Core.Path.{◌≡◌, ◌∙◌, sym}
+use native.Mathlib.Omega.{arith}
+use Rattle.bits.specs.Bits.{bit_of}
+use Rattle.bits.proofs.Passes.{Passed, passed_start, passed_step}
+use Rattle.bits.proofs.close.Goals as goal
+
+pub loop-k-init : goal.loop-k-init
+loop-k-init c = passed_start c.requires
+
+pub pass-requires : goal.pass-requires
+pass-requires c = (c.loop-k.invariant.under, omega arith)
+
+pub loop-k-preserved : goal.loop-k-preserved
+loop-k-preserved c =
+    let l = c.loop-k in
+    passed_step l.k (omega arith) l.invariant c.pass.ensures
+
+pub shape_of-t : goal.shape_of-t
+shape_of-t c = c.loop-k.invariant.under.room ∙ sym c.requires.room
+
+pub returns : goal.returns
+returns c =
+    let e : c.loop-k.k ≡ c.args.n = omega (arith, c.loop-k.invariant.upto) in
+    rw e at c.loop-k.invariant.holds

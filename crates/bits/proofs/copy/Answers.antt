@@ -1,0 +1,16 @@
+use Prim.Native.Nat.{◌-◌}
+use native.Mathlib.Omega.{arith}
+use Rattle.bits.proofs.Tables.{Rewritten, rewritten_start, word_of, copy_step, copied}
+use Rattle.bits.proofs.copy.Goals as goal
+
+pub loop-i-init : goal.loop-i-init
+loop-i-init c = rewritten_start _ _
+
+pub loop-i-preserved : goal.loop-i-preserved
+loop-i-preserved c = let l = c.loop-i in copy_step l.i (omega arith) _ l.invariant
+
+pub shape_of-to : goal.shape_of-to
+shape_of-to c = c.loop-i.invariant.room
+
+pub returns : goal.returns
+returns c = let p = c.requires in copied p.1 c.loop-i-test.false p.0 c.loop-i.invariant

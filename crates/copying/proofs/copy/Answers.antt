@@ -1,0 +1,28 @@
+use mathlib.Core.Path.{◌≡◌}
+use Prim.Native.Nat.{◌-◌, ◌≤◌}
+use native.Mathlib.Omega.{arith}
+use lib.ListN.{take}
+use Rattle.base.proofs.Fill.{Appended, appended-none, appended-length}
+use Rattle.copying.proofs.Copying.{front_more}
+use Rattle.copying.proofs.copy.Goals as goal
+
+pub loop-i-init : goal.loop-i-init
+loop-i-init c = (omega arith, appended-none _ 0 (omega arith))
+
+pub bounds-from-i : goal.bounds-from-i
+bounds-from-i c = omega (arith, c.requires.0)
+
+pub bounds-to-i : goal.bounds-to-i
+bounds-to-i c = omega (arith, c.requires.1, appended-length c.loop-i.invariant.1)
+
+pub loop-i-preserved : goal.loop-i-preserved
+loop-i-preserved c =
+    let l = c.loop-i in
+    (omega arith, front_more _ l.i (omega (arith, c.requires.0)) (omega (arith, c.requires.1, appended-length l.invariant.1)) l.invariant.1)
+
+pub shape_of-to : goal.shape_of-to
+shape_of-to c = appended-length c.loop-i.invariant.1
+
+pub returns : goal.returns
+returns c =
+    let e : c.loop-i.i ≡ c.args.n = omega (arith, c.loop-i.invariant.0) in rw e at c.loop-i.invariant.1

@@ -1,0 +1,9 @@
+use native.Mathlib.Omega.{arith}
+use Rattle.rules.specs.Records.{read_key, written_key, written_value}
+use borrow.Author.Rules.{rules}
+use Rattle.frame.proofs.read_append.Goals as goal
+
+pub returns : goal.returns
+unfolding read_key written_key written_value
+returns c at =
+    record { is = rw (c.u64_at.ensures, c.u32_at.ensures, c.u16_at.ensures); sound = record { single = omega arith; narrow = omega arith; placed = λ l. absurd (omega arith) } }

@@ -1,0 +1,9 @@
+use Rattle.table.proofs.Words.{op-is}
+use Rattle.table.specs.Table.{op_at, op_of}
+use borrow.Author.Rules.{rules}
+use Rattle.table.proofs.is_write.Goals as goal
+
+pub returns : goal.returns
+unfolding op_at op_of
+returns c =
+    rw (op-is _ _ c.requires)

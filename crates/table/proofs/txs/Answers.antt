@@ -1,0 +1,7 @@
+use Rattle.table.proofs.Words.{tx-count}
+use borrow.Author.Rules.{rules}
+use mathlib.Core.Path.{sym}
+use Rattle.table.proofs.txs.Goals as goal
+
+pub returns : goal.returns
+returns c = sym (tx-count _)

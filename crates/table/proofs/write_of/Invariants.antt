@@ -1,0 +1,12 @@
+use Rattle.table.proofs.Walks.{ChainWalk, walk_start, walk_hit, walk_miss, walk_end, walk_has}
+use Rattle.table.specs.Table.{history_of}
+use borrow.Author.Rules.{rules}
+use native.Mathlib.Omega.{arith}
+use mathlib.Core.Path.{sym, ◌∙◌}
+use Rattle.table.proofs.write_of.Given as goal
+
+abbrev pub invariant-loop-i : goal.invariant-loop-i
+invariant-loop-i l = ChainWalk (history_of l.h) l.x l.v l.i
+
+abbrev pub decreases-loop-i : goal.decreases-loop-i
+decreases-loop-i l = l.i

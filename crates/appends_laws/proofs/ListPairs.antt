@@ -99,7 +99,7 @@ module _ {h : History} (ok : LawfulHistory h) (l : ℕ → List ℕ) {C : ℕ �
   -- and one that is longest has the list of the one that is found
   record Found-as (i : ℕ) : Type 0 where
     m : ℕ
-    is_longest_lem : is_longest h l m ≡ true
+    longest : is_longest h l m ≡ true
     of_key : key_of h m ≡ key_of h i
     same : l m ≡ l i
 
@@ -114,7 +114,7 @@ module _ {h : History} (ok : LawfulHistory h) (l : ℕ → List ℕ) {C : ℕ �
       let c = and_left _ _ p in
       record {
         m = m;
-        is_longest = both _ _ c (eq-eqb _ _ (ap (longest_of h l) k));
+        longest = both _ _ c (eq-eqb _ _ (ap (longest_of h l) k));
         of_key = k;
         same = sym (begins_equal _ _ (rw (at_list h l m z) at s) (r.longest m ((clean_list_iff ok l are m).0 c) k));
       }
@@ -139,12 +139,12 @@ module _ {h : History} (ok : LawfulHistory h) (l : ℕ → List ℕ) {C : ℕ �
         is : Depends h l C a b 16 → is_write_dep h l a b ≡ true
         is (write {i = i} {k = k} r m p q d) =
             let f = longest_found r (omega arith) in
-            let o = ((are _).0 (longest_at f.is_longest).clean).judged.list_read.is_op in
+            let o = ((are _).0 (longest_at f.longest).clean).judged.list_read.is_op in
             let j : joins h (key_of h i) (l i) a b k ≡ true = both _ _ (eq-eqb _ _ ((by_iff {k = k} r.clean (omega arith)).1 p))
             (eq-eqb _ _ ((by_iff r.clean m).1 q)) in
             both _ _ (ap not (ne_eqb _ _ d))
             (some_of_lem (orders h l a b) (op_count h + 1) 1 f.m o.from (omega (arith, o.to))
-            (both _ _ f.is_longest
+            (both _ _ f.longest
             (rw (f.of_key, f.same) (some_of_lem (joins h (key_of h i) (l i) a b) (length (l i) - 1) 0 k (omega arith) (omega arith) j))))
 
     -- ── read dependencies ──

@@ -8,12 +8,10 @@ use lib.ListN.{length, take, length-take}
 use lib.Seq.{take_all}
 use Rattle.base.proofs.Tests.{split}
 use Rattle.names_rules.specs.Names.{checked, refusal}
-use Rattle.names_rules.specs.Endings.{named_end}
 use Rattle.names_rules.specs.declared.Refusal.{Refusal}
 use Rattle.names_rules.specs.declared.Refusal.TheVariants.{Accepted, OwnRefused, SharedRefused}
 use Rattle.names_rules.proofs.Walking.{too_long, lawful_short}
 use Rattle.names_rules.proofs.Places.{both_lawful}
-use Rattle.names_rules.proofs.Endings.{end_own, end_shared}
 
 kept-all : (s : List ℕ) → length s ≤ 32768 → take 32769 s ≡ s
 kept-all s h = take_all 32769 s (omega arith)
@@ -26,13 +24,3 @@ kept-checked s =
 module _ (own shared : List ℕ) where
   pub kept-refusal : refusal (take 32769 own) (take 32769 shared) ≡ refusal own shared
   kept-refusal = rw (kept-checked own, kept-checked shared)
-
-  -- where either is refused no name is had from it; else all of both was kept
-  pub kept-ends : named_end (take 32769 own) (take 32769 shared) ≡ named_end own shared
-  kept-ends = go (refusal own shared) refl
-    where
-      go : (r : Refusal) → r ≡ refusal own shared → named_end (take 32769 own) (take 32769 shared) ≡ named_end own shared
-      go Accepted q =
-          let g = both_lawful own shared (sym q) in rw (kept-all own (lawful_short own g.0), kept-all shared (lawful_short shared g.1))
-      go (OwnRefused n p) q = sym (end_own _ _ (q ∙ sym kept-refusal) refl) ∙ end_own _ _ q refl
-      go (SharedRefused n p) q = sym (end_shared _ _ (q ∙ sym kept-refusal) refl) ∙ end_shared _ _ q refl

@@ -82,7 +82,7 @@ module _ {h : History} {f : ℕ} {fs F : List ℕ} (x : Holds h f fs F) where
 -- findings that correspond: the entry of the one has become that of the other
 became : {to : ℕ → ℕ} {h g : History} {i n j k : ℕ} {F F' : List ℕ} → Corresponds to h g i n → FindingAt h F j i → FindingAt g F' k n → Became to F j F' k
 became {to} c a b =
-    let e = kind_one b.kind ((c.same-kind _).0 a.kind) in
+    let e = kind_one b.kind ((c.same_kind _).0 a.kind) in
     record {
       same_transaction = b.transaction ∙ c.same_tx ∙ sym a.transaction;
       same_kind = e;

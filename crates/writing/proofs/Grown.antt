@@ -13,7 +13,7 @@ use Rattle.base.proofs.Tests.{split, pick_on, pick_off}
 use Rattle.rules.specs.History.{History, Op, tx, op, tx_count, op_count, is_open, current, empty, opened, closed, with_op}
 use Rattle.rules.specs.Reading.{entered}
 use Rattle.rules.specs.declared.Event.{Event}
-use Rattle.rules.specs.declared.Event.TheVariants.{Open, Read, Write, Close}
+use Rattle.rules.specs.declared.Event.TheVariants.{Open, Read, Write, Close, End, Note, Other}
 use Rattle.rules.proofs.History.{with_op-count, with_op_txs, with_op_old, with_op-new, open_count_lem, open_ops, open_new, close_count, close_ops, close_this}
 use Rattle.demand1.proofs.Histories.{inside-current, outside_current, current-inside}
 use Rattle.writing.proofs.Rows.{Taken, open_taken, read_taken, write_taken, close_taken}
@@ -114,6 +114,9 @@ module _ {es : List Event} (h : History) (n : Counts es h) where
         few_ops = rw (close_ops h (current h) c) n.few_ops;
         ops_in = ops_kept h (closed h (current h) c) (close_ops h (current h) c) (omega (arith, close_count h (current h) c)) n.ops_in;
       }
+  counts_step (End _) x'' = elim x'' [ ]
+  counts_step Note x'' = elim x'' [ ]
+  counts_step Other x3 = elim x3 [ ]
 
 pub counts : {es : List Event} {h : History} → Grown es h → Counts es h
 counts grown_none = record { steps = omega (arith, open_none empty empty-current); few_txs = omega arith; few_ops = omega arith; ops_in = ops_begin }

@@ -10,7 +10,7 @@ use Rattle.rules.specs.History.{History, Op, tx_count, op_count, current, empty,
 use Rattle.rules.specs.Reading.{entered}
 use Rattle.rules.specs.Traces.{raw, record_of, trace}
 use Rattle.rules.specs.declared.Event.{Event}
-use Rattle.rules.specs.declared.Event.TheVariants.{Open, Read, Write, Close, End}
+use Rattle.rules.specs.declared.Event.TheVariants.{Open, Read, Write, Close, End, Note, Other}
 use Rattle.rules.proofs.Traces.{record_length}
 use Rattle.rules.proofs.History.{with_op-count, with_op_txs, open_count_lem, open_ops, close_count, close_ops}
 use Rattle.writing.specs.declared.Form.{Form}
@@ -119,6 +119,9 @@ module _ (form : Form) where
   long-step es h (Close c) l (close_taken p m) =
       rw (size_more es (Close c), close_size_lem form c, open_none (closed h (current h) c) (close_current h c p m), close_count h (current h) c, close_ops h (current h) c)
       (more_closes form (size_of form es) (tx_count h) (op_count h) (rw (open_one h p) at l))
+  long-step es h (End _) l x3 = elim x3 [ ]
+  long-step es h Note l x3 = elim x3 [ ]
+  long-step es h Other l x4 = elim x4 [ ]
 
   long : {es : List Event} {h : History} → Grown es h → Long es h
   unfolding formed

@@ -13,7 +13,7 @@ use Rattle.base.proofs.Empty.{parts_none}
 use Rattle.rules.specs.History.{History, Tx, Op, tx, op, tx_count, op_count, is_open, current, empty, opened, closed, with_op}
 use Rattle.rules.specs.Reading.{entered}
 use Rattle.rules.specs.declared.Event.{Event}
-use Rattle.rules.specs.declared.Event.TheVariants.{Open, Read, Write, Close}
+use Rattle.rules.specs.declared.Event.TheVariants.{Open, Read, Write, Close, End, Note, Other}
 use Rattle.rules.proofs.History.{with_op-count, with_op_txs, with_op-tx, with_op_old, with_op-new, open_count_lem, open_ops, open_old, open_new, close_count, close_ops, close_whole, close_other}
 use Rattle.demand1.proofs.Histories.{current-inside}
 use Rattle.writing.specs.Listing.{op_step, op_step_of, close_step, tx_steps, history_steps}
@@ -138,3 +138,6 @@ told (grown_step {h = h} (Open s) g (open_taken c l)) = steps_open h (counts g).
 told (grown_step {h = h} (Read x v) g (read_taken c l)) = steps-op h (counts g).ops_in _ c refl ∙ ap (λ l. l ++ (Read x v ∷ [])) (told g)
 told (grown_step {h = h} (Write x v) g (write_taken c p l w)) = steps-op h (counts g).ops_in _ c refl ∙ ap (λ l. l ++ (Write x v ∷ [])) (told g)
 told (grown_step {h = h} (Close c) g (close_taken p l)) = steps_close h (counts g).ops_in c p l ∙ ap (λ l. l ++ (Close c ∷ [])) (told g)
+told (grown_step {es = es} {h = h} (End _) g x3) = elim x3 [ ]
+told (grown_step {es = es} {h = h} Note g x3) = elim x3 [ ]
+told (grown_step {es = es} {h = h} Other g x4) = elim x4 [ ]

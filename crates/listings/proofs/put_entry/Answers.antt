@@ -1,0 +1,55 @@
+use native.Mathlib.Omega.{arith}
+use borrow.Author.Rules.{rules}
+use Rattle.base.proofs.Fill.{appended-length, appended_then}
+use Rattle.base.proofs.Tests.{denied, granted}
+use Rattle.sifting.specs.Lists.{entry_for}
+use Rattle.sifting.proofs.Listings.{left_out, put_in, room_for}
+use mathlib.Core.Path.{ap}
+use mathlib.Core.Bool.{not}
+use Rattle.listings.proofs.put_entry.Goals as goal
+
+pub bit-requires : goal.bit-requires
+bit-requires c =
+    let p = c.requires in
+    (p.0.pairs.room, omega (arith, p.1, p.0.pairs.few), omega (arith, p.2, p.0.pairs.few))
+
+pub returns-then-not-bit : goal.returns-then-not-bit
+unfolding entry_for
+returns-then-not-bit c =
+    left_out _ (denied c.bit.ensures (ap not c.if-not-bit.true)) (omega (arith, c.requires.3))
+
+pub overflow_cast-a : goal.overflow_cast-a
+overflow_cast-a c =
+    let p = c.requires in
+    omega (arith, p.1, p.0.pairs.few)
+
+pub overflow_cast-b : goal.overflow_cast-b
+overflow_cast-b c =
+    let p = c.requires in
+    omega (arith, p.2, p.0.pairs.few)
+
+pub put2-to-requires : goal.put2-to-requires
+unfolding entry_for
+put2-to-requires c =
+    omega (
+      arith,
+      room_for _ (granted c.bit.ensures (ap not c.if-not-bit.false)) _ _
+          c.requires.3,
+    )
+
+pub reasons-requires : goal.reasons-requires
+reasons-requires c =
+    let p = c.requires in
+    (p.0.writes_room, p.0.reads_room, p.0.light, omega (arith, p.1, p.0.pairs.few), omega (arith, p.2, p.0.pairs.few))
+
+pub put2-requires : goal.put2-requires
+unfolding entry_for
+put2-requires c =
+    let p = c.requires in
+    omega (arith, room_for _ (granted c.bit.ensures (ap not c.if-not-bit.false)) _ _ p.3, c.put2-to.ensures.end, appended-length c.put2-to.ensures)
+
+pub returns : goal.returns
+unfolding entry_for
+returns c =
+    put_in _ (granted c.bit.ensures (ap not c.if-not-bit.false))
+    (rw (← c.reasons.ensures) (appended_then c.put2-to.ensures c.put2.ensures))

@@ -1,0 +1,6 @@
+use borrow.Author.Rules.{rules}
+use Rattle.pairs.proofs.Pairs.{basic_filled}
+use Rattle.pairs.proofs.fill_basic.Goals as goal
+
+pub returns : goal.returns
+returns c = basic_filled _ c.mark_orders.ensures c.mark_reads.ensures

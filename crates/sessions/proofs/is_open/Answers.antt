@@ -1,0 +1,7 @@
+use Rattle.rules.specs.History.{is_open}
+use borrow.Author.Rules.{rules}
+use Rattle.sessions.proofs.is_open.Goals as goal
+
+pub returns : goal.returns
+unfolding is_open
+returns c = rw c.status_of.ensures

@@ -1,0 +1,18 @@
+use borrow.Author.Rules.{rules}
+use Rattle.settling.proofs.Begins.{begun_room, begin-said, begin-not}
+use Rattle.settling.proofs.admit_if_said.Goals as goal
+
+pub admit-requires : goal.admit-requires
+admit-requires c =
+    let p = c.requires in
+    (p.0, begun_room p.0 p.1)
+
+pub returns-then-status_of-eq-COMMITTED : goal.returns-then-status_of-eq-COMMITTED
+returns-then-status_of-eq-COMMITTED c =
+    let p = c.requires in
+    begin-said p.0 p.1 c.status_of.ensures c.if-status_of-eq-COMMITTED.true c.admit.ensures
+
+pub returns : goal.returns
+returns c =
+    let p = c.requires in
+    begin-not p.0 p.1 c.status_of.ensures c.if-status_of-eq-COMMITTED.false c.mark.ensures

@@ -1,0 +1,7 @@
+use borrow.Author.Rules.{rules}
+use Rattle.settling.proofs.Marks.{settles}
+use Rattle.settling.proofs.settle.Goals as goal
+
+pub returns : goal.returns
+returns c =
+    settles c.admit_said-n.ensures.1 c.admit_on.ensures

@@ -1,0 +1,30 @@
+use mathlib.Core.Path.{◌∙◌, sym}
+use native.Mathlib.Omega.{arith}
+use Rattle.base.proofs.Tests.{pick_on}
+use Rattle.rules.specs.Reading.{entered}
+use Rattle.steps.proofs.Taken.{write_refused, write_again, write_room, write_enters}
+use Rattle.steps.specs.Steps.{goes, put}
+use borrow.Author.Rules.{rules}
+use borrow.Author.Tests.{le-ltb, lt-ltb}
+use Rattle.steps.proofs.take_write.Goals as goal
+
+pub returns-then-no-gt0 : goal.returns-then-no-gt0
+returns-then-no-gt0 c = write_refused _ _ _ _ c.requires.0 c.write_no-no.ensures c.if-no-gt0.true
+
+pub returns-then-write_of-gt0 : goal.returns-then-write_of-gt0
+returns-then-write_of-gt0 c =
+    write_again _ _ _ _ c.requires.0 (omega (arith, c.if-no-gt0.false) ∙ c.write_no-no.ensures)
+    (rw (← c.write_of.ensures.is) (lt-ltb _ _ c.if-write_of-gt0.true))
+
+pub put_write-requires : goal.put_write-requires
+put_write-requires c =
+    let p = c.requires in
+    let r = write_room _ _ 0 _ p.0 (omega (arith, c.if-no-gt0.false) ∙ c.write_no-no.ensures) in
+    (record { held = p.0; from = r.0; to = p.1 }, r.1, omega (arith, p.2))
+
+pub returns : goal.returns
+unfolding goes put entered
+returns c =
+    let p = c.requires in
+    write_enters _ _ _ _ p.0 (omega (arith, c.if-no-gt0.false) ∙ c.write_no-no.ensures)
+    (rw (← c.write_of.ensures.is) (le-ltb _ _ c.if-write_of-gt0.false)) (sym (pick_on _ _ _ (lt-ltb _ _ p.2))) c.put_write.ensures

@@ -58,7 +58,7 @@ fn form_of(second: bool) -> Form
 }
 
 // How many bytes and how many records the moved trace has.
-fn moved_length_lem(h: &[u64], second: bool) -> usize
+fn moved_length(h: &[u64], second: bool) -> usize
     requires { Held h.now }
     ensures { result ≡ whole_size second (tx_count (history_of h.now)) (op_count (history_of h.now)) }
 {
@@ -108,7 +108,7 @@ fn put_moved(trace: &[u8], h: &[u64], notes: usize, second: bool, out: &mut [u8]
     ensures { tallied_fill result out.new ≡ with_notes (into (content (moved_trace second (serial_at trace.now 0) (history_of h.now))) out.old) notes }
 {
     let first = frame::u32_at(trace, 4);
-    let n = moved_length_lem(h, second);
+    let n = moved_length(h, second);
     if out.len() < n {
         return Tallied::Refused(16, n);
     }

@@ -37,7 +37,7 @@ module _ {to back : ℕ → ℕ} {h g : History} (r : Renumbers to back h g) whe
   pub same_size : size g ≡ size h
   same_size = ap (λ (n : ℕ). n + 1) same_count
 
-  -- ── the operations, one_to_one ──
+  -- ── the operations, one-to-one ──
 
   -- of an operation or of number 0
   pub op_or_none : (i : ℕ) → i < op_count h + 1 → op g (to i) ≡ op h i

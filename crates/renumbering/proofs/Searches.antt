@@ -71,7 +71,7 @@ module _ {to back : ℕ → ℕ} {h g : History} (r : Renumbers to back h g) whe
               );
         }
 
-  -- the operations that pass between two such bounds are one_to_one
+  -- the operations that pass between two such bounds are one-to-one
   one_to_one : (p q : ℕ → Bool) → ((i : ℕ) → IsOp h i → q (to i) ≡ p i) → {a b e d : ℕ} → Meets p a b → Meets p e d → OneToOne to back p q a e b d
   one_to_one p q same {a} {b} {e} {d} m n =
       record {

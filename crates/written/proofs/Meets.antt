@@ -10,7 +10,7 @@ use Rattle.rules.specs.History.{History, Op, tx, tx_count, current, with_op, ope
 use Rattle.rules.specs.Records.{is_second, session_at}
 use Rattle.rules.specs.Reading.{State, entered, is_end, event_in, met}
 use Rattle.rules.specs.declared.Event.{Event}
-use Rattle.rules.specs.declared.Event.TheVariants.{Open, Read, Write, Close}
+use Rattle.rules.specs.declared.Event.TheVariants.{Open, Read, Write, Close, End, Note, Other}
 use Rattle.rules.proofs.History.{with_op-tx, open_count_lem, open_old, open_new, close_count, close_other}
 use Rattle.rules.proofs.Meeting.{met-first, met-second, met_end, met-session}
 use Rattle.demand1.specs.Lawful.{IsTx}
@@ -61,6 +61,9 @@ latest-session (grown_step {es} {h} (Open s) g (open_taken c k)) l = rw (open_co
 latest-session (grown_step {es} {h} (Read x v) g (read_taken c k)) l = op-session h _ ∙ latest-session g c ∙ sym (behind_more 0 es (Read x v))
 latest-session (grown_step {es} {h} (Write x v) g (write_taken c p k w)) l = op-session h _ ∙ latest-session g c ∙ sym (behind_more 0 es (Write x v))
 latest-session (grown_step {es} {h} (Close c) g (close_taken p k)) l = absurd (omega (arith, close_current h c p k))
+latest-session (grown_step {es = es} {h = h} (End _) g x4) l = elim x4 [ ]
+latest-session (grown_step {es = es} {h = h} Note g x4) l = elim x4 [ ]
+latest-session (grown_step {es = es} {h = h} Other g x5) l = elim x5 [ ]
 
 -- ── which one is met ──
 

@@ -11,7 +11,7 @@ use Rattle.rules.specs.Records.{is_second}
 use Rattle.rules.specs.Reading.{State, step_rows, misplaced, unlawful, excess, repeats, mixes, entered, notes_behind, met, after}
 use Rattle.rules.specs.Traces.{record_of, trace}
 use Rattle.rules.specs.declared.Event.{Event}
-use Rattle.rules.specs.declared.Event.TheVariants.{Open, Read, Write, Close, End, Other}
+use Rattle.rules.specs.declared.Event.TheVariants.{Open, Read, Write, Close, End, Other, Note}
 use Rattle.rules.proofs.Traces.{record_length, serial_from, serial_below, serial-next}
 use Rattle.demand1.specs.Rows.{behind, Passes, Reaches, start, on, ReadInto, to_the_end}
 use Rattle.demand1.proofs.Steps.{next-after}
@@ -40,6 +40,9 @@ not_end (Open s) t = omega arith
 not_end (Read x v) t = omega arith
 not_end (Write x v) t = omega arith
 not_end (Close c) t = omega arith
+not_end {h = h} (End _) t = elim t [ ]
+not_end {h = h} Note t = elim t [ ]
+not_end {h = h} Other t = elim t [ ]
 
 no_note : {h : History} (n : ℕ) (e : Event) → Taken h e → notes_behind n e ≡ n
 unfolding notes_behind
@@ -47,6 +50,9 @@ no_note n (Open s) t = refl
 no_note n (Read x v) t = refl
 no_note n (Write x v) t = refl
 no_note n (Close c) t = refl
+no_note {h = h} n (End _) t = elim t [ ]
+no_note {h = h} n Note t = elim t [ ]
+no_note {h = h} n Other t = elim t [ ]
 
 -- inside a transaction it is of the open one, and of its session
 taken_owned : {h : History} {e : Event} → Taken h e → 0 < current h → Owned e

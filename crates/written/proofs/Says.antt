@@ -11,7 +11,7 @@ use Rattle.base.proofs.Searches.{joined_append, joined_one}
 use Rattle.rules.specs.History.{History, Tx, Op, current, opened, closed, with_op}
 use Rattle.rules.specs.Reading.{entered}
 use Rattle.rules.specs.declared.Event.{Event}
-use Rattle.rules.specs.declared.Event.TheVariants.{Open, Read, Write, Close}
+use Rattle.rules.specs.declared.Event.TheVariants.{Open, Read, Write, Close, End, Note, Other}
 use Rattle.rules.proofs.History.{with_op_txs, with_op_ops, open_ops, open_txs, close_ops, close_latest}
 use Rattle.writing.proofs.Rows.{open_taken, read_taken, write_taken, close_taken}
 use Rattle.writing.proofs.Grown.{Grown, grown_none, grown_step, empty-current, open_current, op-current, close_current, latest}
@@ -115,6 +115,9 @@ so_far (grown_step {es} {h} (Read x v) g (read_taken c l)) = said-op es h (so_fa
 so_far (grown_step {es} {h} (Write x v) g (write_taken c p l w)) =
     said-op es h (so_far g) (Write x v) (record { tx = current h; is_write = true; key = x; value = v }) c refl refl refl
 so_far (grown_step {es} {h} (Close c) g (close_taken p l)) = said_close es h (so_far g) c p l
+so_far (grown_step {es = es} {h = h} (End _) g x3) = elim x3 [ ]
+so_far (grown_step {es = es} {h = h} Note g x3) = elim x3 [ ]
+so_far (grown_step {es = es} {h = h} Other g x4) = elim x4 [ ]
 
 -- outside a transaction it is what they say
 pub says : {es : List Event} {h : History} → Grown es h → current h ≡ 0 → Says es h

@@ -3,63 +3,18 @@
 # same full traces in one run: microseconds of processor time a trace, and their ratio. First judging (all three levels, reading and printing included), then
 # a move to the other edition, then the strongest level, then the decision at level 3 alone, with room for every list; then a claim at each level, of the order
 # that is shown there or else of the members by number, beside the decision at that level with just enough room.
-# Usage: compare/measure.sh [REPEATS], after rt check stream scribe ferozhak.
-# The toolchain builds programs for x86-64. On another processor a time under its emulator says nothing, so there the program's own bitcode, as the
-# toolchain hands it to its compiler, is compiled for this processor with the same options and linked with the machine's C library.
+# Usage: compare/measure.sh [REPEATS], after rt run in crates/stream and in crates/scribe; on x86-64, for which alone the toolchain builds.
 set -euo pipefail
 cd "$(dirname "$0")/.."
 repeats=${1:-400}
+[ "$(uname -m)" = x86_64 ] || { echo "measure.sh: an x86-64 machine is needed" >&2; exit 2; }
 work=$(mktemp -d) && chmod 755 "$work"
 trap 'rm -rf "$work"' EXIT
 (cd compare && cargo build --release --quiet)
-machine=$(uname -m)
-# a toolchain whose compiler keeps a copy of the bitcode that it is given
-keep_bitcode() {
-    local home tools kit=$work/kit
-    home=$(dirname "$(dirname "$(rt doc)")")
-    tools=$home/on/$machine/toolchain
-    mkdir -p "$kit/on/$machine/toolchain/bin"
-    for f in "$home"/*; do [ "$(basename "$f")" = on ] || ln -s "$f" "$kit/"; done
-    for f in "$home/on/$machine"/*; do [ "$(basename "$f")" = toolchain ] || ln -s "$f" "$kit/on/$machine/"; done
-    for f in "$tools"/*; do [ "$(basename "$f")" = bin ] || ln -s "$f" "$kit/on/$machine/toolchain/"; done
-    for f in "$tools"/bin/*; do [ "$(basename "$f")" = clang ] || ln -s "$f" "$kit/on/$machine/toolchain/bin/"; done
-    printf '#!/bin/sh\nfor a in "$@"; do [ "$a" = module.bc ] && cp module.bc "%s/kept.bc"; done\nexec "%s/bin/clang" "$@"\n' "$work" "$tools" \
-        >"$kit/on/$machine/toolchain/bin/clang"
-    chmod +x "$kit/on/$machine/toolchain/bin/clang"
-    clang=$tools/bin/clang
-}
-# the command that runs a proved program on this processor
-proved() {
-    if [ "$machine" = x86_64 ]; then
-        echo "./run $1"
-        return
-    fi
-    rm -f "target/stamp/$1"
-    compile "$1" check
-    cc "$work/$1.o" -o "$work/$1"
-    echo "$work/$1"
-}
-# the object file of a program or a library for this processor; $2 is what rt makes of it
-compile() {
-    RATTLE_HOME=$work/kit rt "$2" "$1" >"$work/log" 2>&1 || { tail -n 5 "$work/log" >&2; exit 1; }
-    "$clang" --target="$machine-unknown-linux-gnu" --no-default-config -O3 -fPIE -w -c -x ir "$work/kept.bc" -o "$work/$1.o" 2>/dev/null
-}
-# the command that makes the calls from C on this processor
-calling() {
-    if [ "$machine" = x86_64 ]; then
-        examples/build.sh calls >"$work/log" 2>&1 || { tail -n 5 "$work/log" >&2; exit 1; }
-        echo "./run calls"
-        return
-    fi
-    compile ferozhak staticlib
-    cc -O2 -I include compare/calls.c "$work/ferozhak.o" -o "$work/calls" -lpthread
-    # another processor's C library may refuse a stack as small as the one that is usual here
-    echo "$work/calls 262144"
-}
-[ "$machine" = x86_64 ] || keep_bitcode
-stream=$(proved stream)
-scribe=$(proved scribe)
-calls=$(calling)
+examples/build.sh calls >"$work/log" 2>&1 || { tail -n 5 "$work/log" >&2; exit 1; }
+stream='./run stream'
+scribe='./run scribe'
+calls='./run calls'
 target/compare/release/bench --write "$work/traces" >/dev/null
 # the processor seconds of a command
 seconds() { { TIMEFORMAT=%U; time "$@" <"$work/input" >"$work/output"; } 2>&1; }

@@ -32,7 +32,7 @@ for trace; do
 done >"$work/ferozhak_claim"
 cd "$(dirname "$0")/.."
 calls() { ./run calls "$2" <"$work/$1" >"$work/answers"; }
-# what the shell and the emulator say of a program that was stopped is no news here
+# what the shell says of a program that was stopped is no news here
 fits() { { calls "$1" "$2"; } 2>/dev/null; }
 # the smallest stack in which all items of an input run
 smallest() {

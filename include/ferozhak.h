@@ -1,7 +1,7 @@
 /* Ferozhak for C: judges a trace of transactions at one level, and says whether what was recorded may be promoted, or
-   whether an order that somebody claims is lawful. `rt staticlib ferozhak` proves the library and writes it to
-   target/staticlib/libferozhak.a, for x86-64; examples/daemon.c shows the first two calls at work. docs/FORMAT.md has the
-   trace and the refusals, docs/READING.md the kinds and the reasons.
+   whether an order that somebody claims is lawful. examples/build.sh has the library proved and compiled, and writes it
+   to target/staticlib/libferozhak.a, for x86-64; examples/daemon.c shows the first two calls at work. docs/FORMAT.md has
+   the trace and the refusals, docs/READING.md the kinds and the reasons.
 
    Threads: no call keeps anything, allocates, or uses global data. Any number of threads may call at once.
    Overlap: no two of the buffers may overlap, nor may any of them overlap the trace or the claim.

@@ -2,16 +2,19 @@
 //! they are made of, as `docs/believe.txt` lists them, printed as they stand in the
 //! project's files; and whether that text is closed.
 
-use crate::declarations::{parse_antt, parse_rt, Declaration, Source};
+use crate::declarations::{parse_antt, parse_rt, Declaration, Source, PLACE};
 use crate::mentions::{mentions, Mention};
 use std::collections::{BTreeMap, BTreeSet};
 use std::fs;
 use std::io;
 use std::path::Path;
 
-/// The language's own fields: a lent slice before a call and behind it, where its first
-/// byte is, and the two parts of such a place.
-const OWN_FIELDS: [&str; 5] = ["entry", "exit", "ptr", "0", "1"];
+/// The language's own fields: what a lent slice holds, before a call and behind it; the
+/// slice itself before the call, where its first byte is, and the two parts of such a place.
+const OWN_FIELDS: [&str; 7] = ["now", "old", "new", "entry", "ref_ptr", "0", "1"];
+
+/// The crate that the language's library is.
+const LIBRARY: &str = "std";
 
 /// A declaration by its file and its number there.
 type Id<'a> = (&'a str, usize);
@@ -22,10 +25,9 @@ pub struct Project {
     pub sources: BTreeMap<String, Source>,
 }
 
-/// Whether a word stands for a name: `and` does for `_and_`.
+/// Whether a word stands for a name: `and` does for `◌and◌`.
 fn stands_for(word: &str, name: &str) -> bool {
-    let mixfix = name.starts_with('_') || name.ends_with('_');
-    word == name || mixfix && name.split('_').any(|part| part == word)
+    word == name || name.contains(PLACE) && name.split(PLACE).any(|part| part == word)
 }
 
 /// What a name means in a file.
@@ -106,7 +108,8 @@ impl Project {
 
     /// What a name means that is taken from another file, by the path of the `use`.
     fn by_use(&self, path: &str, there: &str) -> Meaning<'_> {
-        let found = match path.strip_prefix("Rattle·") {
+        let found = match path.strip_prefix("Rattle.") {
+            Some(path) if path.split('.').next() == Some(LIBRARY) => return Meaning::Library,
             Some(path) => self.in_specs(path, there),
             None if path.contains('.') => return Meaning::Library,
             // `use rules::Answer;`
@@ -119,11 +122,10 @@ impl Project {
     /// the crate's source declares.
     fn in_specs(&self, path: &str, there: &str) -> Option<Meaning<'_>> {
         let (krate, file) = path.split_once(".specs.")?;
-        let krate = krate.trim_end_matches("·specs");
         let Some(declared) = file.strip_prefix("declared.") else {
             return self.in_file(&format!("{krate}/specs/{file}.antt"), there);
         };
-        let name = declared.trim_end_matches(".the-variants");
+        let name = declared.trim_end_matches(".TheVariants");
         match self.in_file(&format!("{krate}/src/lib.rt"), name)? {
             Meaning::Declared { id, .. } => Some(Meaning::Declared {
                 id,

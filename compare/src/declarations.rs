@@ -3,6 +3,9 @@
 
 use std::ops::Range;
 
+/// What stands in the name of an operator where its operands go, as in `◌and◌`.
+pub const PLACE: char = '◌';
+
 /// What a declaration is: the first three are of `*.antt`, the others of `lib.rt`.
 #[derive(Clone, Copy, Debug, PartialEq, Eq)]
 pub enum Form {
@@ -24,6 +27,7 @@ pub struct Declaration {
     pub parts: Vec<String>,
     /// The comment directly above it.
     pub comment: Range<usize>,
+    /// With the attributes above it, `#[..]`, in `lib.rt`.
     pub lines: Range<usize>,
     /// The heading comment of its part of the file.
     pub section: Option<usize>,
@@ -87,6 +91,16 @@ fn is_section(line: &str) -> bool {
 fn head(lines: &[String]) -> Range<usize> {
     let end = lines.iter().position(|line| !is_comment(line));
     0..end.unwrap_or(lines.len())
+}
+
+fn is_attribute(line: &str) -> bool {
+    line.starts_with("#[")
+}
+
+/// The first of the attributes directly above a line, or the line itself.
+fn with_attributes(lines: &[String], line: usize) -> usize {
+    let above = lines[..line].iter().rev();
+    line - above.take_while(|line| is_attribute(line)).count()
 }
 
 /// The comment directly above a line.
@@ -294,12 +308,13 @@ pub fn parse_rt(text: &str) -> Source {
         let end = long.map_or(lines.len(), |long| at + long + 1);
         let body = lines.get(at + 1..end - 1).unwrap_or_default().iter();
         let parts = body.filter(|line| form != Form::Function && !is_comment(line));
+        let start = with_attributes(&lines, at);
         source.declarations.push(Declaration {
             name: name.to_string(),
             form,
             parts: parts.map(|line| variant_or_field(line)).collect(),
-            comment: comment_above(&lines, at),
-            lines: at..end,
+            comment: comment_above(&lines, start),
+            lines: start..end,
             section: None,
             module: None,
         });

@@ -1,6 +1,6 @@
 //! Which names a declaration mentions, apart from those that it binds itself.
 
-use crate::declarations::{names_before_colon, parts, units, Declaration, Form, Source};
+use crate::declarations::{names_before_colon, parts, units, Declaration, Form, Source, PLACE};
 use std::mem;
 
 /// A mention.
@@ -15,7 +15,7 @@ pub enum Mention {
 }
 
 /// Words and signs of the language, and what every file has without using it.
-const OWN: [&str; 20] = [
+const OWN: [&str; 17] = [
     ":",
     "=",
     "→",
@@ -23,8 +23,6 @@ const OWN: [&str; 20] = [
     ";",
     ".",
     "_",
-    "⌜",
-    "⌝",
     "|",
     "record",
     "in",
@@ -32,7 +30,6 @@ const OWN: [&str; 20] = [
     "Type",
     "⊥",
     "×",
-    "now",
     "ensures",
     "requires",
     "unfolding",
@@ -102,6 +99,8 @@ struct Bracket {
 /// Goes through code and keeps which names are bound where it has come to.
 #[derive(Default)]
 struct Walk {
+    /// What a name may begin with, before a dot, that is taken from a file as a whole.
+    aliases: Vec<String>,
     brackets: Vec<Bracket>,
     found: Vec<Mention>,
 }
@@ -162,16 +161,31 @@ impl Walk {
                     self.bind(token.trim_end_matches('.'));
                     lambda = lambda.filter(|_| !token.ends_with('.'));
                 }
-                _ if token.starts_with('.') => self.field(&token[1..]),
+                _ if token.starts_with('.') => {
+                    token[1..].split('.').for_each(|field| self.field(field))
+                }
                 _ if behind == "=" && self.brackets.last().is_some_and(|b| b.labels) => {
                     self.field(token)
                 }
-                _ if is_name(token) && !self.is_bound(token) => {
-                    self.found.push(Mention::Name(token.to_string()))
-                }
+                _ if is_name(token) => self.name(token),
                 _ => {}
             }
         }
+    }
+
+    /// A name, with fields behind it or without: `h` and `txs` of `h.txs`. One that is
+    /// taken by an alias has its dot.
+    fn name(&mut self, token: &str) {
+        let (name, fields) = token.split_once('.').unwrap_or((token, ""));
+        let bound = self.is_bound(name);
+        if !bound && self.aliases.iter().any(|alias| alias == name) {
+            return self.found.push(Mention::Name(token.to_string()));
+        }
+        if !bound {
+            self.found.push(Mention::Name(name.to_string()));
+        }
+        let fields = fields.split('.').filter(|field| !field.is_empty());
+        fields.for_each(|field| self.field(field));
     }
 
     fn field(&mut self, name: &str) {
@@ -192,7 +206,7 @@ impl Walk {
     fn clause(&mut self, own: &str, tokens: &[String], is_case: &dyn Fn(&str) -> bool) {
         let equals = tokens.iter().position(|token| token == "=");
         let (left, right) = tokens.split_at(equals.unwrap_or(0));
-        let own_part = |name: &str| own == name || own.split('_').any(|part| part == name);
+        let own_part = |name: &str| own == name || own.split(PLACE).any(|part| part == name);
         for name in left.iter().filter(|name| is_name(name) && !own_part(name)) {
             if is_case(name) {
                 self.found.push(Mention::Name(name.clone()));
@@ -226,7 +240,11 @@ pub fn mentions(
     is_case: &dyn Fn(&str) -> bool,
 ) -> Vec<Mention> {
     let lines = &source.lines[declaration.lines.clone()];
-    let mut walk = Walk::default();
+    let aliases = source.uses.iter().filter_map(|taken| taken.alias.clone());
+    let mut walk = Walk {
+        aliases: aliases.collect(),
+        ..Walk::default()
+    };
     walk.apart(|walk| {
         if let Some(module) = declaration.module {
             let header = &source.lines[source.modules[module].header];
@@ -296,6 +314,7 @@ fn words_in(lines: &[String]) -> Vec<(String, bool)> {
 }
 
 fn words(walk: &mut Walk, lines: &[String]) {
+    let lines = without_attributes(lines);
     for (word, named) in words_in(lines) {
         if !named {
             walk.found.push(Mention::Word(word));
@@ -303,8 +322,15 @@ fn words(walk: &mut Walk, lines: &[String]) {
     }
 }
 
+/// The lines of a declaration without the attributes that it begins with.
+fn without_attributes(lines: &[String]) -> &[String] {
+    let start = lines.iter().position(|line| !line.starts_with("#["));
+    &lines[start.unwrap_or(lines.len())..]
+}
+
 /// The types of a function and its contract; not its body.
 fn function(walk: &mut Walk, lines: &[String]) {
+    let lines = without_attributes(lines);
     let body = lines.iter().position(|line| line.starts_with('{'));
     let lines = &lines[..body.unwrap_or(lines.len())];
     let is_contract = |line: &&String| {
@@ -319,5 +345,21 @@ fn function(walk: &mut Walk, lines: &[String]) {
             false => walk.found.push(Mention::Word(word)),
         }
     }
-    walk.expression(&joined(contract));
+    // What the function gives.
+    walk.bind("result");
+    walk.expression(&without_clause_names(joined(contract)));
+}
+
+/// A contract without the names of its clauses, as `low` of `ensures low { .. }`.
+fn without_clause_names(tokens: Vec<String>) -> Vec<String> {
+    let mut kept: Vec<String> = Vec::new();
+    for (at, token) in tokens.iter().enumerate() {
+        let before = kept.last().map_or("", String::as_str);
+        let clause = matches!(before, "ensures" | "requires");
+        let named = clause && tokens.get(at + 1).is_some_and(|next| next == "{");
+        if !named {
+            kept.push(token.clone());
+        }
+    }
+    kept
 }

@@ -7,12 +7,12 @@ use ferozhak_compare::mentions::{mentions, Mention};
 
 const FILE: &str = "\
 -- A file.
-use Prim.Native.Nat.{ℕ, zero, suc}
-use Rattle·other.specs.declared.Answer.the-variants as A
+use Rattle.std.specs.Prelude.{ℕ, zero, suc}
+use Rattle.other.specs.declared.Answer.TheVariants as A
 
-infixl 35 _plus_
+infixl 35 ◌plus◌
 -- a sum
-unfoldable pub _plus_ : ℕ → ℕ → ℕ
+unfoldable pub ◌plus◌ : ℕ → ℕ → ℕ
 a plus zero = a
 a plus (suc b) = suc (a plus b)
 
@@ -35,7 +35,7 @@ pub record Holds (t : ℕ) : Type 0 where
   pub is : (len : ℕ) → number ≡ len → Fits [] t t
 
 abbrev pub f : Answer → Answer → R
-f (A.Refused n) r = record { at = g (λ (t : Tx) u. t .x u) n; to = \"no g\" }
+f (A.Refused n) r = record { at = g (λ (t : Tx) u. t.x.now (g u).y A.none u) n; to = \"no g\" }
 f r (A.Refused n) = let m = n in (n : ℕ) × m
 ";
 
@@ -59,7 +59,7 @@ fn a_file_is_read_declaration_by_declaration() {
     let declarations = source.declarations.iter();
     let found = declarations.map(|one| (one.name.as_str(), one.form, one.lines.len()));
     let expected = [
-        ("_plus_", Form::Definition, 3),
+        ("◌plus◌", Form::Definition, 3),
         ("len", Form::Definition, 2),
         ("Fits", Form::Data, 5),
         ("Holds", Form::Record, 3),
@@ -77,20 +77,23 @@ fn a_file_is_read_declaration_by_declaration() {
 
 #[test]
 fn what_is_bound_is_no_mention() {
-    assert_eq!(mentioned("_plus_"), ["plus", "suc", "zero", "ℕ"]);
+    assert_eq!(mentioned("◌plus◌"), ["plus", "suc", "zero", "ℕ"]);
     assert_eq!(mentioned("len"), ["List", "plus", "ℕ"]);
     assert_eq!(mentioned("Fits"), ["Fits", "List", "len", "ℕ", "≡"]);
     assert_eq!(mentioned("Holds"), ["Fits", "[]", "ℕ", "≡"]);
     let of_f = [
         "A.Refused",
+        "A.none",
         "Answer",
         "R",
         "Tx",
         "g",
         "ℕ",
         ".at",
+        ".now",
         ".to",
         ".x",
+        ".y",
     ];
     assert_eq!(mentioned("f"), of_f);
 }
@@ -100,34 +103,44 @@ fn types_and_functions_of_a_crate_are_read() {
     let source = parse_rt(
         "\
 // One of two.
+#[derive(Clone, Copy)]
+#[must_use]
 pub enum Either {
     One(u8),
     Two,
 }
 
 pub fn f(a: &[u8], n: u8) -> Either
-    ensures { λ r. ⌜ P (now (a .entry)) n r ⌝ }
+    requires { n < 9 }
+    ensures low { P a.now n result.to }
+    ensures high { Q result }
 {
     g(a)
 }
 ",
     );
-    assert_eq!(source.declarations[0].parts, ["One", "Two"]);
+    let either = &source.declarations[0];
+    assert_eq!(either.parts, ["One", "Two"]);
+    assert_eq!((either.comment.clone(), either.lines.clone()), (0..1, 1..7));
+    let found = mentions(&source, either, &|_| false);
+    let words = ["One", "Two", "Either", "enum", "pub", "u8"];
+    let mut words = words.map(|word| Mention::Word(word.to_string()));
+    words.sort();
+    assert_eq!(found, words);
     let found = mentions(&source, &source.declarations[1], &|_| false);
     let word = |word: &str| Mention::Word(word.to_string());
-    let contract = [
-        Mention::Name("P".to_string()),
-        Mention::Field("entry".to_string()),
-    ];
-    assert_eq!(found[..2], contract);
-    assert_eq!(found[2..], ["Either", "f", "fn", "pub", "u8"].map(word));
+    let name = |name: &str| Mention::Name(name.to_string());
+    let field = |name: &str| Mention::Field(name.to_string());
+    assert_eq!(found[..3], ["<", "P", "Q"].map(name));
+    assert_eq!(found[3..5], ["now", "to"].map(field));
+    assert_eq!(found[5..], ["Either", "f", "fn", "pub", "u8"].map(word));
 }
 
 /// A project of two files, and the text of a list.
 fn text(list: &str) -> (Project, Text) {
     let mut project = Project::default();
     let more = "\
-use Prim.Native.Nat.{ℕ}
+use Rattle.std.specs.Prelude.{ℕ}
 
 unfoldable pub deep : ℕ → ℕ
 deep n = n
@@ -137,8 +150,8 @@ pick n = deep n
 ";
     project.add("other/specs/More.antt", more);
     let first = "\
-use Prim.Native.Nat.{ℕ}
-use Rattle·other.specs.More.{pick}
+use Rattle.std.specs.Prelude.{ℕ}
+use Rattle.other.specs.More.{pick}
 
 -- a condition
 pub record Good (n : ℕ) : Type 0 where

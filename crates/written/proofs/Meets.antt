@@ -48,6 +48,9 @@ lone (grown_step {h = h} (Close c) g (close_taken p l)) t i o =
     let n = close_count h (current h) c in
     same_or t (current h) (λ e. e ∙ latest h p ∙ sym n)
     (λ d. let k : t ≤ tx_count h = omega (arith, n, i.to) in lone g t (record { from = i.from; to = k }) (rw (← close_other h (current h) c t i.from k d) o) ∙ sym n)
+lone (grown_step {es = es} {h = h} (End _) g x5) t i o = elim x5 [ ]
+lone (grown_step {es = es} {h = h} Note g x5) t i o = elim x5 [ ]
+lone (grown_step {es = es} {h = h} Other g x6) t i o = elim x6 [ ]
 
 -- its session is the one that the steps have come to
 op-session : (h : History) (o : Op) → (tx (with_op h o) (tx_count (with_op h o))).session ≡ (tx h (tx_count h)).session

@@ -305,6 +305,7 @@ module _ (second : Bool) (front : List ℕ) (m : ℕ) (back : List ℕ) where
       record_session front m (item_in second (mark n (Write x v))) back second n (bytes 4 x ++ bytes 8 v) (ap (λ j. j.payload) (write_item n second x v)) t l
   session-back (fits_event {n} l w) t (owned_close {c}) =
       record_session front m (item_in second (mark n (Close c))) back second n (bytes 1 c) (ap (λ j. j.payload) (close_item n second c)) t l
+  session-back (fits_edition {n = n} _) t x7 = elim x7 [ ]
 
   pub here : {x : Marked} → m < 4294967296 → is_second (around x) ≡ second → FitsRecord second x → Here second (around x) (length front) m x
   here {x} l own w =

@@ -69,7 +69,7 @@ slim_session l Other a = l
 pub slim_sessions : {n : ℕ} → n < 65536 → (es : List Event) → EachSlim es → session_past n es < 65536
 unfolding session_past
 slim_sessions l [] a = l
-slim_sessions l (e ∷ es) a = slim_sessions (slim_session l e (a 0)) es (λ i. a (suc i))
+slim_sessions {n = n} l (e ∷ es) a = slim_sessions {n = session_after n e} (slim_session l e (a 0)) es (λ i. a (suc i))
 
 -- ── numbers that bytes spell ──
 

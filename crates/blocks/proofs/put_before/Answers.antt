@@ -11,4 +11,4 @@ put_event-requires c =
 
 pub returns : goal.returns
 returns c =
-    event-put c.requires c.event_length.ensures c.wrapping_add_u32-serial.ensures c.put_event.ensures
+    event-put c.requires c.event_length.ensures c.wrapping_add_u32-serial.ensures.value c.put_event.ensures

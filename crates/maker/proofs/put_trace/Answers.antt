@@ -20,7 +20,7 @@ put_record-at-requires c =
 
 pub loop-k-preserved : goal.loop-k-preserved
 loop-k-preserved c =
-    rw c.wrapping_add_u32-next.ensures (writing_step c.loop-k.invariant (rw c.step_count-n.ensures at c.loop-k-test.true) (rw c.step_at.ensures.0 at c.put_record-at.ensures))
+    rw c.wrapping_add_u32-next.ensures.value (writing_step c.loop-k.invariant (rw c.step_count-n.ensures at c.loop-k-test.true) (rw c.step_at.ensures.0 at c.put_record-at.ensures))
 
 pub txs-txs-requires : goal.txs-txs-requires
 txs-txs-requires c = c.requires.0.held

@@ -48,7 +48,7 @@ unfolding SoundFramed
 returns-in-Go c =
     let a = c.args in (
       turned_go _ _ _ _ _ _ _ _ c.requires.1 (sym c.frame_at-framed.ensures.0 ∙ c.in-Good.is) (rw c.in-Good.is at c.frame_at-framed.ensures.1) c.take-next.ensures.took c.in-Go.is
-          (ap (λ (n : ℕ). a.at + 2 + n) c.u16_at-len.ensures) (c.wrapping_add_u32-follow.ensures ∙ ap (λ (n : ℕ). (n + 1) % 2 ^ 32) c.u32_at.ensures),
+          (ap (λ (n : ℕ). a.at + 2 + n) c.u16_at-len.ensures) (c.wrapping_add_u32-follow.ensures.value ∙ ap (λ (n : ℕ). (n + 1) % 2 ^ 32) c.u32_at.ensures),
       c.take-next.ensures.beside,
     )
 
@@ -57,7 +57,7 @@ unfolding SoundFramed
 returns-in-Count c =
     let a = c.args in (
       turned-count _ _ _ _ _ _ _ _ c.requires.1 (sym c.frame_at-framed.ensures.0 ∙ c.in-Good.is) (rw c.in-Good.is at c.frame_at-framed.ensures.1) c.take-next.ensures.took c.in-Count.is
-          (ap (λ (n : ℕ). a.at + 2 + n) c.u16_at-len.ensures) (c.wrapping_add_u32-follow.ensures ∙ ap (λ (n : ℕ). (n + 1) % 2 ^ 32) c.u32_at.ensures) refl,
+          (ap (λ (n : ℕ). a.at + 2 + n) c.u16_at-len.ensures) (c.wrapping_add_u32-follow.ensures.value ∙ ap (λ (n : ℕ). (n + 1) % 2 ^ 32) c.u32_at.ensures) refl,
       c.take-next.ensures.beside,
     )
 
@@ -66,6 +66,6 @@ unfolding SoundFramed
 returns-in-List c =
     let a = c.args in (
       turned_list _ _ _ _ _ _ _ _ c.requires.1 (sym c.frame_at-framed.ensures.0 ∙ c.in-Good.is) (rw c.in-Good.is at c.frame_at-framed.ensures.1) c.take-next.ensures.took c.in-List.is
-          (ap (λ (n : ℕ). a.at + 2 + n) c.u16_at-len.ensures) (c.wrapping_add_u32-follow.ensures ∙ ap (λ (n : ℕ). (n + 1) % 2 ^ 32) c.u32_at.ensures),
+          (ap (λ (n : ℕ). a.at + 2 + n) c.u16_at-len.ensures) (c.wrapping_add_u32-follow.ensures.value ∙ ap (λ (n : ℕ). (n + 1) % 2 ^ 32) c.u32_at.ensures),
       c.take-next.ensures.beside,
     )

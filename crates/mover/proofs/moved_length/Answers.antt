@@ -1,0 +1,9 @@
+use native.Mathlib.Omega.{arith}
+use borrow.Author.Rules.{rules}
+use Rattle.mover.proofs.moved_length.Goals as goal
+
+pub returns-then-second : goal.returns-then-second
+returns-then-second c = rw c.if-second.true (omega (arith, c.ops.ensures, c.txs.ensures))
+
+pub returns : goal.returns
+returns c = rw c.if-second.false (omega (arith, c.ops-2.ensures, c.txs-2.ensures))

@@ -1,0 +1,17 @@
+use mathlib.Core.Path.{refl}
+use lib.Seq.{take-length}
+use Rattle.writing.specs.Filling.{said}
+use Rattle.writing.proofs.Filling.{too_short, filled}
+use Rattle.moving.proofs.Tally.{tallied_refused, tallied_length}
+use borrow.Author.Rules.{rules}
+use Rattle.mover.proofs.put_same.Goals as goal
+
+pub returns-then-out-n : goal.returns-then-out-n
+unfolding said
+returns-then-out-n c = tallied_refused _ _ _ (too_short _ refl c.if-out-n.true)
+
+pub returns : goal.returns
+unfolding said
+returns c =
+    tallied_length _ _
+    (filled _ (rw (take-length c.args.trace.now) at c.copy.ensures))

@@ -1,4 +1,0 @@
-pub mod Leads
-pub mod Reached
-pub mod Order
-pub mod Entries

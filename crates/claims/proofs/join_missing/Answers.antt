@@ -1,0 +1,6 @@
+use Rattle.claims.proofs.Seats.{joined}
+use borrow.Author.Rules.{rules}
+use Rattle.claims.proofs.join_missing.Goals as goal
+
+pub returns : goal.returns
+returns c = joined _ _ _ _ c.without.ensures c.without-2.ensures

@@ -97,7 +97,7 @@ module _ {s : List ℕ} {a : ℕ} {b : List ℕ} {c : ℕ} (x : Copied s a b c) 
 abbrev pub came_to : ℕ → ℕ → State → State
 came_to c next st = record { at = c; serial = next; history = st.history; notes = 0 }
 
-module _ {s b : List ℕ} {st : State} {c : ℕ} (x : Copied s st.at b c) (next : ℕ) (p : Passes s st) where
+module _ {s b : List ℕ} (st : State) {c : ℕ} (x : Copied s st.at b c) (next : ℕ) (p : Passes s st) where
   -- it meets the same transaction
   copied_met : met b (came_to c next st) ≡ met s st
   copied_met =

@@ -158,7 +158,7 @@ module _ (s b : List ℕ) (short : length s ≤ 32768) (few : length b ≤ 32768
 
     -- so it passes in b as in s
     passes_there : Passes s st → Passes b (came_to (length left) y.next st)
-    passes_there p = copied_passes copied y.next p (λ l. serial_there ∙ y.follows l) (λ z. omega (arith, y.at_is, y.no_longer))
+    passes_there p = copied_passes st copied y.next p (λ l. serial_there ∙ y.follows l) (λ z. omega (arith, y.at_is, y.no_longer))
 
     -- .. and what stands behind it is alike
     abbrev ReadBehind : Type 0
@@ -174,7 +174,7 @@ module _ (s b : List ℕ) (short : length s ≤ 32768) (few : length b ≤ 32768
           low = omega arith;
           next = (m + 1) % 2 ^ 32;
           follows = λ _. refl;
-          reaches = rw (← ends_at b left m i z so few, ← serial_there, ← copied_after copied y.next p (λ k. d (sym kind_here ∙ k)))
+          reaches = rw (← ends_at b left m i z so few, ← serial_there, ← copied_after st copied y.next p (λ k. d (sym kind_here ∙ k)))
               (on y.reaches t (next-after b (came_to (length left) y.next st) t (λ k. e (sym kind_there ∙ k))));
         }
 

@@ -1,14 +1,9 @@
--- Cases of lists, from bytes: a table and one statement.
-use Rattle.std.specs.Prelude.{ℕ, ◌+◌, ◌/◌, ◌≡◌, refl, List, [], ◌∷◌, ◌++◌, map, length}
+-- Cases of lists, from bytes: a table, whose statement is in proofs/.
+use Rattle.std.specs.Prelude.{ℕ, ◌+◌, ◌/◌, List, [], ◌∷◌, ◌++◌, length}
 use Rattle.base.specs.Base.{joined}
 use Rattle.rules.specs.Numbers.{bytes}
-use Rattle.rules.specs.Outcome.{judged}
-use Rattle.rules.specs.Traces.{Item, item, opens, r_of, w_of, closes_of, overlapping, room, read, pair, rejects_in}
-use Rattle.rules.specs.Edges.{as_they_should}
-use Rattle.appends_rules.specs.Appends.{is_list, key_of, append_of, appender_of, is_judged_list, value_at, values_at, lists_in}
-use Rattle.appends_rules.specs.ListKinds.{begins, in_line, is_lost, same_element, is_again, is_undone, is_half_by, is_half, is_of, is_apart, list_kind_by, kind_with, clean_with, clean_below, list_kind, is_clean_list, is_list_finding, list_at, is_longer, longest_below, longest_of, is_longest}
-use Rattle.appends_rules.specs.Dependencies.{joins, orders, is_write_dep, tells, is_read_dep, is_dep, dep_reasons, pairs_by, pairs_over, pair_with, write_pairs, dep_pairs}
-use Rattle.appends_rules.specs.ListOutcome.{fault_by, fault_of, list_findings, list_finding_bytes, list_finding_list, write_dep_list, dep_list, both_lists, ListOutcome, list_outcome, lists_refused, lists_told, told_lists, lists_of_read, judged_lists}
+use Rattle.rules.specs.Traces.{Item, item, opens, r_of, w_of, closes_of, overlapping, room, read, pair}
+use Rattle.appends_rules.specs.ListOutcome.{ListOutcome, list_outcome, lists_refused, lists_told, judged_lists}
 
 -- an append and a list read of session s: `a1=5`, `l1=5,6`
 abbrev a : ℕ → ℕ → ℕ → Item
@@ -104,16 +99,6 @@ append_table =
 abbrev pub append_found : AppendCase → AppendCase
 append_found c = record { bytes = c.bytes; f = c.f; p = c.p; out = judged_lists c.bytes (room c.f) (room c.p) }
 
--- The line names all that is computed with here, besides what Edges names
-unfoldable pub as_appended : map append_found append_table ≡ append_table
-unfolding as_they_should opens_from closes_from is_list key_of append_of appender_of is_judged_list value_at values_at lists_in begins in_line is_lost same_element is_again is_undone is_half_by is_half is_of is_apart list_kind_by kind_with clean_with clean_below list_kind is_clean_list is_list_finding list_at is_longer longest_below longest_of is_longest joins orders is_write_dep tells is_read_dep is_dep dep_reasons pairs_by pairs_over pair_with write_pairs dep_pairs fault_by fault_of list_findings list_finding_bytes list_finding_list write_dep_list dep_list both_lists told_lists lists_of_read judged_lists
-as_appended = refl
-
 -- a trace with both sorts of keys: T1 w1=5 a2=7; T2 r1=5 r1=6 l2=7 l2=8. The judge has the one finding, the call on lists the other
-abbrev both_sorts : List ℕ
+abbrev pub both_sorts : List ℕ
 both_sorts = amid (1 ∷ 1 ∷ []) (w_of 1 1 5 ∷ a 1 2 7 ∷ r_of 2 1 5 ∷ r_of 2 1 6 ∷ l 2 2 (7 ∷ []) ∷ l 2 2 (8 ∷ []) ∷ [])
-
-pub each_its_own : (judged both_sorts 3 (room 8) (room 2) (room 2) ≡ rejects_in 8 2 2 (read 2 4 1 0) [])
-    × (judged_lists both_sorts (room 8) (room 2) ≡ list_outcome (lists_told 1 0 0) (read 2 6 7 0 ++ room 2) (room 2))
-unfolding as_appended
-each_its_own = (refl, refl)

@@ -2,7 +2,8 @@
 use Rattle.std.specs.Prelude.{ℕ, ◌≡◌, refl, List, [], ◌∷◌, map, get_or}
 use Prim.Native.String.{String}
 use Rattle.text.specs.Lines.{text, decimal_by, decimal, field, fields, line, refused_line, read_line}
-use Rattle.appends_rules.specs.ListCases.{append_table, as_appended}
+use Rattle.appends_rules.specs.ListCases.{append_table}
+use Rattle.appends_rules.proofs.ListCases.{as_appended}
 use Rattle.appends_text.specs.ListsText.{lists_line, fault_text, write_text, both_text, told_text, lists_read_text, lists_text}
 
 -- a trace and its text

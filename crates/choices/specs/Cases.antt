@@ -2,7 +2,7 @@
 -- one statement.
 use Rattle.std.specs.Prelude.{ℕ, ◌≡◌, refl, Bool, List, [], ◌∷◌, ◌++◌, map, eqb}
 use Rattle.rules.specs.Traces.{trace, whole, overlapping, edition, opens, closes, closes_of, ends, note, block, T, U, r, w, r_of, w_of}
-use Rattle.rules.specs.Edges.{as_they_should}
+use Rattle.rules.proofs.Edges.{as_they_should}
 use Rattle.choices.specs.Choices.{outcome_of, is_unanswered_close, chosen_at, chosen_from, chosen_bytes}
 
 abbrev second : ℕ → Bool

@@ -1,7 +1,7 @@
 -- Document 02, "commits nobody answered": the findings, pairs and orders that follow at each level. Who counts is the table of `rules/specs/Unanswered.antt`.
 use Rattle.std.specs.Prelude.{◌≡◌, refl, List, [], ◌∷◌, ◌++◌, map}
 use Rattle.rules.specs.Traces.{opens, closes, trace, whole, block, T, U, r, w, read, pair}
-use Rattle.rules.specs.Edges.{as_they_should}
+use Rattle.rules.proofs.Edges.{as_they_should}
 use Rattle.rules.specs.Cases.{Case, case, all, found, refuses_with, accepts_with, rejects_with, swapped}
 
 abbrev pub outcome_table : List Case

@@ -3,3 +3,5 @@ pub mod Members
 pub mod Few
 pub mod Words
 pub mod Numbers
+pub mod Cases
+pub mod WordCases

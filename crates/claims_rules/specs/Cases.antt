@@ -1,15 +1,11 @@
 -- Document 02, "Orders from elsewhere", cases: the orders that document 01's cases show, each no and each two of them at once, claims of every wrong shape,
--- transactions that count and that do not, refusals before everything else: one table, one statement. Then how answers are told.
-use Rattle.std.specs.Prelude.{ℕ, zero, suc, ◌≡◌, refl, List, [], ◌∷◌, ◌++◌, map, get_or}
+-- transactions that count and that do not, refusals before everything else: one table. Then how answers are told. The statements are in proofs/.
+use Rattle.std.specs.Prelude.{ℕ, zero, suc, List, [], ◌∷◌, ◌++◌, map, get_or}
 use Prim.Native.String.{String}
 use Rattle.rules.specs.Traces.{r, w, block, whole, T, U}
 use Rattle.rules.specs.Cases.{table}
-use Rattle.rules.specs.Edges.{as_they_should}
-use Rattle.theory.specs.Order.{place}
 use Rattle.text.specs.Lines.{text}
-use Rattle.text.specs.Cases.{as_printed}
-use Rattle.deciding.specs.Cases.{as_decided}
-use Rattle.claims_rules.specs.Claims.{Reply, holds, no_read, no_members, no_pair, declined, unclean, is_stray, is_missing, has_members, is_backwards, second_of, is_first, least_first, pair_reply, claimed_in, claimed_read, claimed}
+use Rattle.claims_rules.specs.Claims.{Reply, holds, no_read, no_members, no_pair, declined, claimed}
 use Rattle.claims_rules.specs.Lines.{reply_line}
 use Rattle.claims_rules.specs.Numbers.{reply_no, reply_bytes, claimed_in_numbers}
 
@@ -84,11 +80,6 @@ claim_table =
 abbrev pub now_claimed : ClaimCase → ClaimCase
 now_claimed c = claims c.bytes c.level c.order (claimed c.bytes c.level c.order)
 
--- this statement carries along what it unfolds
-unfoldable pub as_claimed : map now_claimed claim_table ≡ claim_table
-unfolding as_they_should place unclean is_stray is_missing has_members is_backwards second_of is_first least_first pair_reply claimed_in claimed_read claimed
-as_claimed = refl
-
 -- ── how an answer is told ──
 
 -- each answer as a line, and in bytes for C, with room for all five numbers
@@ -102,10 +93,10 @@ abbrev tells : Reply → String → ℕ → List ℕ → ToldCase
 tells x line n b = record { said = x; printed = text line; number = n; spelt = b }
 
 -- a number below 65,536 in four bytes
-abbrev low : ℕ → ℕ → List ℕ
+abbrev pub low : ℕ → ℕ → List ℕ
 low a b = a ∷ b ∷ 0 ∷ 0 ∷ []
 
-abbrev none : List ℕ
+abbrev pub none : List ℕ
 none = 0 ∷ 0 ∷ 0 ∷ 0 ∷ []
 
 abbrev pub told_table : List ToldCase
@@ -121,29 +112,13 @@ told_table =
 abbrev pub now_told : ToldCase → ToldCase
 now_told c = record { said = c.said; printed = reply_line c.said; number = reply_no c.said; spelt = reply_bytes c.said }
 
-pub as_replied : map now_told told_table ≡ told_table
-unfolding as_printed as_decided reply_line reply_no reply_bytes
-as_replied = refl
-
 -- ── the slice for C, in part ──
 
 -- room for so many bytes, all of them 9
-abbrev room : ℕ → List ℕ
+abbrev pub room : ℕ → List ℕ
 room zero = []
 room (suc n) = 9 ∷ room n
 
 -- P12 at level 3, claimed 0 1 2 3, which is no for the pair 1 0: what a slice of n bytes then holds
 abbrev pub held_by : ℕ → List ℕ
 held_by n = (claimed_in_numbers (P 12) 3 (0 ∷ 1 ∷ 2 ∷ 3 ∷ []) (room n)).numbers
-
-pub as_held : map held_by (0 ∷ 3 ∷ 4 ∷ 11 ∷ 19 ∷ 20 ∷ 22 ∷ [])
-    ≡ []
-    ∷ room 3
-    ∷ none
-    ∷ (none ++ low 1 0 ++ room 3)
-    ∷ (none ++ low 1 0 ++ none ++ none ++ room 3)
-    ∷ (none ++ low 1 0 ++ none ++ none ++ none)
-    ∷ (none ++ low 1 0 ++ none ++ none ++ none ++ room 2)
-    ∷ []
-unfolding as_claimed as_decided reply_no reply_bytes claimed_in_numbers
-as_held = refl

@@ -1,10 +1,8 @@
--- Words of every shape, and what each means: one table and one statement.
-use Rattle.std.specs.Prelude.{ℕ, ◌≡◌, refl, List, [], ◌∷◌, map}
+-- Words of every shape, and what each means: one table, whose statement is in proofs/.
+use Rattle.std.specs.Prelude.{ℕ, List, [], ◌∷◌}
 use Prim.Native.String.{String}
-use Rattle.base.specs.Base.{◌and◌, ◌or◌, pick, some_of, first_of, some, first}
-use Rattle.text.specs.Lines.{text, level_word}
-use Rattle.text.specs.Digits.{denoted_from, denoted}
-use Rattle.claims_rules.specs.Words.{is_same_word, is_word_of, level_named, is_other, is_short, number_named}
+use Rattle.text.specs.Lines.{text}
+use Rattle.claims_rules.specs.Words.{level_named, number_named}
 
 pub record WordCase : Type 0 where
   pub word : String
@@ -39,7 +37,3 @@ word_table =
 
 abbrev pub now_meant : WordCase → WordCase
 now_meant c = means c.word (level_named (text c.word)) (number_named (text c.word))
-
-pub as_meant : map now_meant word_table ≡ word_table
-unfolding ◌and◌ ◌or◌ pick some_of first_of some first level_word denoted_from denoted is_same_word is_word_of level_named is_other is_short number_named
-as_meant = refl

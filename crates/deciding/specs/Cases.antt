@@ -1,10 +1,9 @@
 -- Request Seven's cases: each decision with its counts and buffers, buffers one byte short, slices for the counts of every kind of length, numbers that are no
--- level; and the strongest level of the worked traces. As in document 01's tables: a table and one statement each.
-use Rattle.std.specs.Prelude.{ℕ, ◌-◌, ◌≡◌, refl, List, [], ◌∷◌, ◌++◌, map, length}
+-- level; and the strongest level of the worked traces. As in document 01's tables: a table each, whose statement is in proofs/.
+use Rattle.std.specs.Prelude.{ℕ, ◌-◌, List, [], ◌∷◌, ◌++◌, length}
 use Rattle.rules.specs.Traces.{trace, opens, r, w, r_of, w_of, closes_of, note, whole, overlapping, T, U, read, pair, room}
-use Rattle.rules.specs.Edges.{as_they_should}
 use Rattle.rules.specs.Cases.{swapped}
-use Rattle.deciding.specs.Deciding.{decision_no, decision_of, five_bytes, count_bytes, whole_counts, whole_put, counts_put, Decided, decided_as, decided_by, decided, strongest_no, accepted_read, is_accepted_at, strongest}
+use Rattle.deciding.specs.Deciding.{Decided, decided_as, decided, strongest_no, strongest}
 
 -- ── traces ──
 
@@ -117,11 +116,6 @@ abbrev pub now_decided : DecideCase → DecideCase
 now_decided x =
     decide_case x.bytes x.level x.f x.p x.o x.c (decided x.bytes x.level (room x.f) (room x.p) (room x.o) (room x.c))
 
--- this statement carries along what it unfolds
-unfoldable pub as_decided : map now_decided decide_table ≡ decide_table
-unfolding as_they_should decision_no decision_of five_bytes count_bytes whole_counts whole_put counts_put decided_by decided strongest_no accepted_read is_accepted_at strongest
-as_decided = refl
-
 -- ── the strongest level ──
 
 -- a trace and the number that is answered
@@ -154,7 +148,3 @@ strongest_table =
 
 abbrev pub now_strongest : StrongestCase → StrongestCase
 now_strongest x = strongest_case x.bytes (strongest_no (strongest x.bytes))
-
-pub as_strongest : map now_strongest strongest_table ≡ strongest_table
-unfolding as_decided
-as_strongest = refl

@@ -7,7 +7,8 @@ use lib.ListN.{length, get_or}
 use Rattle.theory.proofs.Entries.{number_one}
 use Rattle.rules.specs.Outcome.{Verdict, declines, accepts, Report, declining, rejecting, accepting, reported, Outcome, outcome, judged}
 use Rattle.rules.specs.Traces.{room}
-use Rattle.rules.specs.Cases.{Case, all, table, at_each}
+use Rattle.rules.specs.Cases.{Case, all, table}
+use Rattle.rules.proofs.Cases.{at_each}
 use Rattle.rules.specs.declared.Answer.{Answer}
 use Rattle.rules.proofs.Outcome.{verdict_no, ReportIs, says_declined, says_rejected, says_accepted, says}
 use Rattle.demand1.proofs.Readings.{history_one}

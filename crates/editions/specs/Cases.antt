@@ -2,7 +2,7 @@
 -- orders and the pairs are those of the document's table; operations have the numbers of their places here.
 use Rattle.std.specs.Prelude.{ℕ, ◌≡◌, refl, List, [], ◌∷◌, ◌++◌, map}
 use Rattle.rules.specs.Traces.{Item, opens, r_of, w_of, closes_of, overlapping, read, pair}
-use Rattle.rules.specs.Edges.{as_they_should}
+use Rattle.rules.proofs.Edges.{as_they_should}
 use Rattle.rules.specs.Cases.{Case, case, all, found, accepts_with, rejects_with, swapped}
 
 -- the open transaction of session s commits

@@ -2,7 +2,7 @@
 -- the open one of its session, such as the latest opened or that of its neighbours.
 use Rattle.std.specs.Prelude.{◌≡◌, refl, List, [], ◌∷◌, ◌++◌, map}
 use Rattle.rules.specs.Traces.{opens, r_of, w_of, closes_of, overlapping, read, pair}
-use Rattle.rules.specs.Edges.{as_they_should}
+use Rattle.rules.proofs.Edges.{as_they_should}
 use Rattle.rules.specs.Cases.{Case, case, all, found, accepts_with, rejects_with}
 use Rattle.editions.specs.Cases.{commits}
 

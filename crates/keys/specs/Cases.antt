@@ -2,7 +2,7 @@
 use Rattle.std.specs.Prelude.{ℕ, ◌≡◌, refl, Bool, true, false, List, [], ◌∷◌, ◌++◌, map}
 use Rattle.rules.specs.History.{History, Tx, Op}
 use Rattle.rules.specs.Traces.{whole, T, r, w, pair}
-use Rattle.rules.specs.Edges.{as_they_should}
+use Rattle.rules.proofs.Edges.{as_they_should}
 use Rattle.rules.specs.Cases.{Case, case, all, accepts_with, rejects_with, swapped, found}
 use Rattle.keys.specs.Keys.{bucket_of, reads_into, key_below, key_read, reads_other, is_shared, is_entered, writes_into, wrote, writers}
 

@@ -7,3 +7,4 @@ pub mod Grown
 pub mod Lists
 pub mod Moving
 pub mod Tally
+pub mod Cases

@@ -1,17 +1,13 @@
 -- Request Five's cases: both directions with their bytes, what comes out unchanged, every way of being refused, and what becomes of operation numbers, orders,
--- pairs and findings; request Six's: how many notes there were; and request Eleven's: lists. As in document 01's tables: a table and one statement each.
-use Rattle.std.specs.Prelude.{ℕ, ◌≡◌, refl, Bool, true, false, List, [], ◌∷◌, ◌++◌, map}
-use Rattle.theory.specs.Order.{place}
+-- pairs and findings; request Six's: how many notes there were; and request Eleven's: lists. As in document 01's tables: a table each, whose statement is in proofs/.
+use Rattle.std.specs.Prelude.{ℕ, Bool, true, false, List, [], ◌∷◌, ◌++◌, map}
 use Rattle.rules.specs.History.{History}
 use Rattle.rules.specs.Traces.{Item, trace, opens, r, w, closes, ends, note, edition, r_of, w_of, closes_of, a_of, l_of, block, T, U, whole, overlapping, read, pair, room}
-use Rattle.rules.specs.Edges.{as_they_should}
-use Rattle.rules.specs.Cases.{Case, case, all, found, accepts_with, rejects_with}
+use Rattle.rules.specs.Cases.{Case, case, all, accepts_with, rejects_with}
 use Rattle.writing.specs.Filling.{Fill}
-use Rattle.writing.specs.Forms.{item_with, form_bytes, formed, tx_block, blocks_of, preamble, whole_of}
-use Rattle.writing.specs.Cases.{refused_in, filled_in, as_written}
-use Rattle.moving.specs.Moving.{is_same, moved_trace, is_list_kind, list_from, first_list, moved_read, moved_to}
-use Rattle.moving.specs.Tally.{with_notes, moved_to_second}
-use Rattle.moving.specs.Renumbering.{is_op_of, numbers_of, in_blocks, new_number, old_number, as_blocks}
+use Rattle.writing.specs.Cases.{refused_in, filled_in}
+use Rattle.moving.specs.Moving.{moved_to}
+use Rattle.moving.specs.Tally.{moved_to_second}
 
 -- ── traces ──
 
@@ -119,11 +115,6 @@ move_table =
 abbrev pub now_moved : MoveCase → MoveCase
 now_moved c = move_case c.second c.bytes c.room (moved_to c.second c.bytes (room c.room))
 
--- this statement carries along what it unfolds
-unfoldable pub as_moved : map now_moved move_table ≡ move_table
-unfolding as_written item_with form_bytes formed tx_block blocks_of preamble whole_of is_same moved_trace is_list_kind list_from first_list moved_read moved_to place is_op_of numbers_of in_blocks new_number old_number as_blocks
-as_moved = refl
-
 -- ── the notes ──
 
 -- a trace, the length of the buffer, and how many notes a move to edition 2 then answers
@@ -157,40 +148,24 @@ tally_table =
 abbrev pub now_tallied : TallyCase → TallyCase
 now_tallied c = tally_case c.bytes c.room (moved_to_second c.bytes (room c.room)).notes
 
-pub as_tallied : map now_tallied tally_table ≡ tally_table
-unfolding as_moved with_notes moved_to_second
-as_tallied = refl
-
 -- ── the numbers ──
 
 -- operations of transactions 2, 1, 2, 3 and 1: what number each gets, and which each was; 0 stays
-abbrev interleaved : History
+abbrev pub interleaved : History
 interleaved =
     record {
       txs = map (λ (s : ℕ). record { session = s; status = 1 }) (7 ∷ 8 ∷ 9 ∷ []);
       ops = map (λ (t : ℕ). record { tx = t; is_write = false; key = 0; value = 0 }) (2 ∷ 1 ∷ 2 ∷ 3 ∷ 1 ∷ []);
     }
 
-pub as_renumbered : map (new_number interleaved) (0 ∷ 1 ∷ 2 ∷ 3 ∷ 4 ∷ 5 ∷ []) ≡ 0 ∷ 3 ∷ 1 ∷ 4 ∷ 5 ∷ 2 ∷ []
-unfolding as_moved
-as_renumbered = refl
-
-pub as_numbered : map (old_number interleaved) (0 ∷ 1 ∷ 2 ∷ 3 ∷ 4 ∷ 5 ∷ []) ≡ 0 ∷ 2 ∷ 5 ∷ 1 ∷ 3 ∷ 4 ∷ []
-unfolding as_moved
-as_numbered = refl
-
 -- ── before and after ──
 
 -- T1 w1=5 w1=6 r3=8 and T2 r1=5, which reads first; as blocks
-abbrev unclean_bytes : List ℕ
+abbrev pub unclean_bytes : List ℕ
 unclean_bytes = overlapping 2 (opens 1 ∷ opens 2 ∷ r_of 2 1 5 ∷ w_of 1 1 5 ∷ w_of 1 1 6 ∷ r_of 1 3 8 ∷ closes_of 2 1 ∷ closes_of 1 1 ∷ [])
 
-abbrev unclean_blocks : List ℕ
+abbrev pub unclean_blocks : List ℕ
 unclean_blocks = whole 2 (T 1 (w 1 5 ∷ w 1 6 ∷ r 3 8 ∷ []) ++ T 2 (r 1 5 ∷ []))
-
-pub as_blocks_lem : moved_to false unclean_bytes (room 250) ≡ filled_in 250 unclean_blocks
-unfolding as_moved
-as_blocks_lem = refl
 
 abbrev pub judged_table : List Case
 judged_table =
@@ -204,7 +179,3 @@ judged_table =
     ∷ case (P12overlapping 0) (accepts_with (0 ∷ 1 ∷ 2 ∷ 3 ∷ [])) (accepts_with (0 ∷ 1 ∷ 2 ∷ 3 ∷ [])) (rejects_with [] (pair 0 1 9 ++ pair 1 0 8))
     ∷ case (P12blocks 0) (accepts_with (0 ∷ 1 ∷ 2 ∷ 3 ∷ [])) (accepts_with (0 ∷ 1 ∷ 2 ∷ 3 ∷ [])) (rejects_with [] (pair 0 1 9 ++ pair 1 0 8))
     ∷ []
-
-pub as_judged : map found judged_table ≡ judged_table
-unfolding as_they_should
-as_judged = refl

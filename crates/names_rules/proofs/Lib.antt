@@ -3,3 +3,4 @@ pub mod Offsets
 pub mod Loops
 pub mod Places
 pub mod Kept
+pub mod NameCases

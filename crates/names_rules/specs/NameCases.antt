@@ -1,9 +1,9 @@
--- Cases of names files, computed: each refusal with its place, each two neighbours in the order of checks broken at once, limits, and look-ups.
-use Rattle.std.specs.Prelude.{ℕ, ◌+◌, ◌≡◌, refl, List, [], ◌∷◌, ◌++◌, map, length, replicate}
-use Rattle.base.specs.Base.{◌or◌, pick, some_of, some, first_fit}
-use Rattle.rules.specs.Numbers.{le, bytes}
+-- Cases of names files, computed: each refusal with its place, each two neighbours in the order of checks broken at once, limits, and look-ups. The
+-- statements are in proofs/.
+use Rattle.std.specs.Prelude.{ℕ, ◌+◌, List, [], ◌∷◌, ◌++◌, length, replicate}
+use Rattle.rules.specs.Numbers.{bytes}
 use Rattle.rules.specs.Traces.{raw}
-use Rattle.names_rules.specs.Names.{is_odd, name_rows, name_no, check_from, checked, offsets_from, offsets, with_key, record_with, refusal_of, refusal, place_in, unless_refused, place_of, bytes_at}
+use Rattle.names_rules.specs.Names.{checked, refusal, place_of, bytes_at}
 use Rattle.names_rules.specs.declared.FileCheck.{FileCheck}
 use Rattle.names_rules.specs.declared.FileCheck.TheVariants.{Good, Bad}
 use Rattle.names_rules.specs.declared.Refusal.{Refusal}
@@ -25,14 +25,14 @@ long k = replicate k 126
 -- ── files ──
 
 -- a file, and what comes of checking it
-record File : Type 0 where
-  bytes : List ℕ
-  check : FileCheck
+pub record File : Type 0 where
+  pub bytes : List ℕ
+  pub check : FileCheck
 
 abbrev file : List ℕ → FileCheck → File
 file b c = record { bytes = b; check = c }
 
-abbrev files : List File
+abbrev pub files : List File
 files =
     -- lawful: no record; names of one and of forty bytes; the least and the greatest byte; key 0 first, the greatest key last
     file [] Good
@@ -62,33 +62,19 @@ files =
     ∷ file (n 5 (127 ∷ []) ++ (7 ∷ [])) (Bad 8 0)
     ∷ []
 
-abbrev file_found : File → File
+abbrev pub file_found : File → File
 file_found f = file f.bytes (checked f.bytes)
-
--- The line names all that is computed with here
-unfoldable pub files_as_they_should : map file_found files ≡ files
-unfolding le bytes raw is_odd name_rows name_no check_from checked offsets_from offsets with_key record_with refusal_of place_in unless_refused bytes_at ◌or◌ pick some_of some first_fit
-files_as_they_should = refl
-
--- row 2: one byte too many, whatever they are; at the limit the first record decides
-pub too_long_as_it_should : checked (replicate 32769 0) ≡ Bad 2 32768
-unfolding files_as_they_should
-too_long_as_it_should = refl
-
-pub at_the_limit_as_it_should : checked (replicate 32768 0) ≡ Bad 4 0
-unfolding files_as_they_should
-at_the_limit_as_it_should = refl
 
 -- ── look-ups ──
 
 -- two files and a key; where the name is, its bytes, and what is said of the two files
-record Lookup : Type 0 where
-  own : List ℕ
-  shared : List ℕ
-  key : ℕ
-  place : NamePlace
-  name : List ℕ
-  says : Refusal
+pub record Lookup : Type 0 where
+  pub own : List ℕ
+  pub shared : List ℕ
+  pub key : ℕ
+  pub place : NamePlace
+  pub name : List ℕ
+  pub says : Refusal
 
 abbrev look : List ℕ → List ℕ → ℕ → NamePlace → List ℕ → Refusal → Lookup
 look o s k p b r = record { own = o; shared = s; key = k; place = p; name = b; says = r }
@@ -100,10 +86,10 @@ two = n 3 A ++ n 7 (66 ∷ 67 ∷ [])
 abbrev other : List ℕ
 other = n 7 (68 ∷ []) ++ n 9 (69 ∷ [])
 
-abbrev three : List ℕ
+abbrev pub three : List ℕ
 three = n 2 A ++ n 4 (66 ∷ 67 ∷ []) ++ n 8 (68 ∷ [])
 
-abbrev lookups : List Lookup
+abbrev pub lookups : List Lookup
 lookups =
     look [] [] 3 Nowhere [] Accepted
     ∷ look two other 3 (InOwn 8 9) A Accepted
@@ -128,15 +114,7 @@ lookups =
     ∷ look (n 3 A ++ n 3 A) (7 ∷ []) 3 Nowhere [] (OwnRefused 18 9)
     ∷ []
 
-abbrev look_found : Lookup → Lookup
+abbrev pub look_found : Lookup → Lookup
 look_found x =
     look x.own x.shared x.key (place_of x.own x.shared x.key) (bytes_at x.own x.shared (place_of x.own x.shared x.key))
     (refusal x.own x.shared)
-
-pub lookups_as_they_should : map look_found lookups ≡ lookups
-unfolding files_as_they_should
-lookups_as_they_should = refl
-
-pub offsets_as_they_should : offsets three ≡ 0 ∷ 9 ∷ 19 ∷ []
-unfolding files_as_they_should
-offsets_as_they_should = refl

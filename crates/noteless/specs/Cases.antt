@@ -3,7 +3,7 @@
 use Rattle.std.specs.Prelude.{ℕ, ◌≡◌, refl, List, [], ◌∷◌, ◌++◌, map}
 use Rattle.std.proofs.Common.{arith}
 use Rattle.rules.specs.Traces.{record_of, trace, opens, r, w, closes, ends, note, T, block, read, pair}
-use Rattle.rules.specs.Edges.{as_they_should}
+use Rattle.rules.proofs.Edges.{as_they_should}
 use Rattle.rules.specs.Cases.{Case, case, all, found, accepts_with, rejects_with}
 use Rattle.noteless.specs.Without.{none, left_out, kept, WithoutNotes}
 

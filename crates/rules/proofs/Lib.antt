@@ -11,3 +11,8 @@ pub mod Kind
 pub mod Lists
 pub mod Forced
 pub mod Outcome
+pub mod Edges
+pub mod Cases
+pub mod Overlaps
+pub mod ListRecords
+pub mod Unanswered

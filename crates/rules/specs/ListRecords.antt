@@ -1,13 +1,12 @@
 -- Document 02, "lists instead of single values": each row of appends and list reads with its place, neighbours in the order of checks broken at once, row 17
--- in both directions, and what they are read into. As in Overlaps: a table and one statement.
-use Rattle.std.specs.Prelude.{ℕ, ◌≡◌, refl, true, List, [], ◌∷◌, ◌++◌, map}
-use Rattle.base.specs.Base.{joined}
+-- in both directions, and what they are read into. As in Overlaps: a table, whose statement is in proofs/.
+use Rattle.std.specs.Prelude.{ℕ, true, List, [], ◌∷◌, ◌++◌}
 use Rattle.rules.specs.Numbers.{bytes}
 use Rattle.rules.specs.History.{Op, append_key, list_key}
 use Rattle.rules.specs.Reading.{refused}
 use Rattle.rules.specs.Traces.{raw, trace, opens, edition, r_of, w_of, a_of, l_of, closes_of, room}
-use Rattle.rules.specs.Edges.{as_they_should, open_state}
-use Rattle.rules.specs.Overlaps.{Overlap, overlap, refuses, refuses_raw, reads_into, a, op_wrote, took, overlap_read, SecondLimit, second, second_tested}
+use Rattle.rules.specs.Edges.{open_state}
+use Rattle.rules.specs.Overlaps.{Overlap, overlap, refuses, refuses_raw, reads_into, a, op_wrote, took, SecondLimit, second}
 
 -- an append of v to x by t, and a list read of x by t whose record stands at p, as they are held
 abbrev appended : ℕ → ℕ → ℕ → Op
@@ -61,10 +60,6 @@ list_record_table =
     (op_wrote 1 1 5 ∷ appended 1 2 6 ∷ listed 2 2 74 ∷ listed 2 2 101 ∷ took 2 1 5 ∷ [])
     ∷ []
 
-pub list_records_as_they_should : map overlap_read list_record_table ≡ list_record_table
-unfolding as_they_should joined
-list_records_as_they_should = refl
-
 -- ── the limits: "both numbered and limited as operations" ──
 
 abbrev pub list_limits : List SecondLimit
@@ -78,7 +73,3 @@ list_limits =
     ∷ second (open_state 1024) (a_of 1 1 5000) 9
     ∷ second (open_state 1023) (a_of 1 1 5000) 17
     ∷ []
-
-pub list_limits_as_they_should : map second_tested list_limits ≡ list_limits
-unfolding as_they_should joined
-list_limits_as_they_should = refl

@@ -1,10 +1,10 @@
 -- Document 02, "overlapping transactions": each new refusal with its place, neighbours in the order of checks broken at once, and what traces of edition 2 are
--- read into. As in Edges: a table and one statement.
-use Rattle.std.specs.Prelude.{ℕ, ◌≡◌, refl, true, false, List, [], ◌∷◌, ◌++◌, map}
+-- read into. As in Edges: a table, whose statement is in proofs/.
+use Rattle.std.specs.Prelude.{ℕ, true, false, List, [], ◌∷◌, ◌++◌}
 use Rattle.rules.specs.History.{Tx, Op}
 use Rattle.rules.specs.Reading.{State, Reading, refused, read, refusal_no, reading}
 use Rattle.rules.specs.Traces.{Item, raw, trace, opens, r, closes, ends, note, edition, r_of, w_of, closes_of, overlapping, room}
-use Rattle.rules.specs.Edges.{as_they_should, closed_state, open_state}
+use Rattle.rules.specs.Edges.{closed_state, open_state}
 
 -- a trace and what is read of it
 pub record Overlap : Type 0 where
@@ -93,10 +93,6 @@ overlap_table =
 abbrev pub overlap_read : Overlap → Overlap
 overlap_read c = overlap c.bytes (reading c.bytes)
 
-pub overlaps_as_they_should : map overlap_read overlap_table ≡ overlap_table
-unfolding as_they_should
-overlaps_as_they_should = refl
-
 -- ── the limits, in states that have come so far ──
 
 -- a state behind the record that says edition 2, the record that comes, and the number of the row that refuses it, 0 for none
@@ -126,7 +122,3 @@ second_limits =
 
 abbrev pub second_tested : SecondLimit → SecondLimit
 second_tested c = record { state = c.state; item = c.item; no = refusal_no (trace 0 (edition 2 ∷ c.item ∷ [])) c.state }
-
-pub second-limits_as_they_should : map second_tested second_limits ≡ second_limits
-unfolding as_they_should
-second-limits_as_they_should = refl

@@ -1,10 +1,9 @@
--- Document 02, "commits nobody answered": who counts as committed, 0 among them. As in Cases: a table and one statement.
-use Rattle.std.specs.Prelude.{ℕ, ◌≡◌, refl, List, [], ◌∷◌, ◌++◌, map}
+-- Document 02, "commits nobody answered": who counts as committed, 0 among them. As in Cases: a table, whose statement is in proofs/.
+use Rattle.std.specs.Prelude.{ℕ, List, [], ◌∷◌, ◌++◌}
 use Rattle.base.specs.Base.{those}
 use Rattle.rules.specs.History.{size, committed}
 use Rattle.rules.specs.Reading.{Reading, refused, read, reading}
 use Rattle.rules.specs.Traces.{whole, block, T, U, r, w}
-use Rattle.rules.specs.Edges.{as_they_should}
 
 -- a trace, and the numbers of those that count
 pub record CountCase : Type 0 where
@@ -52,7 +51,3 @@ who_counts (read h notes) = those 0 (size h) (committed h)
 
 abbrev pub counted_so : CountCase → CountCase
 counted_so c = count_case c.bytes (who_counts (reading c.bytes))
-
-pub as_counted : map counted_so count_table ≡ count_table
-unfolding as_they_should who_counts
-as_counted = refl

@@ -3,8 +3,8 @@ use Rattle.std.specs.Prelude.{ℕ, ◌≡◌, refl, true, false, List, [], ◌�
 use Rattle.rules.specs.Numbers.{bytes}
 use Rattle.rules.specs.Traces.{trace, opens, w, closes, ends, note, edition, w_of, closes_of}
 use Rattle.text.specs.Lines.{text, notes_line}
-use Rattle.text.specs.Cases.{as_printed}
-use Rattle.moving.specs.Cases.{as_moved}
+use Rattle.text.proofs.Cases.{as_printed}
+use Rattle.moving.proofs.Cases.{as_moved}
 use Rattle.telling.specs.Telling.{work_text, made_text, given_text, again_text, rewritten_text, moved_text, tallied_text, notes_text}
 
 -- ── a serial and steps ──

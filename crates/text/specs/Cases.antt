@@ -1,13 +1,11 @@
--- Document 01, "Traces worked by hand", as they are printed: P1 to P14 with cases 15 and 16, one table, one statement. And lines with longer numbers than
--- those have.
-use Rattle.std.specs.Prelude.{ℕ, ◌≡◌, refl, List, [], ◌∷◌, ◌++◌, map, get_or}
+-- Document 01, "Traces worked by hand", as they are printed: P1 to P14 with cases 15 and 16, one table. And lines with longer numbers than those have. The
+-- statements are in proofs/.
+use Rattle.std.specs.Prelude.{ℕ, List, [], ◌∷◌, ◌++◌, map, get_or}
 use Prim.Native.String.{String}
-use Rattle.rules.specs.Edges.{as_they_should}
 use Rattle.rules.specs.Traces.{whole, T, r, w}
 use Rattle.rules.specs.Cases.{table}
-use Rattle.text.specs.Lines.{text, decimal_by, decimal, field, fields, line, level_word, refused_line, rejected_line, accepted_line, read_line, pair_line, notes_line}
-use Rattle.text.specs.Digits.{denoted_from, denoted}
-use Rattle.text.specs.Answer.{finding_text, pair_text, block_text, reading_text, answer_text}
+use Rattle.text.specs.Lines.{text, decimal, refused_line, rejected_line, accepted_line, read_line, notes_line}
+use Rattle.text.specs.Answer.{answer_text}
 
 -- a trace and its text
 pub record Printed : Type 0 where
@@ -64,11 +62,6 @@ text_table =
 abbrev pub to_print : Printed → Printed
 to_print c = record { bytes = c.bytes; printed = answer_text c.bytes }
 
--- `as_they_should` unfolds all that the outcome is computed with
-unfoldable pub as_printed : map to_print text_table ≡ text_table
-unfolding as_they_should decimal_by decimal field fields line level_word refused_line rejected_line accepted_line read_line pair_line finding_text pair_text block_text reading_text answer_text
-as_printed = refl
-
 -- ── numbers of one digit, two, and more ──
 
 abbrev pub line_table : List (List ℕ)
@@ -84,12 +77,3 @@ line_table =
     ∷ notes_line 0
     ∷ notes_line 4094
     ∷ []
-
-pub as_spelt : line_table ≡ map text ("0" ∷ "9" ∷ "10" ∷ "1024" ∷ "refused 2 32768\n" ∷ "rc accepted 0 127\n" ∷ "tcc rejected 10 16256\n" ∷ "read 127 1024 6 1023\n" ∷ "notes 0\n" ∷ "notes 4094\n" ∷ [])
-unfolding as_printed notes_line
-as_spelt = refl
-
--- and read back
-pub as_denoted : map (λ s. denoted (text s)) ("0" ∷ "9" ∷ "10" ∷ "1024" ∷ []) ≡ 0 ∷ 9 ∷ 10 ∷ 1024 ∷ []
-unfolding denoted_from denoted
-as_denoted = refl

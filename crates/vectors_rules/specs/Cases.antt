@@ -6,7 +6,7 @@ use Rattle.rules.specs.History.{History, tx_count, size}
 use Rattle.rules.specs.Reading.{Reading, refused, read, reading}
 use Rattle.rules.specs.Levels.{leads}
 use Rattle.rules.specs.Traces.{opens, r, w, r_of, w_of, closes_of, block, T, U, whole, overlapping}
-use Rattle.rules.specs.Edges.{as_they_should}
+use Rattle.rules.proofs.Edges.{as_they_should}
 use Rattle.vectors_rules.specs.Latest.{knows, latest, greater, with_own, told, loops, cyclic}
 use Rattle.vectors_rules.specs.Vectors.{session_no, latest_of, vector_of, told_by, basic_cycle}
 

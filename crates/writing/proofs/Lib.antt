@@ -12,3 +12,4 @@ pub mod Within
 pub mod Forms
 pub mod Sizes
 pub mod Marks
+pub mod Cases

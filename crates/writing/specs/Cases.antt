@@ -1,20 +1,20 @@
 -- Request One's cases: every refusal with its place, every two neighbours in the order of checks broken at once, the limits by their states, a wrap, buffers
--- one byte short and exactly fitting, and P1, P12 and case 16 made from steps, turned into steps and written again. As in document 01's tables: a table and
--- one statement each.
-use Rattle.std.specs.Prelude.{ℕ, ◌+◌, ◌-◌, ◌≡◌, refl, List, [], ◌∷◌, ◌++◌, map, length, get_or, take}
+-- one byte short and exactly fitting, and P1, P12 and case 16 made from steps, turned into steps and written again. As in document 01's tables: a table
+-- each, whose statement is in proofs/.
+use Rattle.std.specs.Prelude.{ℕ, ◌-◌, List, [], ◌∷◌, ◌++◌, map, length, get_or, take}
 use Rattle.base.specs.Base.{joined}
 use Rattle.rules.specs.Numbers.{bytes}
 use Rattle.rules.specs.History.{History}
 use Rattle.rules.specs.Traces.{whole, overlapping, trace, opens, closes, ends, note, edition, r_of, w_of, closes_of, a_of, l_of, T, U, r, w, room}
 use Rattle.rules.specs.Cases.{Case, table}
-use Rattle.rules.specs.Edges.{closed_state, open_state, as_they_should}
+use Rattle.rules.specs.Edges.{closed_state, open_state}
 use Rattle.rules.specs.declared.Event.{Event}
 use Rattle.rules.specs.declared.Event.TheVariants.{Open, Read, Write, Close}
-use Rattle.writing.specs.Filling.{Fill, fill_of, refusing, answering, into}
-use Rattle.writing.specs.Steps.{step_of, step_at, steps_from, field_bytes, step_bytes}
-use Rattle.writing.specs.Writing.{is_no_step, write_rows, write_no, end_no, follow, item_of, records_of, wrote, written, written_given}
-use Rattle.writing.specs.Listing.{op_step, op_step_of, close_step, tx_steps, history_steps, steps_read, stepped}
-use Rattle.writing.specs.Rewriting.{again, rewritten, rewritten_read, rewritten_whole}
+use Rattle.writing.specs.Filling.{Fill, fill_of, refusing, answering}
+use Rattle.writing.specs.Steps.{field_bytes, step_bytes}
+use Rattle.writing.specs.Writing.{write_no, written, written_given}
+use Rattle.writing.specs.Listing.{stepped}
+use Rattle.writing.specs.Rewriting.{again, rewritten, rewritten_whole}
 
 -- ── in words ──
 
@@ -117,11 +117,6 @@ write_table =
 abbrev pub now_written : WriteCase → WriteCase
 now_written c = write_case c.steps c.serial c.room (written c.steps c.serial (room c.room))
 
--- this statement carries along what it unfolds
-unfoldable pub as_written : map now_written write_table ≡ write_table
-unfolding as_they_should into step_of step_at steps_from field_bytes step_bytes is_no_step write_rows write_no end_no follow item_of records_of wrote written op_step op_step_of close_step tx_steps history_steps steps_read stepped again rewritten rewritten_read rewritten_whole written_given
-as_written = refl
-
 -- ── the limits: 127 transactions and 1,024 operations, in histories that have come so far ──
 
 -- those of document 01's limits: n transactions closed, or one open with n operations, which write the values 1 to n to the key 1
@@ -154,10 +149,6 @@ bounds =
 
 abbrev pub now_bound : BoundCase → BoundCase
 now_bound c = bound_case c.history c.step (write_no c.history c.step)
-
-pub as_bound : map now_bound bounds ≡ bounds
-unfolding as_written
-as_bound = refl
 
 -- ── a trace turned into steps, and written again ──
 
@@ -205,17 +196,9 @@ list_table =
 abbrev pub now_listed : ListCase → ListCase
 now_listed c = list_case c.bytes c.room (stepped c.bytes (room c.room)) (rewritten c.bytes (room 200) (room 200))
 
-pub as_listed : map now_listed list_table ≡ list_table
-unfolding as_written
-as_listed = refl
-
 -- the same, where the steps' buffer is not lent
 abbrev pub now_whole : ListCase → ListCase
 now_whole c = list_case c.bytes c.room c.out (rewritten_whole c.bytes (room 200))
-
-pub as_whole : map now_whole list_table ≡ list_table
-unfolding as_written
-as_whole = refl
 
 -- ── a serial and steps in one ──
 
@@ -238,7 +221,3 @@ given_table =
 
 abbrev pub now_given : GivenCase → GivenCase
 now_given c = given_case c.bytes (written_given c.bytes (room 200))
-
-pub as_given : map now_given given_table ≡ given_table
-unfolding as_written
-as_given = refl

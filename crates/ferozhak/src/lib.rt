@@ -1,5 +1,5 @@
 // The calls for C programs, the index daemon first: numbers and byte slices in, a number out. They know nothing of the judge and of claims but their contracts.
-// include/ferozhak.h has them as C sees them.
+// `ferozhak_c` exports them, and include/ferozhak.h has them as C sees them.
 #![tactic(auto)]
 
 ghost use Rattle.std.specs.Prelude.{◌≡◌, ℕ, ◌≤◌, List, length};
@@ -21,8 +21,7 @@ use trace::Out;
 
 // Judges the trace at a level and answers 1 promote, 2 hold or 3 no trace: "promote exactly on acceptance, hold on rejection, no trace on refusal, with the
 // counts". The three buffers get what the judge puts there, and the slice for the counts five numbers of four bytes, little-endian, as many as fit whole.
-#[unsafe(no_mangle)]
-pub extern "C" fn ferozhak_decide(
+pub fn ferozhak_decide(
     trace: &[u8],
     level: u32,
     findings: &mut [u8],
@@ -123,8 +122,7 @@ fn put_counts(answer: Answer, counts: &mut [u8])
 // ── the second call ──
 
 // The strongest level that accepts the trace, 3, 2 or 1; 0 if none does or the trace is refused.
-#[unsafe(no_mangle)]
-pub extern "C" fn ferozhak_strongest(trace: &[u8]) -> u32
+pub fn ferozhak_strongest(trace: &[u8]) -> u32
     ensures { result ≡ strongest_no (strongest trace.now) }
 {
     strongest_number(strongest_of(trace))
@@ -235,8 +233,7 @@ fn without_lists(no: u8) -> Seen
 // Says of an order that is claimed for the trace at a level, one byte a transaction, 1 yes, 2 no for a read, 3 no for its members, 4 no for a pair, or 5 refused.
 // The slice gets five numbers of four bytes, little-endian, as many as fit whole: the read's operation number, the pair's first and second, the refusal's number
 // and its place.
-#[unsafe(no_mangle)]
-pub extern "C" fn ferozhak_claim(trace: &[u8], level: u32, claim: &[u8], numbers: &mut [u8]) -> u32
+pub fn ferozhak_claim(trace: &[u8], level: u32, claim: &[u8], numbers: &mut [u8]) -> u32
     ensures { in_numbers result numbers.new ≡ claimed_in_numbers trace.now level claim.now numbers.old }
 {
     let answer = claims::claim(trace, level_byte(level), claim);

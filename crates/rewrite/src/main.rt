@@ -1,12 +1,14 @@
 // Reads a trace from standard input, turns it into steps and prints the trace that these make.
 #![tactic(auto)]
 
-fn main() {
+use std::io;
+
+fn main(rt: HostRuntime) -> io::Result<()> {
     // One byte more than a trace may have, so that a longer one is seen to be too long. Whatever stands behind, the text is the same (`kept-rewritten`,
     // telling/proofs/Kept.antt).
     let mut bytes = [0u8; 32769];
-    let n = io::read_full(0, &mut bytes);
+    let n = streams::read_full(&mut rt.stdin(), &mut bytes)?;
     let mut out = [0u8; telling::ROOM];
     let text = telling::rewritten_text(&bytes[..n], &mut out);
-    io::write_all(1, text);
+    rt.stdout().write_all(text)
 }

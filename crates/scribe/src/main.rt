@@ -8,70 +8,89 @@ ghost use Rattle.writing.specs.Filling.{said};
 ghost use Rattle.moving.specs.Tally.{filled_of};
 
 use moving::Tallied;
+use std::io;
+use std::io::{Read, Write};
 use writing::Filled;
 
-fn main() {
-    answer_all();
+fn main(rt: HostRuntime) -> io::Result<()> {
+    answer_all(&mut rt.stdin(), &mut rt.stdout())
 }
 
-// A proved loop has to end, and nothing says that the input does: so it counts down, from a number that no run uses up.
-fn answer_all() {
-    let mut turns = u64::MAX;
-    while turns > 0 && answer_next() {
-        turns -= 1;
+// A proved loop has to end, and nothing says that the input does: so it counts, to a number that no run uses up.
+fn answer_all<R: Read, W: Write>(input: &mut R, output: &mut W) -> io::Result<()> {
+    for _ in 0..u64::MAX {
+        if !answer_next(input, output)? {
+            break;
+        }
     }
+    Ok(())
 }
 
 // One item. False where the input has ended, or asks for anything else.
-fn answer_next() -> bool {
+fn answer_next<R: Read, W: Write>(input: &mut R, output: &mut W) -> io::Result<bool> {
     let mut head = [0u8; 5];
-    if io::read_full(0, &mut head) < 5 {
-        return false;
+    if streams::read_full(input, &mut head)? < 5 {
+        return Ok(false);
     }
     let room = frame::u16_at(&head, 1) as usize;
     let n = frame::u16_at(&head, 3) as usize;
     let mut given = [0u8; 65535];
     let mut out = [0u8; 65535];
-    lend(head[0], n, room, &mut given, &mut out)
+    lend(input, output, head[0], n, room, &mut given, &mut out)
 }
 
 // The next n bytes are given, and the first `room` bytes of a buffer lent.
-fn lend(asked: u8, n: usize, room: usize, given: &mut [u8], out: &mut [u8]) -> bool
+fn lend<R: Read, W: Write>(
+    input: &mut R,
+    output: &mut W,
+    asked: u8,
+    n: usize,
+    room: usize,
+    given: &mut [u8],
+    out: &mut [u8],
+) -> io::Result<bool>
     requires { (n ≤ length given.old) × (room ≤ length out.old) }
 {
-    answer_item(asked, &mut given[..n], &mut out[..room])
+    answer_item(input, output, asked, &mut given[..n], &mut out[..room])
 }
 
 // Where the input ends early, what there is of it is taken.
-fn answer_item(asked: u8, given: &mut [u8], out: &mut [u8]) -> bool {
-    let n = io::read_full(0, given);
-    answer(asked, &given[..n], out)
+fn answer_item<R: Read, W: Write>(
+    input: &mut R,
+    output: &mut W,
+    asked: u8,
+    given: &mut [u8],
+    out: &mut [u8],
+) -> io::Result<bool> {
+    let n = streams::read_full(input, given)?;
+    answer(output, asked, &given[..n], out)
 }
 
-fn answer(asked: u8, given: &[u8], out: &mut [u8]) -> bool {
+fn answer<W: Write>(output: &mut W, asked: u8, given: &[u8], out: &mut [u8]) -> io::Result<bool> {
     match asked {
         b's' => {
             let filled = rewriting::write_given(given, out);
-            print_answer(filled, out)
+            print_answer(output, filled, out)?;
         }
         b'l' => {
             let filled = list_given(given, out);
-            print_answer(filled, out)
+            print_answer(output, filled, out)?;
         }
         b'r' => {
             let filled = rewriting::rewrite_whole(given, out);
-            print_answer(filled, out)
+            print_answer(output, filled, out)?;
         }
         b'1' => {
             let filled = mover::to_edition_1(given, out);
-            print_answer(filled, out)
+            print_answer(output, filled, out)?;
         }
         b'2' => {
             let tallied = mover::to_edition_2(given, out);
-            print_tallied(tallied, out)
+            print_tallied(output, tallied, out)?;
         }
-        _ => false,
+        _ => return Ok(false),
     }
+    Ok(true)
 }
 
 // A trace, whose steps are answered.
@@ -83,42 +102,49 @@ fn list_given(trace: &[u8], out: &mut [u8]) -> Filled
 
 // ── what is printed ──
 
-// What was put into the buffer, or the line of a refusal. False where standard output takes no more.
-fn print_answer(answer: Filled, out: &[u8]) -> bool
+// What was put into the buffer, or the line of a refusal.
+fn print_answer<W: Write>(output: &mut W, answer: Filled, out: &[u8]) -> io::Result<()>
     requires { (said answer).length ≤ length out.now }
 {
     match answer {
-        Filled::Refused(no, place) => print_refusal(no, place),
-        Filled::Length(n) => print_front(out, n),
+        Filled::Refused(no, place) => print_refusal(output, no, place),
+        Filled::Length(n) => print_front(output, out, n),
     }
 }
 
 // .. and the number of notes, 0 with a refusal.
-fn print_tallied(answer: Tallied, out: &[u8]) -> bool
+fn print_tallied<W: Write>(output: &mut W, answer: Tallied, out: &[u8]) -> io::Result<()>
     requires { (said (filled_of answer)).length ≤ length out.now }
 {
     match answer {
-        Tallied::Refused(no, place) => print_refusal(no, place) && print_number(0),
-        Tallied::Length(n, notes) => print_front(out, n) && print_number(notes),
+        Tallied::Refused(no, place) => {
+            print_refusal(output, no, place)?;
+            print_number(output, 0)
+        }
+        Tallied::Length(n, notes) => {
+            print_front(output, out, n)?;
+            print_number(output, notes)
+        }
     }
 }
 
 // `refused NO PLACE`: two numbers of at most 20 digits. It has a buffer of its own: the one that was lent may have room for less.
-fn print_refusal(no: u8, place: usize) -> bool {
+fn print_refusal<W: Write>(output: &mut W, no: u8, place: usize) -> io::Result<()> {
     let mut line = [0u8; 64];
     let end = show::put_refused(&mut line, 0, no as usize, place);
-    print_front(&line, end)
+    print_front(output, &line, end)
 }
 
 // The first n bytes, behind their number.
-fn print_front(bytes: &[u8], n: usize) -> bool
+fn print_front<W: Write>(output: &mut W, bytes: &[u8], n: usize) -> io::Result<()>
     requires { n ≤ length bytes.now }
 {
-    print_number(n) && io::write_all(1, &bytes[..n])
+    print_number(output, n)?;
+    output.write_all(&bytes[..n])
 }
 
 // 2 bytes little-endian.
-fn print_number(n: usize) -> bool {
+fn print_number<W: Write>(output: &mut W, n: usize) -> io::Result<()> {
     let bytes = [(n % 256) as u8, (n / 256 % 256) as u8];
-    io::write_all(1, &bytes)
+    output.write_all(&bytes)
 }

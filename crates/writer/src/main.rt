@@ -1,12 +1,14 @@
 // Reads a starting serial and steps from standard input and prints the trace that they make.
 #![tactic(auto)]
 
-fn main() {
+use std::io;
+
+fn main(rt: HostRuntime) -> io::Result<()> {
     // The serial, and 1,279 steps at most: 127 opens, as many closes and 1,024 operations can pass, so the last of these is refused, if none before it is,
     // and what stands behind is not looked at (`kept_given`, telling/proofs/Kept.antt).
     let mut given = [0u8; 20468];
-    let n = io::read_full(0, &mut given);
+    let n = streams::read_full(&mut rt.stdin(), &mut given)?;
     let mut out = [0u8; telling::ROOM];
     let text = telling::given_text(&given[..n], &mut out);
-    io::write_all(1, text);
+    rt.stdout().write_all(text)
 }

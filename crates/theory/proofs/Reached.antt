@@ -4,7 +4,7 @@ use mathlib.Core.Path.{◌≡◌, refl}
 use mathlib.Core.Bool.{Bool, true, false, not}
 use mathlib.Core.Logic.{◌⊎◌, inl, inr, ⊎_elim, ◌↔◌}
 use native.Mathlib.Omega.{arith}
-use Rattle.base.specs.Base.{◌and◌, ◌or◌, some, count}
+use Rattle.base.specs.Base.{◌and◌, some, count}
 use Rattle.base.proofs.Tests.{known, is_true, clash, not-true, both, and_left, and_right, or_cases, or_left, or_right}
 use Rattle.base.proofs.Searches.{some_at, some_of_lem, none-at, count_most, count_more}
 use Rattle.theory.specs.Reached.{Reached, from, on, reach}

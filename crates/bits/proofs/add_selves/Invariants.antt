@@ -1,8 +1,5 @@
 use Prim.Native.Nat.{◌-◌, ◌≤◌}
-use mathlib.Core.Path.{sym, ◌∙◌}
-use native.Mathlib.Omega.{arith}
 use Rattle.bits.specs.Bits.{bit_of, Holds, plus_selves}
-use Rattle.bits.proofs.Selves.{plus_start, plus_step, plus_end}
 use Rattle.bits.proofs.add_selves.Given as goal
 
 abbrev pub invariant-loop-a : goal.invariant-loop-a

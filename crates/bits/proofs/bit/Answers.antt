@@ -1,5 +1,4 @@
 use mathlib.Core.Path.{refl}
-use borrow.Author.Rules.{rules}
 use Rattle.bits.specs.Bits.{bit_of, test_bit}
 use Rattle.bits.proofs.bit.Goals as goal
 

@@ -1,6 +1,5 @@
-use Prim.Native.Nat.{◌-◌}
 use native.Mathlib.Omega.{arith}
-use Rattle.bits.proofs.Tables.{Rewritten, rewritten_start, no_word, clear_step, cleared}
+use Rattle.bits.proofs.Tables.{rewritten_start, no_word, clear_step, cleared}
 use Rattle.bits.proofs.clear.Goals as goal
 
 pub loop-i-init : goal.loop-i-init

@@ -1,6 +1,5 @@
 use Prim.Native.Nat.{◌-◌}
-use native.Mathlib.Omega.{arith}
-use Rattle.bits.proofs.Tables.{Rewritten, rewritten_start, no_word, clear_step, cleared}
+use Rattle.bits.proofs.Tables.{Rewritten, no_word}
 use Rattle.bits.proofs.clear.Given as goal
 
 abbrev pub invariant-loop-i : goal.invariant-loop-i

@@ -1,6 +1,5 @@
-use Prim.Native.Nat.{◌-◌}
 use native.Mathlib.Omega.{arith}
-use Rattle.bits.proofs.Tables.{Rewritten, rewritten_start, word_of, copy_step, copied}
+use Rattle.bits.proofs.Tables.{rewritten_start, copy_step, copied}
 use Rattle.bits.proofs.copy.Goals as goal
 
 pub loop-i-init : goal.loop-i-init

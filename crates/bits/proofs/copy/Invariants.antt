@@ -1,6 +1,5 @@
 use Prim.Native.Nat.{◌-◌}
-use native.Mathlib.Omega.{arith}
-use Rattle.bits.proofs.Tables.{Rewritten, rewritten_start, word_of, copy_step, copied}
+use Rattle.bits.proofs.Tables.{Rewritten, word_of}
 use Rattle.bits.proofs.copy.Given as goal
 
 abbrev pub invariant-loop-i : goal.invariant-loop-i

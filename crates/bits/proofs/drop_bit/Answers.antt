@@ -1,4 +1,3 @@
-use borrow.Author.Rules.{rules}
 use Rattle.bits.proofs.Tables.{bit_dropped}
 use Rattle.bits.proofs.drop_bit.Goals as goal
 

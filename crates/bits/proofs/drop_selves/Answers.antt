@@ -1,7 +1,5 @@
-use Prim.Native.Nat.{◌-◌, ◌≤◌}
 use mathlib.Core.Path.{sym, ◌∙◌}
 use native.Mathlib.Omega.{arith}
-use Rattle.bits.specs.Bits.{bit_of, Holds, minus_selves}
 use Rattle.bits.proofs.Selves.{minus_start, minus_step, minus_end}
 use Rattle.bits.proofs.drop_selves.Goals as goal
 

@@ -1,6 +1,5 @@
-use Prim.Native.Nat.{◌-◌}
 use native.Mathlib.Omega.{arith}
-use Rattle.bits.proofs.Tables.{Rewritten, rewritten_start, either_word, join_step, joined}
+use Rattle.bits.proofs.Tables.{rewritten_start, join_step, joined}
 use Rattle.bits.proofs.join.Goals as goal
 
 pub loop-i-init : goal.loop-i-init

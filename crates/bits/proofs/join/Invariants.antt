@@ -1,6 +1,5 @@
 use Prim.Native.Nat.{◌-◌}
-use native.Mathlib.Omega.{arith}
-use Rattle.bits.proofs.Tables.{Rewritten, rewritten_start, either_word, join_step, joined}
+use Rattle.bits.proofs.Tables.{Rewritten, either_word}
 use Rattle.bits.proofs.join.Given as goal
 
 abbrev pub invariant-loop-i : goal.invariant-loop-i

@@ -1,4 +1,3 @@
-use borrow.Author.Rules.{rules}
 use Rattle.bits.proofs.Tables.{holds_self}
 use Rattle.bits.proofs.Passes.{led, not_led}
 use Rattle.bits.proofs.lead_by.Goals as goal

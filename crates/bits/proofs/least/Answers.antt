@@ -1,6 +1,5 @@
 use Prim.Native.Nat.{◌/◌, ◌^◌}
 use native.Mathlib.Omega.{arith}
-use borrow.Author.Rules.{rules}
 use Rattle.bits.proofs.Smallest.{least_from, zeros_few}
 use Rattle.bits.proofs.least.Goals as goal
 

@@ -1,5 +1,4 @@
 use native.Mathlib.Omega.{arith}
-use borrow.Author.Rules.{rules}
 use Rattle.bits.proofs.Smallest.{least_high, least_low, least_over, least_end}
 use Rattle.bits.proofs.least_of.Goals as goal
 

@@ -1,6 +1,5 @@
 use native.Mathlib.Omega.{arith}
 use lib.ListN.{length-set}
-use borrow.Author.Rules.{rules}
 use Rattle.bits.proofs.Tables.{row-joined}
 use Rattle.bits.proofs.or_row.Goals as goal
 

@@ -1,4 +1,3 @@
-use borrow.Author.Rules.{rules}
 use Rattle.bits.proofs.Alone.{alone_in, alone_out}
 use Rattle.bits.proofs.own_bit.Goals as goal
 

@@ -1,9 +1,7 @@
-use Prim.Native.Nat.{◌≤◌, ◌-◌}
 use mathlib.Core.Path.{◌≡◌, ◌∙◌, sym}
 use native.Mathlib.Omega.{arith}
-use Rattle.bits.specs.Bits.{bit_of, Holds}
 use Rattle.bits.proofs.Tables.{row-own}
-use Rattle.bits.proofs.Passes.{up_to, upto_start, upto_step, upto_end}
+use Rattle.bits.proofs.Passes.{upto_start, upto_step, upto_end}
 use Rattle.bits.proofs.pass.Goals as goal
 
 pub loop-a-init : goal.loop-a-init

@@ -1,9 +1,6 @@
 use Prim.Native.Nat.{◌≤◌, ◌-◌}
-use mathlib.Core.Path.{◌≡◌, ◌∙◌, sym}
-use native.Mathlib.Omega.{arith}
 use Rattle.bits.specs.Bits.{bit_of, Holds}
-use Rattle.bits.proofs.Tables.{row-own}
-use Rattle.bits.proofs.Passes.{up_to, upto_start, upto_step, upto_end}
+use Rattle.bits.proofs.Passes.{up_to}
 use Rattle.bits.proofs.pass.Given as goal
 
 abbrev pub invariant-loop-a : goal.invariant-loop-a

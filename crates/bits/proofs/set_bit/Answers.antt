@@ -1,4 +1,3 @@
-use borrow.Author.Rules.{rules}
 use Rattle.bits.proofs.Tables.{bit_set}
 use Rattle.bits.proofs.set_bit.Goals as goal
 

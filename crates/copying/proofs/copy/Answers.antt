@@ -1,8 +1,6 @@
 use mathlib.Core.Path.{◌≡◌}
-use Prim.Native.Nat.{◌-◌, ◌≤◌}
 use native.Mathlib.Omega.{arith}
-use lib.ListN.{take}
-use Rattle.base.proofs.Fill.{Appended, appended-none, appended-length}
+use Rattle.base.proofs.Fill.{appended-none, appended-length}
 use Rattle.copying.proofs.Copying.{front_more}
 use Rattle.copying.proofs.copy.Goals as goal
 

@@ -1,9 +1,6 @@
-use mathlib.Core.Path.{◌≡◌}
 use Prim.Native.Nat.{◌-◌, ◌≤◌}
-use native.Mathlib.Omega.{arith}
 use lib.ListN.{take}
-use Rattle.base.proofs.Fill.{Appended, appended-none, appended-length}
-use Rattle.copying.proofs.Copying.{front_more}
+use Rattle.base.proofs.Fill.{Appended}
 use Rattle.copying.proofs.copy.Given as goal
 
 abbrev pub invariant-loop-i : goal.invariant-loop-i

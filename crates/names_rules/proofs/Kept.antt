@@ -1,6 +1,6 @@
 -- A program keeps 32,769 bytes of a names file at most: the first 32,769 are refused, and end `read` lines, as the whole file is and does.
 use Prim.Native.Nat.{ℕ, ◌≤◌, ◌<◌}
-use mathlib.Core.Path.{◌≡◌, refl, ap, sym, ◌∙◌}
+use mathlib.Core.Path.{◌≡◌, ap, sym, ◌∙◌}
 use mathlib.Core.List.{List}
 use mathlib.Core.Logic.{⊎_elim}
 use native.Mathlib.Omega.{arith}
@@ -8,10 +8,7 @@ use lib.ListN.{length, take, length-take}
 use lib.Seq.{take_all}
 use Rattle.base.proofs.Tests.{split}
 use Rattle.names_rules.specs.Names.{checked, refusal}
-use Rattle.names_rules.specs.declared.Refusal.{Refusal}
-use Rattle.names_rules.specs.declared.Refusal.TheVariants.{Accepted, OwnRefused, SharedRefused}
-use Rattle.names_rules.proofs.Walking.{too_long, lawful_short}
-use Rattle.names_rules.proofs.Places.{both_lawful}
+use Rattle.names_rules.proofs.Walking.{too_long}
 
 kept-all : (s : List ℕ) → length s ≤ 32768 → take 32769 s ≡ s
 kept-all s h = take_all 32769 s (omega arith)

@@ -1,7 +1,6 @@
 -- Cases of names files, computed: each refusal with its place, each two neighbours in the order of checks broken at once, limits, and look-ups. The
 -- statements are in proofs/.
 use Rattle.std.specs.Prelude.{ℕ, ◌+◌, List, [], ◌∷◌, ◌++◌, length, replicate}
-use Rattle.rules.specs.Numbers.{bytes}
 use Rattle.rules.specs.Traces.{raw}
 use Rattle.names_rules.specs.Names.{checked, refusal, place_of, bytes_at}
 use Rattle.names_rules.specs.declared.FileCheck.{FileCheck}

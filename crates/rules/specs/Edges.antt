@@ -3,7 +3,7 @@
 use Rattle.std.specs.Prelude.{ℕ, ◌+◌, true, false, List, [], ◌∷◌, ◌++◌}
 use Rattle.base.specs.Base.{listed}
 use Rattle.rules.specs.Numbers.{bytes}
-use Rattle.rules.specs.History.{History, tx, closed, with_op}
+use Rattle.rules.specs.History.{History, closed, with_op}
 use Rattle.rules.specs.Reading.{State, refusal_no, notes_of, reading}
 use Rattle.rules.specs.Outcome.{Outcome, judged}
 use Rattle.rules.specs.Traces.{Item, raw, trace, opens, closes, closes_of, ends, note, whole, overlapping, block, T, r, w, read, pair, room, refuses_in, accepts_in, rejects_in}

@@ -14,7 +14,7 @@ use Rattle.writing.specs.Filling.{Fill, fill_of, refusing, answering}
 use Rattle.writing.specs.Steps.{field_bytes, step_bytes}
 use Rattle.writing.specs.Writing.{write_no, written, written_given}
 use Rattle.writing.specs.Listing.{stepped}
-use Rattle.writing.specs.Rewriting.{again, rewritten, rewritten_whole}
+use Rattle.writing.specs.Rewriting.{rewritten, rewritten_whole}
 
 -- ── in words ──
 

@@ -6,7 +6,7 @@ use mathlib.Core.List.{List}
 use Rattle.rules.specs.History.{History}
 use Rattle.rules.specs.Reading.{Reading, read, reading}
 use Rattle.rules.specs.Outcome.{Outcome, outcome, reported, judged}
-use Rattle.rules.specs.declared.Answer.{Answer}
+use Rattle.rules.specs.Outcome.{Answer}
 use Rattle.rules.proofs.Outcome.{reported_one}
 use Rattle.demand1.specs.Lawful.{LawfulHistory}
 use Rattle.demand1.proofs.Lawful.{lawful_history}
@@ -19,7 +19,7 @@ use Rattle.noteless.specs.Without.{ButForNotes}
 use Rattle.noteless.proofs.ButFor.{notes_reading, notes_judged}
 use Rattle.moved.specs.Moved.{Moved}
 use Rattle.moved.proofs.Alike.{moved_alike}
-use Rattle.alike_calls.specs.declared.TwoAnswers.{TwoAnswers}
+use Rattle.two.specs.declared.Two.{Two}
 use Rattle.alike_calls.specs.Alike.{SameOutcome, JudgedBoth}
 
 -- ── any call ──
@@ -59,7 +59,7 @@ notes_answers {s} {t} n level fs ps os r q F P O F' P' O' x y =
       order = ap (λ (o : Outcome). o.order) d;
     }
 
-module _ (s t : List ℕ) (level : ℕ) (r : TwoAnswers) (fs ps os fs' ps' os' : List ℕ) {F P O F' P' O' : List ℕ} where
+module _ (s t : List ℕ) (level : ℕ) (r : Two Answer) (fs ps os fs' ps' os' : List ℕ) {F P O F' P' O' : List ℕ} where
   pub judged_both : outcome (reported r.one) F P O ≡ judged s level fs ps os → outcome (reported r.other) F' P' O' ≡ judged t level fs' ps' os'
       → JudgedBoth s t level r fs ps os fs' ps' os' F P O F' P' O'
   judged_both a b =

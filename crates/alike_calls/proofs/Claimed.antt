@@ -29,8 +29,8 @@ use Rattle.claims_laws.specs.Claims.{Claims}
 use Rattle.claims_laws.specs.Told.{ClaimPrinted, printed, ClaimNumbered}
 use Rattle.claims_laws.proofs.Claims.{claims-is, claims_iff}
 use Rattle.claims_laws.proofs.Told.{numbered-told, numbered_one}
-use Rattle.alike_calls.specs.declared.TwoClaims.{TwoClaims}
-use Rattle.alike_calls.specs.declared.TwoNumbers.{TwoNumbers}
+use Rattle.two.specs.declared.Two.{Two}
+use Rattle.claims_rules.specs.Claims.{ClaimAnswer}
 use Rattle.alike_calls.specs.Alike.{SaidAlike, same_reply, both_reads, ClaimedBoth, NumberedBoth}
 use Rattle.alike_calls.proofs.Alike.{moved_readings}
 
@@ -84,7 +84,7 @@ module _ {s t : List ℕ} (level : ℕ) (o : List ℕ) {x y : Reply} (a : Claims
 pub printed_noted : {s t : List ℕ} (level : ℕ) (o : List ℕ) {p q : List ℕ} → ClaimPrinted s level o p → ClaimPrinted t level o q → ButForNotes s t → q ≡ p
 printed_noted level o (printed a) (printed b) n = ap reply_line (claims-noted level o a b n)
 
-pub claimed_both : (s t : List ℕ) (level : ℕ) (o : List ℕ) (r : TwoClaims) → reply r.one ≡ claimed s level o → reply r.other ≡ claimed t level o
+pub claimed_both : (s t : List ℕ) (level : ℕ) (o : List ℕ) (r : Two ClaimAnswer) → reply r.one ≡ claimed s level o → reply r.other ≡ claimed t level o
     → ClaimedBoth s t level o r
 claimed_both s t level o r a b =
     let x = (claims_iff s level o _).0 (sym a) in
@@ -125,7 +125,7 @@ module _ {s t : List ℕ} (level : ℕ) (o ns : List ℕ) {r q : ℕ} {N N' : Li
   pub numbered-noted : ButForNotes s t → (q ≡ r) × (N' ≡ N)
   numbered-noted n = same_numbers (claims-noted level o a.claims b.claims n)
 
-pub numbered_both : (s t : List ℕ) (level : ℕ) (o ns ns' : List ℕ) (r : TwoNumbers) {N N' : List ℕ} → in_numbers r.one N ≡ claimed_in_numbers s level o ns
+pub numbered_both : (s t : List ℕ) (level : ℕ) (o ns ns' : List ℕ) (r : Two ℕ) {N N' : List ℕ} → in_numbers r.one N ≡ claimed_in_numbers s level o ns
     → in_numbers r.other N' ≡ claimed_in_numbers t level o ns' → NumberedBoth s t level o ns ns' r N N'
 numbered_both s t level o ns ns' r {N} {N'} a b =
     let x = numbered-told s level o ns r.one N a in

@@ -7,7 +7,7 @@ use native.Mathlib.Omega.{arith}
 use Rattle.theory.proofs.Entries.{number_one}
 use Rattle.rules.specs.Reading.{Reading}
 use Rattle.rules.specs.Outcome.{rejects, reported}
-use Rattle.rules.specs.declared.Answer.{Answer}
+use Rattle.rules.specs.Outcome.{Answer}
 use Rattle.demand1.proofs.Readings.{history_one}
 use Rattle.demand3.specs.Rejected.{FindingCount}
 use Rattle.demands.proofs.SomeJudge.{as_defined, as_defined_lem}
@@ -23,7 +23,7 @@ use Rattle.decided.specs.Decides.{Decides}
 use Rattle.decided.specs.Strongest.{StrongestIs}
 use Rattle.decided.proofs.Decides.{decides_by_demands, decides, decides_one}
 use Rattle.decided.proofs.Strongest.{strongest-is, strongest_one}
-use Rattle.alike_calls.specs.declared.TwoNumbers.{TwoNumbers}
+use Rattle.two.specs.declared.Two.{Two}
 use Rattle.alike_calls.specs.Alike.{DecidedAlike, SameDecision, DecidedBoth, StrongestBoth}
 use Rattle.alike_calls.proofs.Alike.{OfHistory, same-moved, same_noted, notes_answers}
 
@@ -97,7 +97,7 @@ module _ (level : ℕ) (fs ps os cs : List ℕ) where
           counts = v.4 ∙ ap (counts_by cs) z.answer ∙ sym u.4;
         }
 
-module _ (s t : List ℕ) (level : ℕ) (r : TwoNumbers) (fs ps os cs fs' ps' os' cs' : List ℕ) {F P O C F' P' O' C' : List ℕ} where
+module _ (s t : List ℕ) (level : ℕ) (r : Two ℕ) (fs ps os cs fs' ps' os' cs' : List ℕ) {F P O C F' P' O' C' : List ℕ} where
   pub decided_both : decided_as r.one F P O C ≡ decided s level fs ps os cs → decided_as r.other F' P' O' C' ≡ decided t level fs' ps' os' cs'
       → DecidedBoth s t level r fs ps os cs fs' ps' os' cs' F P O C F' P' O' C'
   decided_both a b =
@@ -142,7 +142,7 @@ module _ {s t : List ℕ} where
   pub strongest-noted : ButForNotes s t → {r q : ℕ} → StrongestIs s r → StrongestIs t q → q ≡ r
   strongest-noted n = same-strongest (notes_accepted n)
 
-pub strongest_both : (s t : List ℕ) (r : TwoNumbers) → r.one ≡ strongest_no (strongest s) → r.other ≡ strongest_no (strongest t) → StrongestBoth s t r
+pub strongest_both : (s t : List ℕ) (r : Two ℕ) → r.one ≡ strongest_no (strongest s) → r.other ≡ strongest_no (strongest t) → StrongestBoth s t r
 strongest_both s t r a b =
     let x = strongest-is s r.one a in
     let y = strongest-is t r.other b in

@@ -7,7 +7,7 @@ use lib.ListN.{length}
 use Rattle.writing.specs.Filling.{Fill, fill_of, said}
 use Rattle.writing.specs.Listing.{stepped}
 use Rattle.writing.specs.Rewriting.{rewritten_whole}
-use Rattle.writing.specs.declared.Filled.{Filled}
+use Rattle.writing.specs.Filling.{Filled}
 use Rattle.writing.proofs.Filling.{said_one}
 use Rattle.written.specs.Writes.{AllBytes}
 use Rattle.written.proofs.Lists.{lists}
@@ -22,9 +22,8 @@ use Rattle.moved.proofs.Tally.{moves_to_second}
 use Rattle.printing.specs.Printing.{Written}
 use Rattle.caller.proofs.Text.{text-put}
 use Rattle.rewriting.specs.Rewriting.{Rewrote}
-use Rattle.alike_calls.specs.declared.TwoLengths.{TwoLengths}
-use Rattle.alike_calls.specs.declared.TwoFills.{TwoFills}
-use Rattle.alike_calls.specs.declared.TwoTallies.{TwoTallies}
+use Rattle.two.specs.declared.Two.{Two}
+use Rattle.moving.specs.Tally.{Tallied}
 use Rattle.alike_calls.specs.Alike.{PrintedBoth, ListedBoth, RewrittenBoth, WholeBoth, MovedBoth, TalliedBoth}
 
 -- equal fillings, of equal answers and contents
@@ -32,7 +31,7 @@ same-fill : {r q : Filled} {B B' : List ℕ} → fill_of (said q) B' ≡ fill_of
 same-fill {r} {q} e = (said_one q r (ap (λ (x : Fill). x.answer) e), ap (λ (x : Fill). x.buffer) e)
 
 module _ (s t o o' : List ℕ) {B B' : List ℕ} where
-  pub printed_both : (r : TwoLengths) → Written s o B r.one → Written t o' B' r.other → PrintedBoth s t r o o' B B'
+  pub printed_both : (r : Two ℕ) → Written s o B r.one → Written t o' B' r.other → PrintedBoth s t r o o' B B'
   printed_both r x y =
       record {
         one = text-put x;
@@ -43,7 +42,7 @@ module _ (s t o o' : List ℕ) {B B' : List ℕ} where
             (y.end ∙ ap length p ∙ sym x.end, y.is ∙ rw (← e, p) (sym x.is));
       }
 
-  pub listed_both : AllBytes s → AllBytes t → (r : TwoFills) → fill_of (said r.one) B ≡ stepped s o → fill_of (said r.other) B' ≡ stepped t o'
+  pub listed_both : AllBytes s → AllBytes t → (r : Two Filled) → fill_of (said r.one) B ≡ stepped s o → fill_of (said r.other) B' ≡ stepped t o'
       → ListedBoth s t r o o' B B'
   listed_both a b r x y =
       record {
@@ -52,7 +51,7 @@ module _ (s t o o' : List ℕ) {B B' : List ℕ} where
         but_for_notes = λ e n. same-fill (y ∙ ap (stepped t) (sym e) ∙ notes_stepped n o ∙ sym x);
       }
 
-  pub whole_both : AllBytes s → AllBytes t → (r : TwoFills) → fill_of (said r.one) B ≡ rewritten_whole s o → fill_of (said r.other) B' ≡ rewritten_whole t o'
+  pub whole_both : AllBytes s → AllBytes t → (r : Two Filled) → fill_of (said r.one) B ≡ rewritten_whole s o → fill_of (said r.other) B' ≡ rewritten_whole t o'
       → WholeBoth s t r o o' B B'
   whole_both a b r x y =
       record {
@@ -61,7 +60,7 @@ module _ (s t o o' : List ℕ) {B B' : List ℕ} where
         other_texts = λ e n. same-fill (y ∙ ap (rewritten_whole t) (sym e) ∙ texts-rewritten-whole n o ∙ sym x);
       }
 
-  pub moved_both_1 : AllBytes s → AllBytes t → (r : TwoFills) → fill_of (said r.one) B ≡ moved_to false s o → fill_of (said r.other) B' ≡ moved_to false t o'
+  pub moved_both_1 : AllBytes s → AllBytes t → (r : Two Filled) → fill_of (said r.one) B ≡ moved_to false s o → fill_of (said r.other) B' ≡ moved_to false t o'
       → MovedBoth s t r o o' B B'
   moved_both_1 a b r x y =
       record {
@@ -73,7 +72,7 @@ module _ (s t o o' : List ℕ) {B B' : List ℕ} where
             (ap (λ (z : Fill). z.answer) (y ∙ ap (moved_to false t) (sym e)) ∙ texts-moved_answer n false o ∙ ap (λ (z : Fill). z.answer) (sym x));
       }
 
-  pub moved_both_2 : AllBytes s → AllBytes t → (r : TwoTallies) → tallied_fill r.one B ≡ moved_to_second s o → tallied_fill r.other B' ≡ moved_to_second t o'
+  pub moved_both_2 : AllBytes s → AllBytes t → (r : Two Tallied) → tallied_fill r.one B ≡ moved_to_second s o → tallied_fill r.other B' ≡ moved_to_second t o'
       → TalliedBoth s t r o o' B B'
   moved_both_2 a b r x y =
       record {
@@ -82,7 +81,7 @@ module _ (s t o o' : List ℕ) {B B' : List ℕ} where
         other_texts = λ e n. tallied_one r.other r.one (y ∙ ap (moved_to_second t) (sym e) ∙ texts-moved n o ∙ sym x);
       }
 
-pub rewritten_both : (s t x o x' o' : List ℕ) {X B X' B' : List ℕ} → AllBytes s → AllBytes t → (r : TwoFills) → Rewrote r.one s x X o B
+pub rewritten_both : (s t x o x' o' : List ℕ) {X B X' B' : List ℕ} → AllBytes s → AllBytes t → (r : Two Filled) → Rewrote r.one s x X o B
     → Rewrote r.other t x' X' o' B' → RewrittenBoth s t r x o x' o' X B X' B'
 rewritten_both s t x o x' o' {X} {B} {X'} {B'} c d r a b =
     record {

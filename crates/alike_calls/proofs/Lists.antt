@@ -26,7 +26,8 @@ use Rattle.appends_laws.proofs.NoLists.{singles_judged}
 use Rattle.appends_laws.proofs.Swapped.{same-told}
 use Rattle.appends.specs.Answering.{list_reported}
 use Rattle.appends_calls.proofs.Calls.{list_reported_one, promised_by}
-use Rattle.alike_calls.specs.declared.TwoLists.{TwoLists}
+use Rattle.two.specs.declared.Two.{Two}
+use Rattle.appends.specs.Answering.{ListAnswer}
 use Rattle.alike_calls.specs.Alike.{SameLists, ListsJudgedBoth}
 use Rattle.alike_calls.proofs.Serials.{lists_stay}
 
@@ -80,7 +81,7 @@ module _ {s t : List ℕ} (bytes : AllBytes s) (fs ps : List ℕ) where
 
 -- ── two answers ──
 
-module _ (s t : List ℕ) (r : TwoLists) (fs ps fs' ps' : List ℕ) {F P F' P' : List ℕ} (x : list_outcome (list_reported r.one) F P ≡ judged_lists s fs ps)
+module _ (s t : List ℕ) (r : Two ListAnswer) (fs ps fs' ps' : List ℕ) {F P F' P' : List ℕ} (x : list_outcome (list_reported r.one) F P ≡ judged_lists s fs ps)
     (y : list_outcome (list_reported r.other) F' P' ≡ judged_lists t fs' ps') where
   -- equal outcomes are of equal answers and contents
   same_lists : fs ≡ fs' → ps ≡ ps' → judged_lists t fs ps ≡ judged_lists s fs ps → SameLists r.one r.other F P F' P'

@@ -1,5 +1,6 @@
 -- The calls for vectors on two traces: whatever meets what is promised of them, whoever answered it.
 use Prim.Native.Nat.{ℕ}
+use Rattle.std.specs.Prelude.{Ok}
 use mathlib.Core.Path.{◌≡◌, refl, ap}
 use mathlib.Core.List.{List}
 use Rattle.rules.specs.History.{History, Tx}
@@ -13,8 +14,10 @@ use Rattle.vectors_rules.specs.Vectors.{session_no, latest_of, vector_of, basic_
 use Rattle.vectors_calls.specs.Calls.{SaysLeads, TellsLatest}
 use Rattle.vectors_calls.specs.Answers.{said_of, said_read, entry_of, told_of, told_read}
 use Rattle.vectors_calls.proofs.Calls.{says_iff, tells_iff}
-use Rattle.alike_calls.specs.declared.TwoLedBy.{TwoLedBy}
-use Rattle.alike_calls.specs.declared.TwoEntries.{TwoEntries}
+use Rattle.rules.proofs.Refusals.{told_one}
+use Rattle.two.specs.declared.Two.{Two}
+use Rattle.vectors_calls.specs.Calls.{LedAnswer}
+use Rattle.vectors_calls.specs.Calls.{EntryAnswer}
 use Rattle.alike_calls.specs.Alike.{LedBoth, LatestBoth}
 use Rattle.alike_calls.proofs.Alike.{OfHistory, same-moved, same_noted}
 
@@ -48,31 +51,31 @@ module _ {to back : ℕ → ℕ} {h g : History} (ok : LawfulHistory h) (r : Ren
 -- either answer hangs on the history alone
 said_of_lem : (a b : ℕ) → OfHistory (λ (x : Reading). said_read x a b)
 unfolding said_read
-said_of_lem a b = record { any_notes = λ h n m. refl; any_numbers = λ ok r n m. same-said ok r a b }
+said_of_lem a b = record { any_notes = λ h n m. refl; any_numbers = λ ok r n m. ap Ok (same-said ok r a b) }
 
 told_of_lem : (t a : ℕ) → OfHistory (λ (x : Reading). told_read x t a)
 unfolding told_read
-told_of_lem t a = record { any_notes = λ h n m. refl; any_numbers = λ ok r n m. same-told ok r t a }
+told_of_lem t a = record { any_notes = λ h n m. refl; any_numbers = λ ok r n m. ap Ok (same-told ok r t a) }
 
 -- so any two answers to traces that are alike are the same
-pub led_both : (s t : List ℕ) (a b : ℕ) (r : TwoLedBy) → SaysLeads s a b r.one → SaysLeads t a b r.other → LedBoth s t a b r
+pub led_both : (s t : List ℕ) (a b : ℕ) (r : Two LedAnswer) → SaysLeads s a b r.one → SaysLeads t a b r.other → LedBoth s t a b r
 led_both s t a b r x y =
     let e = (says_iff s a b r.one).1 x in
     let f = (says_iff t a b r.other).1 y in
     record {
       one = x;
       other = y;
-      was_moved = λ second m. same-moved (said_of_lem a b) e f m;
-      but_for_notes = λ n. same_noted (said_of_lem a b) e f n;
+      was_moved = λ second m. told_one _ _ (same-moved (said_of_lem a b) e f m);
+      but_for_notes = λ n. told_one _ _ (same_noted (said_of_lem a b) e f n);
     }
 
-pub latest_both : (s t : List ℕ) (x a : ℕ) (r : TwoEntries) → TellsLatest s x a r.one → TellsLatest t x a r.other → LatestBoth s t x a r
+pub latest_both : (s t : List ℕ) (x a : ℕ) (r : Two EntryAnswer) → TellsLatest s x a r.one → TellsLatest t x a r.other → LatestBoth s t x a r
 latest_both s t x a r u v =
     let e = (tells_iff s x a r.one).1 u in
     let f = (tells_iff t x a r.other).1 v in
     record {
       one = u;
       other = v;
-      was_moved = λ second m. same-moved (told_of_lem x a) e f m;
-      but_for_notes = λ n. same_noted (told_of_lem x a) e f n;
+      was_moved = λ second m. told_one _ _ (same-moved (told_of_lem x a) e f m);
+      but_for_notes = λ n. told_one _ _ (same_noted (told_of_lem x a) e f n);
     }

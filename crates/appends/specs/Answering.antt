@@ -1,8 +1,10 @@
 -- What each part of the call on lists works out, and what it answers.
-use Rattle.std.specs.Prelude.{ℕ, ◌≤◌, ◌≡◌, List, length}
+use Rattle.std.specs.Prelude.{ℕ, ◌≤◌, ◌≡◌, List, length, Result, Ok, Err}
 use Rattle.theory.specs.Leads.{is_listed}
 use Rattle.rules.specs.Numbers.{over}
 use Rattle.rules.specs.History.{History, size}
+use Rattle.rules.specs.Refusals.{cause_no}
+use Rattle.rules.specs.declared.Refusal.{Refusal}
 use Rattle.table.specs.Table.{history_of}
 use Rattle.bits.specs.Bits.{Holds, Under}
 use Rattle.pairs.specs.Pairs.{before}
@@ -10,13 +12,16 @@ use Rattle.appends_rules.specs.Appends.{lists_in}
 use Rattle.appends_rules.specs.Dependencies.{is_write_dep, is_read_dep, is_dep, write_pairs}
 use Rattle.appends_rules.specs.ListOutcome.{ListReport, lists_refused, lists_told, list_finding_list, both_lists}
 use Rattle.grading.specs.Grades.{AllGraded}
-use Rattle.appends.specs.declared.ListAnswer.{ListAnswer}
-use Rattle.appends.specs.declared.ListAnswer.TheVariants.{Refused, Told}
+use Rattle.appends.specs.declared.ListCounts.{ListCounts}
 
--- what each case of the answer says
+-- the call's answer
+abbrev pub ListAnswer : Type 0
+ListAnswer = Result ListCounts Refusal
+
+-- what each case of it says
 unfoldable pub list_reported : ListAnswer → ListReport
-list_reported (Refused n p) = lists_refused n p
-list_reported (Told f w b) = lists_told f w b
+list_reported (Ok n) = lists_told n.findings n.writes n.both
+list_reported (Err r) = lists_refused (cause_no r.cause) r.place
 
 -- r has the read dependencies, and c the listed pairs over both sorts, by first
 pub record BothListed (h : History) (l : ℕ → List ℕ) (r c : List ℕ) : Type 0 where

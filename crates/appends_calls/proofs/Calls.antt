@@ -5,9 +5,12 @@ use mathlib.Core.List.{List}
 use native.Mathlib.Omega.{arith}
 use Rattle.rules.specs.History.{History}
 use Rattle.rules.specs.Reading.{Reading, refused, read, reading}
-use Rattle.rules.specs.Outcome.{Outcome, outcome, reported, judged_read, judged}
-use Rattle.rules.specs.declared.Answer.{Answer}
-use Rattle.rules.specs.declared.Answer.TheVariants.{Refused as JudgeRefused}
+use Rattle.std.specs.Prelude.{Ok, Err}
+use Rattle.rules.specs.Outcome.{Answer, Outcome, outcome, declining, reported, judged_read, judged}
+use Rattle.rules.specs.Refusals.{cause_no}
+use Rattle.rules.specs.declared.Cause.{Cause}
+use Rattle.rules.specs.declared.Cause.TheVariants.{NoLevel, FindingsRoom, PairsRoom, OrderRoom}
+use Rattle.rules.proofs.Refusals.{cause_one, refusal_one}
 use Rattle.rules.proofs.Outcome.{reported_one, judged_level, judged_refused}
 use Rattle.demand1.specs.Rows.{Refuses}
 use Rattle.demand1.proofs.Lawful.{lawful_history}
@@ -20,9 +23,8 @@ use Rattle.appends_rules.specs.ListOutcome.{ListReport, lists_refused, lists_tol
 use Rattle.appends_laws.specs.ListBytes.{ListsSay, short_12, short_13, says, ListsJudge, reading_refused as judge-refused, of_history as judge-history}
 use Rattle.appends_laws.proofs.ListFits.{test-is_cleanness}
 use Rattle.appends_laws.proofs.ListBytes.{lists_say, lists_judge_one}
-use Rattle.appends.specs.Answering.{list_reported}
-use Rattle.appends.specs.declared.ListAnswer.{ListAnswer}
-use Rattle.appends.specs.declared.ListAnswer.TheVariants.{Refused, Told}
+use Rattle.appends.specs.Answering.{ListAnswer, list_reported}
+use Rattle.appends.specs.declared.ListCounts.{ListCounts}
 use Rattle.appends_calls.specs.Calls.{ListsPromised, reading_refused, of_history, JudgedAndListed}
 
 -- ── answers and their reports ──
@@ -45,12 +47,15 @@ third_of (lists_refused n p) = 0
 third_of (lists_told f w b) = b
 
 -- answers that report the same are the same
+counts_one : {n m : ListCounts} → n.findings ≡ m.findings → n.writes ≡ m.writes → n.both ≡ m.both → n ≡ m
+counts_one a b c = rw (a, b, c)
+
 pub list_reported_one : (r q : ListAnswer) → list_reported r ≡ list_reported q → r ≡ q
 unfolding list_reported
-list_reported_one (Refused n p) (Refused m q) e = rw (ap first_of e, ap second_of e)
-list_reported_one (Refused n p) (Told f w b) e = absurd (omega (arith, ap report_case e))
-list_reported_one (Told f w b) (Refused m q) e = absurd (omega (arith, ap report_case e))
-list_reported_one (Told f w b) (Told g v c) e = rw (ap first_of e, ap second_of e, ap third_of e)
+list_reported_one (Err r) (Err q) e = ap Err (refusal_one (ap first_of e) (ap second_of e))
+list_reported_one (Err r) (Ok m) e = absurd (omega (arith, ap report_case e))
+list_reported_one (Ok n) (Err q) e = absurd (omega (arith, ap report_case e))
+list_reported_one (Ok n) (Ok m) e = ap Ok (counts_one (ap first_of e) (ap second_of e) (ap third_of e))
 
 -- ── one trace ──
 
@@ -93,18 +98,15 @@ module _ (s fs ps : List ℕ) where
 module _ (s : List ℕ) {n p : ℕ} (x : Refuses s n p) where
   -- what reading refuses the judge refuses
   judge_refuses : (level : ℕ) (fs ps os : List ℕ) → 1 ≤ level → level ≤ 3 → (a : Answer) {F P O : List ℕ}
-      → outcome (reported a) F P O ≡ judged s level fs ps os → a ≡ JudgeRefused n p
-  unfolding reported
+      → outcome (reported a) F P O ≡ judged s level fs ps os → reported a ≡ declining n p
   judge_refuses level fs ps os l m a j =
-      reported_one a (JudgeRefused n p)
-      (ap (λ (o : Outcome). o.report)
-      (j ∙ judged_level s level fs ps os l m ∙ ap (λ (q : Reading). judged_read q level fs ps os) ((refuses_iff s n p).1 x) ∙ judged_refused level fs ps os n p))
+      ap (λ (o : Outcome). o.report)
+      (j ∙ judged_level s level fs ps os l m ∙ ap (λ (q : Reading). judged_read q level fs ps os) ((refuses_iff s n p).1 x) ∙ judged_refused level fs ps os n p)
 
   -- .. and so does the call on lists
-  lists_refuse : (xs ys : List ℕ) (a : ListAnswer) {X Y : List ℕ} → list_outcome (list_reported a) X Y ≡ judged_lists s xs ys → a ≡ Refused n p
-  unfolding list_reported
-  lists_refuse xs ys a e =
-      list_reported_one a (Refused n p) (ap (λ (o : ListOutcome). o.report) (e ∙ sym (promised_is s xs ys (reading_refused x))))
+  lists_refuse : (xs ys : List ℕ) (a : ListAnswer) {X Y : List ℕ} → list_outcome (list_reported a) X Y ≡ judged_lists s xs ys
+      → list_reported a ≡ lists_refused n p
+  lists_refuse xs ys a e = ap (λ (o : ListOutcome). o.report) (e ∙ sym (promised_is s xs ys (reading_refused x)))
 
 -- what the call on lists refuses, but for its buffers, is what reading refuses
 said_refused : {h : History} {l : ℕ → List ℕ} {C : ℕ → Type 0} {xs ys : List ℕ} {o : ListOutcome} → ListsSay h l C xs ys o → {n p : ℕ}
@@ -126,6 +128,10 @@ judge_reading (findings_short l m r x y z) a b c e = absurd (b refl)
 judge_reading (pairs_short l m r x y z u v) a b c e = absurd (c refl)
 judge_reading (order_short l m r x y z u) a b c e = absurd (e refl)
 
+-- another cause has another number
+other_no : {c : Cause} (d : Cause) → (c ≡ d → ⊥) → cause_no c ≡ cause_no d → ⊥
+other_no d x e = x (cause_one e)
+
 module _ (s : List ℕ) (level : ℕ) (fs ps os xs ys : List ℕ) {F P O X Y : List ℕ} where
   pub judged-and-listed : (a : Answer) (c : ListAnswer) → outcome (reported a) F P O ≡ judged s level fs ps os
       → list_outcome (list_reported c) X Y ≡ judged_lists s xs ys → JudgedAndListed s level (record { judged = a; listed = c }) fs ps os xs ys F P O X Y
@@ -137,7 +143,13 @@ module _ (s : List ℕ) (level : ℕ) (fs ps os xs ys : List ℕ) {F P O X Y : L
         judged = demands;
         listed = promised;
         refused_alike = λ l m x. (judge_refuses s x level fs ps os l m a j, lists_refuse s x xs ys c e);
-        on_list_refusal = λ l m q u v. judge_refuses s (lists_reading promised (ap list_reported q) u v) level fs ps os l m a j;
+        on_list_refusal =
+            λ l m {d} q u v.
+            let x = lists_reading promised (ap list_reported q) (other_no FindingsRoom u) (other_no PairsRoom v) in
+            reported_one a (Err d) (judge_refuses s x level fs ps os l m a j);
         on_judge_refusal =
-            λ {n} {p} q t u v w. lists_refuse s (judge_reading ((demands.first.refused n p).0 (ap reported q)) t u v w) xs ys c e;
+            λ {d} q t u v w.
+            let y = (demands.first.refused (cause_no d.cause) d.place).0 (ap reported q) in
+            let x = judge_reading y (other_no NoLevel t) (other_no FindingsRoom u) (other_no PairsRoom v) (other_no OrderRoom w) in
+            list_reported_one c (Err d) (lists_refuse s x xs ys c e);
       }

@@ -1,8 +1,10 @@
 -- What whoever has the lists of a trace judged has: what the request says, and what it shares with the judge. s is the trace; fs and ps are what the call's
 -- buffers held.
-use Rattle.std.specs.Prelude.{ℕ, ◌≤◌, ◌≡◌, Bool, true, List}
+use Rattle.std.specs.Prelude.{ℕ, ◌≤◌, ◌≡◌, Bool, true, List, Err}
 use Rattle.rules.specs.History.{History}
-use Rattle.rules.specs.declared.Answer.TheVariants.{Refused as JudgeRefused}
+use Rattle.rules.specs.Outcome.{declining, reported}
+use Rattle.rules.specs.declared.Cause.TheVariants.{NoLevel, FindingsRoom, PairsRoom, OrderRoom}
+use Rattle.rules.specs.declared.Refusal.{Refusal}
 use Rattle.demand1.specs.Rows.{Refuses, HasHistory}
 use Rattle.demands.specs.Demands.{Demands}
 use Rattle.appends_rules.specs.Appends.{lists_in}
@@ -10,7 +12,6 @@ use Rattle.appends_rules.specs.ListOutcome.{ListOutcome, list_outcome, lists_ref
 use Rattle.appends_laws.specs.ListFits.{IsCleanness}
 use Rattle.appends_laws.specs.ListBytes.{ListsSay}
 use Rattle.appends.specs.Answering.{list_reported}
-use Rattle.appends.specs.declared.ListAnswer.TheVariants.{Refused}
 use Rattle.appends_calls.specs.declared.JudgedLists.{JudgedLists}
 
 -- the list reads that a test c tells
@@ -29,7 +30,8 @@ pub record JudgedAndListed (s : List ℕ) (level : ℕ) (r : JudgedLists) (fs ps
   pub judged : Demands s level fs ps os r.judged F P O
   pub listed : ListsPromised s xs ys (list_outcome (list_reported r.listed) X Y)
   -- "2 to 11 with 17 among them": a trace that is refused gets one number and place from both
-  pub refused_alike : 1 ≤ level → level ≤ 3 → {n p : ℕ} → Refuses s n p → (r.judged ≡ JudgeRefused n p) × (r.listed ≡ Refused n p)
+  pub refused_alike : 1 ≤ level → level ≤ 3 → {n p : ℕ} → Refuses s n p → (reported r.judged ≡ declining n p) × (list_reported r.listed ≡ lists_refused n p)
   -- so each refusal of the one is the other's, but for those of buffers, 12 to 14, and of the level, 1
-  pub on_list_refusal : 1 ≤ level → level ≤ 3 → {n p : ℕ} → r.listed ≡ Refused n p → (n ≡ 12 → ⊥) → (n ≡ 13 → ⊥) → r.judged ≡ JudgeRefused n p
-  pub on_judge_refusal : {n p : ℕ} → r.judged ≡ JudgeRefused n p → (n ≡ 1 → ⊥) → (n ≡ 12 → ⊥) → (n ≡ 13 → ⊥) → (n ≡ 14 → ⊥) → r.listed ≡ Refused n p
+  pub on_list_refusal : 1 ≤ level → level ≤ 3 → {d : Refusal} → r.listed ≡ Err d → (d.cause ≡ FindingsRoom → ⊥) → (d.cause ≡ PairsRoom → ⊥) → r.judged ≡ Err d
+  pub on_judge_refusal : {d : Refusal} → r.judged ≡ Err d → (d.cause ≡ NoLevel → ⊥) → (d.cause ≡ FindingsRoom → ⊥) → (d.cause ≡ PairsRoom → ⊥)
+      → (d.cause ≡ OrderRoom → ⊥) → r.listed ≡ Err d

@@ -7,21 +7,25 @@ ghost use Rattle.appends.specs.Answering.{list_reported};
 ghost use Rattle.appends_calls.specs.Calls.{ListsPromised, JudgedAndListed};
 ghost use Rattle.appends_calls.specs.Printed.{ListsPrinted};
 
-use appends::ListAnswer;
-use rules::Answer;
+use appends::ListCounts;
+use rules::{Refusal, Ruling};
 
 // ── lists ──
 
 // The findings among list reads and both lists of pairs, each in its order and nothing else, with all three counts; or a refusal, under its own row and with
 // nothing written.
-pub fn promised_lists(trace: &[u8], findings: &mut [u8], pairs: &mut [u8]) -> ListAnswer
+pub fn promised_lists(
+    trace: &[u8],
+    findings: &mut [u8],
+    pairs: &mut [u8],
+) -> Result<ListCounts, Refusal>
     ensures { ListsPromised trace.now findings.old pairs.old (list_outcome (list_reported result) findings.new pairs.new) }
 {
     appends::judge_lists(trace, findings, pairs)
 }
 
 // .. and as text: what is handed back, and what a program prints, is just that.
-pub fn printed_lists<'a>(trace: &[u8], text: &'a mut [u8; 655360]) -> &'a [u8]
+pub fn printed_lists<'a>(trace: &[u8], text: &'a mut [u8; appends_text::TEXT]) -> &'a [u8]
     ensures { ListsPrinted trace.now result.now }
 {
     appends_text::lists_text(trace, text)
@@ -30,10 +34,10 @@ pub fn printed_lists<'a>(trace: &[u8], text: &'a mut [u8; 655360]) -> &'a [u8]
 // ── the judge and the call on lists ──
 
 // What the judge answers of a trace, and what is said of its lists.
-#[derive(Clone, Copy)]
+#[derive(Clone, Copy, Debug, PartialEq, Eq)]
 pub struct JudgedLists {
-    pub judged: Answer,
-    pub listed: ListAnswer,
+    pub judged: Result<Ruling, Refusal>,
+    pub listed: Result<ListCounts, Refusal>,
 }
 
 // "this call has 2 to 11 with 17 among them": both refuse a trace alike, where the level is one.
@@ -50,8 +54,5 @@ pub fn judged_and_listed(
 {
     let judged = judging::judge(trace, level, findings, pairs, order);
     let listed = appends::judge_lists(trace, faults, ties);
-    JudgedLists {
-        judged: judged,
-        listed: listed,
-    }
+    JudgedLists { judged, listed }
 }

@@ -1,11 +1,11 @@
 -- What the call's answer says, with buffers of 6,144 and 131,072 bytes: it never comes to 12 or 13, and the lists in the buffers are printed as the definition
 -- says.
-use Prim.Native.Nat.{ℕ, ◌+◌, ◌-◌, ◌*◌, ◌<◌, ◌≤◌}
+use Prim.Native.Nat.{ℕ, ◌+◌, ◌*◌, ◌<◌, ◌≤◌}
 use mathlib.Core.Path.{◌≡◌, refl, ap, sym, ◌∙◌}
 use mathlib.Core.List.{List, [], ◌∷◌, ◌++◌, append_assoc}
 use native.Mathlib.Omega.{arith}
-use lib.ListN.{length, get_or, take, drop, replicate, length-replicate, length-append, length-drop}
-use lib.Seq.{drop-append_seam, take_all}
+use lib.ListN.{length, get_or, drop, replicate, length-replicate, length-append}
+use lib.Seq.{drop-append_seam}
 use borrow.Author.Tests.{le-ltb}
 use Rattle.base.specs.Base.{joined}
 use Rattle.base.proofs.Tests.{pick_off}
@@ -25,9 +25,11 @@ use Rattle.appends_rules.specs.Dependencies.{dep_reasons, pair_with, write_pairs
 use Rattle.appends_rules.specs.ListOutcome.{fault_of, list_findings, list_finding_bytes, list_finding_list, write_dep_list, dep_list, both_lists, lists_refused, lists_told, ListOutcome, list_outcome, told_lists, lists_of_read, judged_lists}
 use Rattle.faults.proofs.Faults.{faults_long}
 use Rattle.listings.proofs.Listings.{pair-width}
-use Rattle.appends.specs.declared.ListAnswer.{ListAnswer}
-use Rattle.appends.specs.declared.ListAnswer.TheVariants.{Refused, Told}
-use Rattle.appends.specs.Answering.{list_reported}
+use Rattle.std.specs.Prelude.{Ok, Err}
+use Rattle.rules.specs.Refusals.{cause_no}
+use Rattle.rules.specs.declared.Refusal.{Refusal}
+use Rattle.appends.specs.declared.ListCounts.{ListCounts}
+use Rattle.appends.specs.Answering.{ListAnswer, list_reported}
 use Rattle.appends_text.specs.ListsText.{fault_text, write_text, both_text, told_text, lists_read_text, lists_text}
 use Rattle.appends_text.specs.Told.{counted_text}
 use Rattle.appends_text.proofs.Lengths.{findings_few, writes_few, both_few, lists_short}
@@ -170,26 +172,29 @@ one_report : {x y : ListOutcome} → x ≡ y → x.report ≡ y.report
 one_report e = ap (λ (o : ListOutcome). o.report) e
 
 module _ (s : List ℕ) {a : ListAnswer} {F P : List ℕ} (x : list_outcome (list_reported a) F P ≡ judged_lists s new_findings new_pairs) where
-  pub told_refused : {n p : ℕ} → a ≡ Refused n p → lists_text s ≡ refused_line n p
+  pub told_refused : {d : Refusal} → a ≡ Err d → lists_text s ≡ refused_line (cause_no d.cause) d.place
   unfolding list_reported
-  told_refused {n} {p} e = of (comes s) (rw e at x)
+  told_refused {d} e = of (comes s) (rw e at x)
     where
-      of : {o : ListOutcome} → Comes s o → list_outcome (lists_refused n p) F P ≡ o → lists_text s ≡ refused_line n p
+      of : {o : ListOutcome} → Comes s o → list_outcome (lists_refused (cause_no d.cause) d.place) F P ≡ o → lists_text s ≡ refused_line (cause_no d.cause) d.place
       of (comes_refused {n = m} {p = q} t) y =
-          let r : lists_refused n p ≡ lists_refused m q = one_report y in let i : n ≡ m = cc in let j : p ≡ q = cc in rw (i, j) t
+          let r : lists_refused (cause_no d.cause) d.place ≡ lists_refused m q = one_report y in
+          let i : cause_no d.cause ≡ m = cc in
+          let j : d.place ≡ q = cc in
+          rw (i, j) t
       of (comes_told h l t) y = let r = one_report y in let z : ◌≡◌ {A = ℕ} 0 1 = cc in absurd (omega arith)
 
-  pub told-told : {n w b : ℕ} → a ≡ Told n w b → ToldBy s n w b F P
+  pub told-told : {n : ListCounts} → a ≡ Ok n → ToldBy s n.findings n.writes n.both F P
   unfolding list_reported
-  told-told {n} {w} {b} e = of (comes s) (rw e at x)
+  told-told {n} e = of (comes s) (rw e at x)
     where
-      of : {o : ListOutcome} → Comes s o → list_outcome (lists_told n w b) F P ≡ o → ToldBy s n w b F P
+      of : {o : ListOutcome} → Comes s o → list_outcome (lists_told n.findings n.writes n.both) F P ≡ o → ToldBy s n.findings n.writes n.both F P
       of (comes_refused t) y = let r = one_report y in let z : ◌≡◌ {A = ℕ} 0 1 = cc in absurd (omega arith)
       of (comes_told h l t) y =
-          let r : lists_told n w b ≡ lists_told (length (list_findings h l)) (length (write_pairs h l)) (length (dep_pairs h l)) = one_report y in
-          let i : n ≡ length (list_findings h l) = cc in
-          let j : w ≡ length (write_pairs h l) = cc in
-          let k : b ≡ length (dep_pairs h l) = cc in
+          let r : lists_told n.findings n.writes n.both ≡ lists_told (length (list_findings h l)) (length (write_pairs h l)) (length (dep_pairs h l)) = one_report y in
+          let i : n.findings ≡ length (list_findings h l) = cc in
+          let j : n.writes ≡ length (write_pairs h l) = cc in
+          let k : n.both ≡ length (dep_pairs h l) = cc in
           let f : F ≡ over (list_finding_list h l) new_findings = ap (λ (o : ListOutcome). o.findings) y in
           let p : P ≡ over (both_lists h l) new_pairs = ap (λ (o : ListOutcome). o.pairs) y in
           record {
@@ -199,17 +204,6 @@ module _ (s : List ℕ) {a : ListAnswer} {F P : List ℕ} (x : list_outcome (lis
           }
 
 -- ── the text is put ──
-
--- to the end of a list
-pub to_end : (k : ℕ) (l : List ℕ) → take (length l - k) (drop k l) ≡ drop k l
-to_end k l = take_all (length l - k) (drop k l) (omega (arith, length-drop k l))
-
--- the first of two lists in a buffer, and the second, of entries of 4 bytes
-pub first_there : (w b : ℕ) {m : ℕ} → 4 * (w + b) ≤ m → 4 * w ≤ m
-first_there w b h = omega arith
-
-pub second_there : (w b : ℕ) (p : List ℕ) → 4 * (w + b) ≤ length p → 4 * b ≤ length (drop (4 * w) p)
-second_there w b p h = omega (arith, length-drop (4 * w) p)
 
 module _ (s : List ℕ) {t : List ℕ} (e : lists_text s ≡ t) where
   pub text-fits : Short 0 t

@@ -7,7 +7,7 @@ ghost use Rattle.show.specs.Laid.{Put, Short};
 ghost use Rattle.appends_text.specs.ListsText.{lists_text};
 ghost use Rattle.appends_text.specs.Told.{counted_text};
 
-use appends::ListAnswer;
+use appends::ListCounts;
 use entries::Lines;
 
 // Room for the text: no text is longer (`lists_short`, proofs/Lengths.antt).
@@ -18,9 +18,7 @@ pub fn lists_text<'a>(trace: &[u8], text: &'a mut [u8; TEXT]) -> &'a [u8]
     ensures { (result.now ≡ lists_text trace.now) × (result.ref_ptr ≡ text.entry.ref_ptr) }
 {
     let end = put_text(trace, text);
-    let filled: &'a [u8; TEXT] = text;
-    let bytes: &'a [u8] = filled;
-    &bytes[..end]
+    show::front(text, end)
 }
 
 // .. put into a buffer, as far as it reaches. Answers how long it is.
@@ -30,29 +28,23 @@ fn put_text(trace: &[u8], out: &mut [u8]) -> usize
     // Enough for 1,024 findings, and twice for every pair of 128 transactions, so that 12 and 13 are never given.
     let mut findings = [0u8; 6144];
     let mut pairs = [0u8; 131072];
-    let answer = appends::judge_lists(trace, &mut findings, &mut pairs);
-    match answer {
-        ListAnswer::Refused(no, place) => show::put_refused(out, 0, no as usize, place),
-        ListAnswer::Told(found, writes, both) => put_told(
-            found, writes, both, &findings, &pairs, out,
-        ),
+    match appends::judge_lists(trace, &mut findings, &mut pairs) {
+        Err(refusal) => show::put_refusal(out, 0, refusal),
+        Ok(counts) => put_told(counts, &findings, &pairs, out),
     }
 }
 
 // The counts, then the lines of the three lists. The pairs over both stand behind the others.
-fn put_told(
-    found: usize,
-    writes: usize,
-    both: usize,
-    findings: &[u8],
-    pairs: &[u8],
-    out: &mut [u8],
-) -> usize
-    requires { (6 * found ≤ length findings.now) × (4 * (writes + both) ≤ length pairs.now) × Short 0 (counted_text found writes both findings.now pairs.now) }
-    ensures { Put out.old 0 out.new result (counted_text found writes both findings.now pairs.now) }
+// Kept (6): a count stands beside each list, since `entries::put_entries`, which is public, takes both.
+#[tactic(auto, using(show::proofs::Laws::parts), unfolding(entries::specs::Entries::width, crate::specs::Told::counted_text, crate::specs::ListsText::lists_line))]
+fn put_told(counts: ListCounts, findings: &[u8], pairs: &[u8], out: &mut [u8]) -> usize
+    requires { (6 * counts.findings ≤ length findings.now) × (4 * (counts.writes + counts.both) ≤ length pairs.now) × Short 0 (counted_text counts.findings counts.writes counts.both findings.now pairs.now) }
+    ensures { Put out.old 0 out.new result (counted_text counts.findings counts.writes counts.both findings.now pairs.now) }
 {
-    let to = show::put_three_numbers(out, 0, b"lists", found, writes, both);
-    let to = entries::put_entries(Lines::ReadLines, findings, found, out, to);
-    let to = entries::put_entries(Lines::WriteLines, pairs, writes, out, to);
-    entries::put_entries(Lines::BothLines, &pairs[4 * writes..], both, out, to)
+    let numbers = [counts.findings, counts.writes, counts.both];
+    let to = show::put_line(out, 0, b"lists", &numbers);
+    let to = entries::put_entries(Lines::ReadLines, findings, counts.findings, out, to);
+    let to = entries::put_entries(Lines::WriteLines, pairs, counts.writes, out, to);
+    let both = &pairs[4 * counts.writes..];
+    entries::put_entries(Lines::BothLines, both, counts.both, out, to)
 }

@@ -12,20 +12,8 @@ use Rattle.base.specs.Base.{◌and◌, ◌or◌}
 use Rattle.base.proofs.Tests.{split, is_false, and_left, and_right, and_on, and_no_left, and_no_right, or_cases, or_off, or_assoc, below_more}
 use Rattle.theory.specs.Leads.{via}
 use Rattle.theory.proofs.Leads.{via-zero, via-suc}
-use Rattle.bits.specs.Bits.{bit_of, Holds, Under, plus_row, where_led, once_more}
-use Rattle.bits.proofs.Tables.{holds_self, holds_same, row-none}
-
--- ── one row ──
-
--- row a gets r, or not, by whether it leads to k
-module _ (E : ℕ → ℕ → Bool) (a k : ℕ) (r : ℕ → Bool) {v : Bool} {t : List ℕ} (e : v ≡ E a k) where
-  pub led : v ≡ true → Holds t (plus_row E a r) → Holds t (plus_row E a (where_led E a k r))
-  unfolding plus_row where_led
-  led q h = holds_same h (λ x y hx hy. ap (λ (b : Bool). E x y or (eqb x a and b)) (sym (and_on _ _ (sym e ∙ q))))
-
-  pub not_led : v ≡ false → Holds t E → Holds t (plus_row E a (where_led E a k r))
-  unfolding where_led
-  not_led q h = row-none a _ h (λ y hy. and_no_left _ _ (sym e ∙ q))
+use Rattle.bits.specs.Bits.{bit_of, Holds, Under, plus_row, once_more}
+use Rattle.bits.proofs.Tables.{holds_self, holds_same}
 
 -- ── one pass, row by row ──
 
@@ -44,12 +32,24 @@ module _ (E : ℕ → ℕ → Bool) (k : ℕ) where
   unfolding up_to
   upto_more a x y = ap (λ (b : Bool). E x y or b) (below_more (λ z. E z k and E k y) x a) ∙ sym (or_assoc _ _ _)
 
-  -- r: row k as it was before the pass
-  pub upto_step : {t u : List ℕ} {r : ℕ → Bool} (a : ℕ) → a < 128 → k < 128 → ((y : ℕ) → y < 128 → r y ≡ E k y) → Holds t (up_to E k a)
-      → Holds u (plus_row (bit_of t) a (where_led (bit_of t) a k r)) → Holds u (up_to E k (a + 1))
-  unfolding plus_row where_led
-  upto_step a ha hk own h g =
-      holds_same g (λ x y hx hy. rw (h.is x y hx hy, h.is a k ha hk, own y hy, upto_left a a k (omega arith)) (sym (upto_more a x y)))
+  module _ {t : List ℕ} (a : ℕ) (ha : a < 128) (hk : k < 128) (h : Holds t (up_to E k a)) where
+    -- whether row a leads to k is asked before it is written
+    asked : bit_of t a k ≡ E a k
+    asked = h.is a k ha hk ∙ upto_left a a k (omega arith)
+
+    -- it does, and gets r: row k as it was before the pass
+    pub upto_led : {u : List ℕ} {r : ℕ → Bool} → bit_of t a k ≡ true → ((y : ℕ) → y < 128 → r y ≡ E k y) → Holds u (plus_row (bit_of t) a r)
+        → Holds u (up_to E k (a + 1))
+    unfolding plus_row
+    upto_led q own g =
+        holds_same g
+        (λ x y hx hy.
+        rw (h.is x y hx hy, own y hy)
+        (ap (λ (b : Bool). up_to E k a x y or (eqb x a and b)) (sym (and_on _ _ (sym asked ∙ q))) ∙ sym (upto_more a x y)))
+
+    -- it does not
+    pub upto_not_led : bit_of t a k ≡ false → Holds t (up_to E k (a + 1))
+    upto_not_led q = holds_same h (λ x y hx hy. sym (upto_more a x y ∙ or_off _ _ (and_no_right _ _ (and_no_left _ _ (sym asked ∙ q)))))
 
 module _ {n : ℕ} {t : List ℕ} (w : Under n t) {k : ℕ} (hk : k < n) where
   pub upto_start : Holds t (up_to (bit_of t) k 0)

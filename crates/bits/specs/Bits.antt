@@ -58,10 +58,6 @@ plus_row E a r x y = E x y or (eqb x a and r y)
 unfoldable pub row_of : ℕ → ℕ → ℕ → Bool
 row_of p q = bit_of (p ∷ q ∷ []) 0
 
--- r, where E leads from a to k
-unfoldable pub where_led : (ℕ → ℕ → Bool) → ℕ → ℕ → (ℕ → Bool) → ℕ → Bool
-where_led E a k r y = E a k and r y
-
 -- E, and what it leads to by way of k
 unfoldable pub once_more : (ℕ → ℕ → Bool) → ℕ → ℕ → ℕ → Bool
 once_more E k x y = E x y or (E x k and E k y)

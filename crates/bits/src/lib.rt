@@ -4,13 +4,13 @@
 ghost use Rattle.std.specs.Prelude.{◌≡◌, ◌≤◌, ◌<◌, length};
 ghost use Rattle.base.specs.Base.{last};
 ghost use Rattle.theory.specs.Leads.{via};
-ghost use Rattle.bits.specs.Bits.{test_bit, Minus, bit_of, Holds, Under, nothing, either, plus_bit, minus_bit, plus_selves, minus_selves, plus_row, row_of, where_led, once_more, Least, GreatestBit, Alone};
+ghost use Rattle.bits.specs.Bits.{test_bit, Minus, bit_of, Holds, Under, nothing, either, plus_bit, minus_bit, plus_selves, minus_selves, plus_row, row_of, once_more, Least, GreatestBit, Alone};
 
 // The word m without the bits of p.
 pub fn without(m: u64, p: u64) -> u64
     ensures { Minus m p result }
 {
-    (m | p) ^ p
+    m & !p
 }
 
 // Whether row a has bit b.
@@ -26,8 +26,7 @@ pub fn set_bit(t: &mut [u64], a: usize, b: usize)
     requires { (length t.old ≡ 256) × (a < 128) × (b < 128) }
     ensures { Holds t.new (plus_bit (bit_of t.old) a b) }
 {
-    let i = 2 * a + b / 64;
-    t[i] = t[i] | (1u64 << (b % 64));
+    t[2 * a + b / 64] |= 1u64 << (b % 64);
 }
 
 // Row a loses bit b.
@@ -35,19 +34,17 @@ fn drop_bit(t: &mut [u64], a: usize, b: usize)
     requires { (length t.old ≡ 256) × (a < 128) × (b < 128) }
     ensures { Holds t.new (minus_bit (bit_of t.old) a b) }
 {
-    let i = 2 * a + b / 64;
-    t[i] = without(t[i], 1u64 << (b % 64));
+    t[2 * a + b / 64] &= !(1u64 << (b % 64));
 }
 
 // Each row from 1 to before n gets the bit of its own number.
+// Kept (2): the two loops differ in what they call alone. With the call as a parameter a contract would speak of each step of a closure: that is no plainer.
 pub fn add_selves(t: &mut [u64], n: usize)
     requires { (length t.old ≡ 256) × (n ≤ 128) }
     ensures { Holds t.new (plus_selves n (bit_of t.old)) }
 {
-    let mut a = 1;
-    while a < n {
+    for a in 1..n {
         set_bit(t, a, a);
-        a += 1;
     }
 }
 
@@ -56,10 +53,8 @@ pub fn drop_selves(t: &mut [u64], n: usize)
     requires { (length t.old ≡ 256) × (n ≤ 128) }
     ensures { Holds t.new (minus_selves n (bit_of t.old)) }
 {
-    let mut a = 1;
-    while a < n {
+    for a in 1..n {
         drop_bit(t, a, a);
-        a += 1;
     }
 }
 
@@ -68,11 +63,7 @@ pub fn clear(t: &mut [u64])
     requires { length t.old ≡ 256 }
     ensures { Holds t.new nothing }
 {
-    let mut i = 0;
-    while i < 256 {
-        t[i] = 0;
-        i += 1;
-    }
+    t.fill(0);
 }
 
 // `to` becomes what `from` is.
@@ -80,11 +71,7 @@ pub fn copy(from: &[u64], to: &mut [u64])
     requires { (length from.now ≡ 256) × (length to.old ≡ 256) }
     ensures { to.new ≡ from.now }
 {
-    let mut i = 0;
-    while i < 256 {
-        to[i] = from[i];
-        i += 1;
-    }
+    to.copy_from_slice(from);
 }
 
 // `to` gets the bits of `from` too.
@@ -92,10 +79,8 @@ pub fn join(from: &[u64], to: &mut [u64])
     requires { (length from.now ≡ 256) × (length to.old ≡ 256) }
     ensures { Holds to.new (either (bit_of to.old) (bit_of from.now)) }
 {
-    let mut i = 0;
-    while i < 256 {
-        to[i] = to[i] | from[i];
-        i += 1;
+    for (i, w) in from.iter().enumerate() {
+        to[i] |= *w;
     }
 }
 
@@ -104,19 +89,8 @@ pub fn or_row(t: &mut [u64], a: usize, p: u64, q: u64)
     requires { (length t.old ≡ 256) × (a < 128) }
     ensures { Holds t.new (plus_row (bit_of t.old) a (row_of p q)) }
 {
-    let i = 2 * a;
-    t[i] = t[i] | p;
-    t[i + 1] = t[i + 1] | q;
-}
-
-// Row a gets the bits of p and q too, where it leads to k.
-fn lead_by(t: &mut [u64], a: usize, k: usize, p: u64, q: u64)
-    requires { (length t.old ≡ 256) × (a < 128) × (k < 128) }
-    ensures { Holds t.new (plus_row (bit_of t.old) a (where_led (bit_of t.old) a k (row_of p q))) }
-{
-    if bit(t, a, k) {
-        or_row(t, a, p, q);
-    }
+    t[2 * a] |= p;
+    t[2 * a + 1] |= q;
 }
 
 // Each of the first n rows that leads to k gets row k too. Row k is read before the first row is written, and a row is asked for its bit k before it is
@@ -127,10 +101,10 @@ fn pass(t: &mut [u64], n: usize, k: usize)
 {
     let p = t[2 * k];
     let q = t[2 * k + 1];
-    let mut a = 0;
-    while a < n {
-        lead_by(t, a, k, p, q);
-        a += 1;
+    for a in 0..n {
+        if bit(t, a, k) {
+            or_row(t, a, p, q);
+        }
     }
 }
 
@@ -139,10 +113,8 @@ pub fn close(t: &mut [u64], n: usize)
     requires { Under n t.old }
     ensures { Holds t.new (via (bit_of t.old) n) }
 {
-    let mut k = 0;
-    while k < n {
+    for k in 0..n {
         pass(t, n, k);
-        k += 1;
     }
 }
 
@@ -153,7 +125,7 @@ pub fn least(w: u64, from: usize) -> usize
     requires { from < 64 }
     ensures { Least (test_bit w) from 64 result × (result ≤ 128) }
 {
-    from + u64::trailing_zeros(w >> from) as usize
+    from + (w >> from).trailing_zeros() as usize
 }
 
 // The smallest bit from `from` on of a row whose words are lo and hi; 128 or more where there is none.
@@ -179,7 +151,7 @@ fn greatest(w: u64) -> usize
     requires { 0 < w }
     ensures { GreatestBit (test_bit w) 64 result }
 {
-    63 - u64::leading_zeros(w) as usize
+    w.ilog2() as usize
 }
 
 // The greatest bit of a row whose words are lo and hi; 0 where there is none besides.

@@ -35,15 +35,12 @@ pub fn put_before(
     requires { RoomBefore form out.old place (mark session event ∷ []) }
     ensures { PutBefore form first out.old place out.new result (mark session event ∷ []) }
 {
-    let from = place.at - putting::event_length(form, event);
+    let at = place.at - putting::event_length(form, event);
     let count = place.count - 1;
     // "after 4,294,967,295 comes 0"
-    let serial = std::num::wrapping_add_u32(first, count);
-    putting::put_event(out, from, form, serial, session, event);
-    Place {
-        at: from,
-        count: count,
-    }
+    let serial = first.wrapping_add(count);
+    putting::put_event(out, at, form, serial, session, event);
+    Place { at, count }
 }
 
 // Operation i as an event.
@@ -60,6 +57,7 @@ fn op_step(h: &[u64], i: usize) -> Event
 }
 
 // ── a transaction ──
+// Kept (5): form and first travel together through two private functions only; the public ones take them apart, so that a struct would be no plainer.
 
 // The operations of transaction t, whose session is given, from its last one down.
 fn put_ops(
@@ -103,10 +101,8 @@ pub fn put_txs(h: &[u64], form: Form, first: u32, out: &mut [u8], place: Place) 
     ensures { PutBefore form first out.old place out.new result (blocks_of (history_of h.now)) }
 {
     let mut from = place;
-    let mut t = table::txs(h);
-    while 0 < t {
+    for t in (1..=table::txs(h)).rev() {
         from = put_tx(h, t, form, first, out, from);
-        t -= 1;
     }
     from
 }

@@ -4,7 +4,7 @@ use mathlib.Core.Path.{◌≡◌}
 use mathlib.Core.List.{List}
 use mathlib.Core.Logic.{◌↔◌}
 use Rattle.rules.specs.Outcome.{accepting, reported}
-use Rattle.rules.specs.declared.Answer.{Answer}
+use Rattle.rules.specs.Outcome.{Answer}
 use Rattle.demand2.specs.Accepted.{AcceptsTrace}
 use Rattle.choices.specs.Accepting.{ChoiceDecides}
 use Rattle.choices.proofs.Traces.{trace-by_choice_iff}

@@ -2,7 +2,7 @@
 use Rattle.std.specs.Prelude.{ℕ, ◌≡◌, Bool, List, ◌↔◌}
 use Rattle.rules.specs.History.{History}
 use Rattle.rules.specs.Outcome.{accepting, reported}
-use Rattle.rules.specs.declared.Answer.{Answer}
+use Rattle.rules.specs.Outcome.{Answer}
 use Rattle.demand2.specs.Kinds.{AllClean}
 use Rattle.demand2.specs.Axiom.{HasOrder}
 use Rattle.demand2.specs.Accepted.{AcceptsTrace}

@@ -1,7 +1,7 @@
 // Orders from elsewhere: a trace, a level and an order that somebody claims in; yes, or the first reason why not, out. Nothing is written.
 #![tactic(auto)]
 
-ghost use Rattle.std.specs.Prelude.{true, ◌≡◌, ℕ, ◌≤◌, ◌<◌, eqb, length};
+ghost use Rattle.std.specs.Prelude.{true, ◌≡◌, ℕ, ◌≤◌, ◌<◌, eqb, length, Ok};
 ghost use Rattle.base.specs.Base.{first};
 ghost use Rattle.theory.specs.Order.{place};
 ghost use Rattle.rules.specs.History.{History, size, committed};
@@ -14,9 +14,9 @@ ghost use Rattle.forcing.specs.Forcing.{AtLevel};
 ghost use Rattle.claims_rules.specs.Claims.{reply, has_members, least_first, pair_reply, claimed_in, claimed};
 ghost use Rattle.claims.specs.Seats.{SmallEntries, UpTo, is_stray_in, TurnedFirsts, WithMissing, turned_in};
 
-use claims_rules::ClaimAnswer;
+use claims_rules::ClaimRuling;
 use order::Words;
-use trace::Out;
+use rules::Refusal;
 
 // ── who stands in the claim ──
 
@@ -24,23 +24,14 @@ use trace::Out;
 fn is_stray(m: Words, p: Words, a: usize) -> bool
     ensures { result ≡ is_stray_in m p a }
 {
-    if 128 <= a {
-        return true;
-    }
-    if !order::has(m, a) {
-        return true;
-    }
-    order::has(p, a)
+    a >= 128 || !order::has(m, a) || order::has(p, a)
 }
 
 // Whether none stands before 0; an empty claim, which lacks it, has none.
 fn begins_with_0(o: &[u8]) -> bool
     ensures { result ≡ eqb (place 0 o.now) 0 }
 {
-    if o.len() == 0 {
-        return true;
-    }
-    o[0] == 0
+    o.is_empty() || o[0] == 0
 }
 
 // "every committed transaction once, 0 first": m has those that count. No more is looked at than up to the first entry that is not one of them or comes again,
@@ -49,19 +40,14 @@ fn has_members(m: Words, o: &[u8]) -> bool
     ensures { (h : History) → size h ≤ 128 → Gathered (committed h) (size h) m → result ≡ has_members h o.now }
 {
     let mut p = order::none();
-    let mut i = 0;
-    while i < o.len() {
-        let a = o[i] as usize;
+    for entry in o {
+        let a = usize::from(*entry);
         if is_stray(m, p, a) {
             return false;
         }
         p = order::with(p, a);
-        i += 1;
     }
-    if !order::within(m, p) {
-        return false;
-    }
-    begins_with_0(o)
+    order::within(m, p) && begins_with_0(o)
 }
 
 // ── forced pairs against the claim's places ──
@@ -85,12 +71,10 @@ fn turned_firsts(f: &[u64; 256], o: &[u8]) -> Words
 {
     let mut p = order::none();
     let mut w = order::none();
-    let mut i = 0;
-    while i < o.len() {
-        let b = o[i] as usize;
+    for entry in o {
+        let b = usize::from(*entry);
         w = join_missing(f, b, p, w);
         p = order::with(p, b);
-        i += 1;
     }
     w
 }
@@ -101,14 +85,12 @@ fn up_to(o: &[u8], a: usize) -> Words
     ensures { place a o.now < length o.now → UpTo o.now a result }
 {
     let mut p = order::none();
-    let mut i = 0;
-    while i < o.len() {
-        let b = o[i] as usize;
+    for entry in o {
+        let b = usize::from(*entry);
         p = order::with(p, b);
         if b == a {
             return p;
         }
-        i += 1;
     }
     p
 }
@@ -118,10 +100,7 @@ fn is_turned(f: &[u64; 256], w: Words, a: usize, b: usize) -> bool
     requires { (a < 128) × (b < 128) }
     ensures { result ≡ turned_in f.now w a b }
 {
-    if !bits::bit(f, b, a) {
-        return false;
-    }
-    order::has(w, b)
+    bits::bit(f, b, a) && order::has(w, b)
 }
 
 // The least b for which that is so, or n.
@@ -129,35 +108,28 @@ fn second(f: &[u64; 256], w: Words, n: usize, a: usize) -> usize
     requires { (n ≤ 128) × (a < 128) }
     ensures { result ≡ first n 0 n (turned_in f.now w a) }
 {
-    let mut b = 0;
-    while b < n {
-        if is_turned(f, w, a, b) {
-            return b;
-        }
-        b += 1;
-    }
-    n
+    (0..n).find(|b| is_turned(f, w, a, *b)).unwrap_or(n)
 }
 
 // "the forced pair standing the wrong way round that is least by first and then second"; yes where there is none. n is how
 // many transactions the history has, with 0.
-fn try_pairs(f: &[u64; 256], o: &[u8], n: usize) -> ClaimAnswer
+fn try_pairs(f: &[u64; 256], o: &[u8], n: usize) -> ClaimRuling
     requires { SmallEntries o.now × (n ≤ 128) }
-    ensures { (h : History) (level : ℕ) → n ≡ size h → has_members h o.now ≡ true → Holds f.now (before (forced h level)) → reply result ≡ pair_reply n (forced h level) o.now (least_first n (forced h level) o.now) }
+    ensures { (h : History) (level : ℕ) → n ≡ size h → has_members h o.now ≡ true → Holds f.now (before (forced h level)) → reply (Ok result) ≡ pair_reply n (forced h level) o.now (least_first n (forced h level) o.now) }
 {
     let w = turned_firsts(f, o);
     let a = bits::least_of(w.lo, w.hi, 0);
     if a < 128 {
         let b = second(f, up_to(o, a), n, a);
-        return ClaimAnswer::NoPair(a, b);
+        return ClaimRuling::NoPair(a, b);
     }
-    ClaimAnswer::Yes
+    ClaimRuling::Yes
 }
 
 // What leads to what through forced pairs is not worked out. m has those that count.
-fn claim_pairs(h: &[u64], k: &[u8], m: Words, level: u8, o: &[u8]) -> ClaimAnswer
+fn claim_pairs(h: &[u64], k: &[u8], m: Words, level: u8, o: &[u8]) -> ClaimRuling
     requires { AtLevel h.now k.now level × Gathered (committed (history_of h.now)) (size (history_of h.now)) m × (has_members (history_of h.now) o.now ≡ true) }
-    ensures { reply result ≡ pair_reply (size (history_of h.now)) (forced (history_of h.now) level) o.now (least_first (size (history_of h.now)) (forced (history_of h.now) level) o.now) }
+    ensures { reply (Ok result) ≡ pair_reply (size (history_of h.now)) (forced (history_of h.now) level) o.now (least_first (size (history_of h.now)) (forced (history_of h.now) level) o.now) }
 {
     let mut p = [0u8; 128];
     pairs::fill_priors(h, &mut p);
@@ -172,38 +144,30 @@ fn claim_pairs(h: &[u64], k: &[u8], m: Words, level: u8, o: &[u8]) -> ClaimAnswe
 // ── the call ──
 
 // "A no names the first reason that holds"
-fn claim_history(h: &[u64], k: &[u8], level: u8, o: &[u8]) -> ClaimAnswer
+fn claim_history(h: &[u64], k: &[u8], level: u8, o: &[u8]) -> ClaimRuling
     requires { AtLevel h.now k.now level }
-    ensures { reply result ≡ claimed_in (history_of h.now) level o.now }
+    ensures { reply (Ok result) ≡ claimed_in (history_of h.now) level o.now }
 {
     // all that a trace with clean reads takes is a count, which goes by many bytes at once
     if sifting::count_findings(h, k) != 0 {
-        return ClaimAnswer::NoRead(sifting::first_finding(h, k));
+        return ClaimRuling::NoRead(sifting::first_finding(h, k));
     }
     let m = forcing::members(h);
     if !has_members(m, o) {
-        return ClaimAnswer::NoMembers;
+        return ClaimRuling::NoMembers;
     }
     claim_pairs(h, k, m, level, o)
 }
 
 // What is to be said of an order that is claimed for a trace at a level, one byte a transaction: what the definition gives these bytes, this level and this
 // claim. "Refusals: 1 to 11."
-pub fn claim(trace: &[u8], level: u8, order: &[u8]) -> ClaimAnswer
+pub fn claim(trace: &[u8], level: u8, order: &[u8]) -> Result<ClaimRuling, Refusal>
     ensures { reply result ≡ claimed trace.now level order.now }
 {
-    if level < 1 {
-        return ClaimAnswer::Refused(1, 0);
-    }
-    if 3 < level {
-        return ClaimAnswer::Refused(1, 0);
-    }
-    // The words of a history's table, and a byte for each number that an operation can have.
-    let mut h = [0u64; 2306];
+    forcing::check_level(level)?;
+    // a byte for each number that an operation can have
+    let mut h = [0u64; table::WORDS];
     let mut k = [0u8; 1025];
-    let read = forcing::prepare(trace, &mut h, &mut k);
-    match read {
-        Out::Bad(no, place) => ClaimAnswer::Refused(no, place),
-        Out::Good(_) => claim_history(&h, &k, level, order),
-    }
+    forcing::prepare(trace, &mut h, &mut k)?;
+    Ok(claim_history(&h, &k, level, order))
 }

@@ -8,29 +8,31 @@ use lib.ListN.{length, take}
 use Rattle.rules.specs.History.{History}
 use Rattle.rules.specs.Reading.{Reading}
 use Rattle.rules.specs.Outcome.{Report, declining, reported, Outcome, outcome, judged_read, judged}
-use Rattle.rules.specs.declared.Answer.{Answer}
-use Rattle.rules.specs.declared.Answer.TheVariants.{Refused as JudgeRefused, Rejected, Accepted}
+use Rattle.rules.specs.Outcome.{Answer}
+use Rattle.std.specs.Prelude.{Ok, Err}
+use Rattle.rules.specs.Refusals.{cause_no}
+use Rattle.rules.specs.declared.Ruling.TheVariants.{Rejected, Accepted}
 use Rattle.rules.proofs.Outcome.{reported_one, judged_level, judged_no_level, judged_refused}
 use Rattle.demand1.proofs.Readings.{refuses_iff}
 use Rattle.demand2.proofs.Traces.{accepted_trace}
 use Rattle.demands.proofs.Meets.{meets}
 use Rattle.claims_rules.specs.Claims.{Reply, holds, no_read, no_members, no_pair, declined, reply, claimed}
-use Rattle.claims_rules.specs.declared.ClaimAnswer.{ClaimAnswer}
-use Rattle.claims_rules.specs.declared.ClaimAnswer.TheVariants.{Yes}
+use Rattle.claims_rules.specs.Claims.{ClaimAnswer}
+use Rattle.claims_rules.specs.declared.ClaimRuling.TheVariants.{Yes}
 use Rattle.claims_rules.proofs.Claims.{reply_one, reply_case}
 use Rattle.claims_laws.specs.Claims.{ClaimSays, right, wrong_read, wrong_members, wrong_pair, Claims, no_level, reading_refused, of_history}
 use Rattle.claims_laws.proofs.Claims.{claims_iff}
 use Rattle.claims_laws.proofs.Yes.{yes_iff, words_iff}
 use Rattle.claims_laws.proofs.Levels.{claimed_down}
 use Rattle.claims_laws.proofs.Judged.{shown_right, yes_accepted, rejected_no}
-use Rattle.claims_calls.specs.declared.TwoLevels.{TwoLevels}
+use Rattle.two.specs.declared.Two.{Two}
 use Rattle.claims_calls.specs.Calls.{ClaimPromised, JudgedAndClaimed, shown_length, ShownClaimed, ClaimedAtLevels}
 
 -- ── one claim ──
 
-is_yes : (c : ClaimAnswer) → (c ≡ Yes) ↔ (reply c ≡ holds)
+is_yes : (c : ClaimAnswer) → (c ≡ Ok Yes) ↔ (reply c ≡ holds)
 unfolding reply
-is_yes c = (λ e. ap reply e, λ e. reply_one c Yes e)
+is_yes c = (λ e. ap reply e, λ e. reply_one c (Ok Yes) e)
 
 module _ {s : List ℕ} {level : ℕ} {o : List ℕ} (c : ClaimAnswer) (e : reply c ≡ claimed s level o) where
   pub met : Claims s level o (reply c)
@@ -73,9 +75,9 @@ module _ (s : List ℕ) (level : ℕ) (fs ps os : List ℕ) where
   -- an order is shown only where it has room
   shown_room : (a : Answer) → (judged s level fs ps os).report ≡ reported a → shown_length a ≤ length os
   unfolding shown_length reported
-  shown_room (JudgeRefused n p) e = omega arith
-  shown_room (Rejected f p) e = omega arith
-  shown_room (Accepted n) e = ((accepted_trace s level fs ps os n).0 e).accepts.fits
+  shown_room (Err r) e = omega arith
+  shown_room (Ok (Rejected f p)) e = omega arith
+  shown_room (Ok (Accepted n)) e = ((accepted_trace s level fs ps os n).0 e).accepts.fits
 
   module _ (a : Answer) {F P O : List ℕ} (j : outcome (reported a) F P O ≡ judged s level fs ps os) where
     report_is : (judged s level fs ps os).report ≡ reported a
@@ -92,8 +94,8 @@ module _ (s : List ℕ) (level : ℕ) (fs ps os : List ℕ) where
           judged = meets s level fs ps os a j;
           claimed = met c e;
           on_rejection = λ q. rw e (rejected_no s level fs ps os (report_is ∙ ap reported q) o);
-          on_yes = λ y l. reported_one a (Accepted (length o)) (sym report_is ∙ yes_accepted s level fs ps os o l (sym e ∙ ap reply y));
-          on_refusal = λ {n} {p} y. reported_one a (JudgeRefused n p) (sym report_is ∙ refused_alike (met c e) (ap reply y));
+          on_yes = λ y l. reported_one a (Ok (Accepted (length o))) (sym report_is ∙ yes_accepted s level fs ps os o l (sym e ∙ ap reply y));
+          on_refusal = λ {d} y. reported_one a (Err d) (sym report_is ∙ refused_alike (met c e) (ap reply y));
         }
 
     pub shown_claimed : (c : ClaimAnswer) → reply c ≡ claimed s level (take (shown_length a) O) → ShownClaimed s level (record { judged = a; claimed = c }) fs ps os F P O
@@ -111,12 +113,12 @@ module _ (s : List ℕ) (level : ℕ) (fs ps os : List ℕ) where
 
 -- ── two levels ──
 
-module _ (s : List ℕ) (m k : ℕ) (o : List ℕ) (r : TwoLevels) where
-  pub at_levels : reply r.stronger ≡ claimed s m o → reply r.weaker ≡ claimed s k o → ClaimedAtLevels s m k o r
+module _ (s : List ℕ) (m k : ℕ) (o : List ℕ) (r : Two ClaimAnswer) where
+  pub at_levels : reply r.one ≡ claimed s m o → reply r.other ≡ claimed s k o → ClaimedAtLevels s m k o r
   at_levels e d =
       record {
-        at = met r.stronger e;
-        below = met r.weaker d;
-        stays = λ l n y. (is_yes r.weaker).1 (d ∙ claimed_down s o l n (sym e ∙ (is_yes r.stronger).0 y));
-        one = λ q. reply_one r.weaker r.stronger (d ∙ ap (λ (x : ℕ). claimed s x o) (sym q) ∙ sym e);
+        at = met r.one e;
+        below = met r.other d;
+        stays = λ l n y. (is_yes r.other).1 (d ∙ claimed_down s o l n (sym e ∙ (is_yes r.one).0 y));
+        one = λ q. reply_one r.other r.one (d ∙ ap (λ (x : ℕ). claimed s x o) (sym q) ∙ sym e);
       }

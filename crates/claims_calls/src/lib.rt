@@ -6,13 +6,14 @@ ghost use Rattle.std.specs.Prelude.{◌≡◌};
 ghost use Rattle.claims_laws.specs.Told.{ClaimPrinted, ClaimNumbered};
 ghost use Rattle.claims_calls.specs.Calls.{ClaimPromised, JudgedAndClaimed, ShownClaimed, ClaimedAtLevels, shown_length};
 
-use claims_rules::ClaimAnswer;
-use rules::Answer;
+use claims_rules::ClaimRuling;
+use rules::{Refusal, Ruling};
+use two::Two;
 
 // ── one claim ──
 
 // Yes exactly if the claim is a commit order of the level and all reads are clean; each no under its own condition, and none earlier; "Refusals: 1 to 11."
-pub fn promised_claim(trace: &[u8], level: u8, order: &[u8]) -> ClaimAnswer
+pub fn promised_claim(trace: &[u8], level: u8, order: &[u8]) -> Result<ClaimRuling, Refusal>
     ensures { ClaimPromised trace.now level order.now result }
 {
     claims::claim(trace, level, order)
@@ -35,10 +36,10 @@ pub fn printed_claim<'a>(trace: &[u8], level: u8, order: &[u8], line: &'a mut [u
 // ── the judge and a claim ──
 
 // What the judge answers of a trace, and what is said of an order that is claimed for it.
-#[derive(Clone, Copy)]
+#[derive(Clone, Copy, Debug, PartialEq, Eq)]
 pub struct JudgedClaim {
-    pub judged: Answer,
-    pub claimed: ClaimAnswer,
+    pub judged: Result<Ruling, Refusal>,
+    pub claimed: Result<ClaimRuling, Refusal>,
 }
 
 // A trace that is rejected gets a no for every claim; one that gets a yes is accepted; and both refuse a trace alike.
@@ -54,20 +55,17 @@ pub fn judged_and_claimed(
 {
     let judged = judging::judge(trace, level, findings, pairs, order);
     let claimed = claims::claim(trace, level, claim);
-    JudgedClaim {
-        judged: judged,
-        claimed: claimed,
-    }
+    JudgedClaim { judged, claimed }
 }
 
 // How long an order is shown.
-fn shown_length(answer: Answer) -> usize
+#[tactic(auto, unfolding(crate::specs::Calls::shown_length))]
+fn shown_length(answer: Result<Ruling, Refusal>) -> usize
     ensures { result ≡ shown_length answer }
 {
     match answer {
-        Answer::Refused(_, _) => 0,
-        Answer::Rejected(_, _) => 0,
-        Answer::Accepted(n) => n,
+        Err(_) | Ok(Ruling::Rejected(_, _)) => 0,
+        Ok(Ruling::Accepted(n)) => n,
     }
 }
 
@@ -84,29 +82,22 @@ pub fn claim_shown(
     let judged = judging::judge(trace, level, findings, pairs, order);
     let n = shown_length(judged);
     let claimed = claims::claim(trace, level, &order[..n]);
-    JudgedClaim {
-        judged: judged,
-        claimed: claimed,
-    }
+    JudgedClaim { judged, claimed }
 }
 
 // ── two levels ──
 
-// What is said of one claim at two levels.
-#[derive(Clone, Copy)]
-pub struct TwoLevels {
-    pub stronger: ClaimAnswer,
-    pub weaker: ClaimAnswer,
-}
-
 // A yes at level 3 is a yes at 2, and at 2 one at 1; two calls at one level coincide.
-pub fn claimed_at_levels(trace: &[u8], level: u8, weaker: u8, order: &[u8]) -> TwoLevels
+pub fn claimed_at_levels(
+    trace: &[u8],
+    level: u8,
+    weaker: u8,
+    order: &[u8],
+) -> Two<Result<ClaimRuling, Refusal>>
     ensures { ClaimedAtLevels trace.now level weaker order.now result }
 {
-    let at = claims::claim(trace, level, order);
-    let below = claims::claim(trace, weaker, order);
-    TwoLevels {
-        stronger: at,
-        weaker: below,
+    Two {
+        one: claims::claim(trace, level, order),
+        other: claims::claim(trace, weaker, order),
     }
 }

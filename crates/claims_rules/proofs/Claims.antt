@@ -17,8 +17,11 @@ use Rattle.rules.specs.Levels.{forced}
 use Rattle.rules.specs.Outcome.{findings, is_level}
 use Rattle.rules.proofs.Outcome.{none-empty, level_test}
 use Rattle.claims_rules.specs.Claims.{Reply, holds, no_read, no_members, no_pair, declined, unclean, has_members, second_of, least_first, pair_reply, claimed_in, claimed_read, claimed, reply}
-use Rattle.claims_rules.specs.declared.ClaimAnswer.{ClaimAnswer}
-use Rattle.claims_rules.specs.declared.ClaimAnswer.TheVariants.{Yes, NoRead, NoMembers, NoPair, Refused}
+use Rattle.claims_rules.specs.Claims.{ClaimAnswer}
+use Rattle.claims_rules.specs.declared.ClaimRuling.TheVariants.{Yes, NoRead, NoMembers, NoPair}
+use Rattle.std.specs.Prelude.{Ok, Err}
+use Rattle.rules.specs.Refusals.{refusal_at}
+use Rattle.rules.proofs.Refusals.{cause_of, cause_of_no}
 
 module _ (s : List ℕ) (level : ℕ) (o : List ℕ) where
   pub claimed_level : 1 ≤ level → level ≤ 3 → claimed s level o ≡ claimed_read (reading s) level o
@@ -84,19 +87,19 @@ reply_case (declined n p) = 4
 
 -- the answer that says so
 abbrev answer_of : Reply → ClaimAnswer
-answer_of holds = Yes
-answer_of (no_read i) = NoRead i
-answer_of no_members = NoMembers
-answer_of (no_pair a b) = NoPair a b
-answer_of (declined n p) = Refused n p
+answer_of holds = Ok Yes
+answer_of (no_read i) = Ok (NoRead i)
+answer_of no_members = Ok NoMembers
+answer_of (no_pair a b) = Ok (NoPair a b)
+answer_of (declined n p) = Err (refusal_at (cause_of n) p)
 
 answer_of_lem : (r : ClaimAnswer) → answer_of (reply r) ≡ r
 unfolding reply
-answer_of_lem Yes = refl
-answer_of_lem (NoRead i) = refl
-answer_of_lem NoMembers = refl
-answer_of_lem (NoPair a b) = refl
-answer_of_lem (Refused n p) = refl
+answer_of_lem (Ok Yes) = refl
+answer_of_lem (Ok (NoRead i)) = refl
+answer_of_lem (Ok NoMembers) = refl
+answer_of_lem (Ok (NoPair a b)) = refl
+answer_of_lem (Err r) = ap (λ c. Err (refusal_at c r.place)) (cause_of_no r.cause)
 
 -- a reply says which answer it is of: so a contract that is an equation of replies leaves one answer
 pub reply_one : (r q : ClaimAnswer) → reply r ≡ reply q → r ≡ q

@@ -1,5 +1,5 @@
 -- Document 02, "Orders from elsewhere": what is answered of a claimed order, "one byte a transaction", for all bytes, levels and claims. o is the claim.
-use Rattle.std.specs.Prelude.{ℕ, ◌+◌, Bool, not, List, length, get_or, ltb, eqb}
+use Rattle.std.specs.Prelude.{ℕ, ◌+◌, Bool, not, List, length, get_or, ltb, eqb, Result, Ok, Err}
 use Rattle.base.specs.Base.{◌and◌, ◌or◌, pick, some, first}
 use Rattle.theory.specs.Order.{place}
 use Rattle.rules.specs.History.{History, op_count, size, committed}
@@ -7,8 +7,10 @@ use Rattle.rules.specs.Reading.{Reading, refused, read, reading}
 use Rattle.rules.specs.Reads.{is_finding}
 use Rattle.rules.specs.Levels.{forced}
 use Rattle.rules.specs.Outcome.{is_level}
-use Rattle.claims_rules.specs.declared.ClaimAnswer.{ClaimAnswer}
-use Rattle.claims_rules.specs.declared.ClaimAnswer.TheVariants.{Yes, NoRead, NoMembers, NoPair, Refused}
+use Rattle.rules.specs.Refusals.{cause_no}
+use Rattle.rules.specs.declared.Refusal.{Refusal}
+use Rattle.claims_rules.specs.declared.ClaimRuling.{ClaimRuling}
+use Rattle.claims_rules.specs.declared.ClaimRuling.TheVariants.{Yes, NoRead, NoMembers, NoPair}
 
 -- what can be said of a claim, in the document's numbers: yes; a no with its reason; a refusal's number and place
 pub data Reply : Type 0 where
@@ -18,13 +20,17 @@ pub data Reply : Type 0 where
   no_pair : ℕ → ℕ → Reply
   declined : ℕ → ℕ → Reply
 
--- what each case of the answer says
+-- the answer
+abbrev pub ClaimAnswer : Type 0
+ClaimAnswer = Result ClaimRuling Refusal
+
+-- what each case of it says
 unfoldable pub reply : ClaimAnswer → Reply
-reply Yes = holds
-reply (NoRead i) = no_read i
-reply NoMembers = no_members
-reply (NoPair a b) = no_pair a b
-reply (Refused n p) = declined n p
+reply (Ok Yes) = holds
+reply (Ok (NoRead i)) = no_read i
+reply (Ok NoMembers) = no_members
+reply (Ok (NoPair a b)) = no_pair a b
+reply (Err r) = declined (cause_no r.cause) r.place
 
 -- ── "the first unclean read's operation number" ──
 

@@ -9,8 +9,11 @@ use Rattle.text.proofs.Lines.{refused_length}
 use Rattle.show.specs.Laid.{Put, Short}
 use Rattle.claims_rules.specs.Claims.{reply}
 use Rattle.claims_rules.specs.Lines.{reply_line}
-use Rattle.claims_rules.specs.declared.ClaimAnswer.{ClaimAnswer}
-use Rattle.claims_rules.specs.declared.ClaimAnswer.TheVariants.{Yes, NoRead, NoMembers, NoPair, Refused}
+use Rattle.claims_rules.specs.Claims.{ClaimAnswer}
+use Rattle.claims_rules.specs.declared.ClaimRuling.TheVariants.{Yes, NoRead, NoMembers, NoPair}
+use Rattle.std.specs.Prelude.{Ok, Err}
+use Rattle.rules.specs.Refusals.{cause_no}
+use Rattle.rules.specs.declared.Refusal.{Refusal}
 use Rattle.claims_text.specs.Replies.{Replied}
 
 -- ── how long a line is ──
@@ -41,22 +44,22 @@ replied : {a : ClaimAnswer} {o b l : List ℕ} {n : ℕ} → 64 ≤ length o →
 replied room e s x = record { is = rw e x; fits = omega (arith, x.end) }
 
 module _ {a : ClaimAnswer} {o b : List ℕ} {n : ℕ} (room : 64 ≤ length o) where
-  pub yes_replied : a ≡ Yes → Put o 0 b n (line (text "yes") []) → Replied a o b n
+  pub yes_replied : a ≡ Ok Yes → Put o 0 b n (line (text "yes") []) → Replied a o b n
   unfolding reply reply_line
   yes_replied e = replied room (rw e) yes_long
 
-  pub read_replied : {i : ℕ} → a ≡ NoRead i → i < 2 ^ 64 → Put o 0 b n (line (text "no read") (i ∷ [])) → Replied a o b n
+  pub read_replied : {i : ℕ} → a ≡ Ok (NoRead i) → i < 2 ^ 64 → Put o 0 b n (line (text "no read") (i ∷ [])) → Replied a o b n
   unfolding reply reply_line
   read_replied {i} e l = replied room (rw e) (read-long i l)
 
-  pub members_replied : a ≡ NoMembers → Put o 0 b n (line (text "no members") []) → Replied a o b n
+  pub members_replied : a ≡ Ok NoMembers → Put o 0 b n (line (text "no members") []) → Replied a o b n
   unfolding reply reply_line
   members_replied e = replied room (rw e) members_long
 
-  pub pair_replied : {c d : ℕ} → a ≡ NoPair c d → c < 2 ^ 64 → d < 2 ^ 64 → Put o 0 b n (line (text "no pair") (c ∷ d ∷ [])) → Replied a o b n
+  pub pair_replied : {c d : ℕ} → a ≡ Ok (NoPair c d) → c < 2 ^ 64 → d < 2 ^ 64 → Put o 0 b n (line (text "no pair") (c ∷ d ∷ [])) → Replied a o b n
   unfolding reply reply_line
   pair_replied {c} {d} e l k = replied room (rw e) (pair-long c d l k)
 
-  pub refused_replied : {m p : ℕ} → a ≡ Refused m p → m < 2 ^ 64 → p < 2 ^ 64 → Put o 0 b n (refused_line m p) → Replied a o b n
+  pub refused_replied : {d : Refusal} → a ≡ Err d → cause_no d.cause < 2 ^ 64 → d.place < 2 ^ 64 → Put o 0 b n (refused_line (cause_no d.cause) d.place) → Replied a o b n
   unfolding reply reply_line
-  refused_replied {m} {p} e l k = replied room (rw e) (refused_length m p l k)
+  refused_replied {d} e l k = replied room (rw e) (refused_length (cause_no d.cause) d.place l k)

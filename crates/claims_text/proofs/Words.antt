@@ -1,79 +1,55 @@
--- What the loops over a word keep, and what its tests leave.
+-- What the loop over a word keeps, and what its tests leave.
 use Prim.Native.Nat.{ℕ, ◌+◌, ◌-◌, ◌*◌, ◌^◌, ◌<◌, ◌≤◌}
 use mathlib.Core.Path.{◌≡◌, refl, ap, sym, ◌∙◌}
-use mathlib.Core.Bool.{true, false, not}
+use mathlib.Core.Bool.{Bool, true, false, not}
 use mathlib.Core.List.{List}
-use mathlib.Core.Logic.{⊎_elim}
+use mathlib.Core.Logic.{◌⊎◌, ⊎_elim}
 use native.Mathlib.Omega.{arith}
 use native.Mathlib.Numerals.{add-one}
 use native.Mathlib.Nat.{pow-suc, pow-le-pow_right}
 use lib.ListN.{length, get_or, drop}
-use lib.Seq.{drop-cons, drop-length}
+use lib.Seq.{drop-cons}
+use lib.Pointwise.{pointwise, bytes_decides}
 use lib.Dec.{ltb, eqb}
 use borrow.Author.Tests.{lt-ltb, le-ltb, eq-eqb, ne_eqb}
-use Rattle.base.specs.Base.{◌and◌, pick, some, first, first_of}
-use Rattle.base.proofs.Tests.{is_false, both, and_on, and_no_left, and_no_right, pick_on, pick_off, split}
-use Rattle.text.specs.Lines.{text, level_word}
-use Rattle.text.specs.Digits.{denoted_from, denoted}
-use Rattle.claims_rules.specs.Words.{is_same_word, is_word_of, level_named, is_other, is_short, number_named}
-use Rattle.claims_rules.proofs.Words.{same_iff, short_few, short_numeral}
-
--- ── two words, the same up to byte i ──
-
-pub record Comparing (v w : List ℕ) (i : ℕ) : Type 0 where
-  pub within : i ≤ length v
-  pub long : length v ≡ length w
-  pub whole : is_same_word (drop i v) (drop i w) ≡ is_same_word v w
-
-module _ (v w : List ℕ) where
-  pub other_length : (length v ≡ length w → ⊥) → is_same_word v w ≡ false
-  other_length d = is_false _ (λ t. d (ap length ((same_iff v w).0 t)))
-
-  pub comparing_none : length v ≡ length w → Comparing v w 0
-  comparing_none e = record { within = omega arith; long = e; whole = refl }
-
-module _ {v w : List ℕ} where
-  module _ {i : ℕ} (x : Comparing v w i) where
-    pub comparing_all : length v ≤ i → is_same_word v w ≡ true
-    unfolding is_same_word
-    comparing_all g =
-        let e : i ≡ length v = omega (arith, x.within) in sym x.whole ∙ rw (e, drop-length v, x.long, drop-length w)
-
-    module _ (l : i < length v) where
-      next_byte : is_same_word v w ≡ eqb (get_or v i 0) (get_or w i 0) and is_same_word (drop (i + 1) v) (drop (i + 1) w)
-      unfolding is_same_word
-      next_byte = sym x.whole ∙ rw (add-one i, drop-cons v i 0 l, drop-cons w i 0 (omega (arith, x.long)))
-
-      pub comparing_more : get_or v i 0 ≡ get_or w i 0 → Comparing v w (i + 1)
-      comparing_more e =
-          record { within = omega arith; long = x.long; whole = sym (next_byte ∙ and_on _ _ (eq-eqb _ _ e)) }
-
-      pub comparing_other : (get_or v i 0 ≡ get_or w i 0 → ⊥) → is_same_word v w ≡ false
-      comparing_other d = next_byte ∙ and_no_left _ _ (ne_eqb _ _ d)
+use Rattle.std.specs.Prelude.{MatchBool, MatchOption, Result, Ok, Err}
+use Rattle.std.specs.Result.{OkIff, result_ok}
+use Rattle.std.specs.List.{AllWithin, HoldsAt}
+use Rattle.std.proofs.lemmas.List.{drop_all}
+use Rattle.base.specs.Base.{◌and◌, some}
+use Rattle.base.proofs.Searches.{some-none, some_of_lem}
+use Rattle.base.proofs.Tests.{clash, both, and_on, and_no_left, and_no_right, or_on, or_left, or_right, pick_on, pick_off, split}
+use Rattle.text.specs.Lines.{level_word}
+use Rattle.text.specs.Digits.{IsDigit, denoted_from, denoted}
+use Rattle.claims_rules.specs.Words.{level_named, is_other, is_short, number_named}
+use Rattle.claims_rules.proofs.Words.{level_named_iff, short_few, short_numeral}
 
 -- ── levels ──
 
 module _ (w : List ℕ) where
-  -- their words, one after the other
-  level_by : level_named w ≡ pick (is_same_word w (text "rc")) 1 (pick (is_same_word w (text "ra")) 2 (pick (is_same_word w (text "tcc")) 3 0))
-  unfolding pick first first_of level_word is_word_of level_named
-  level_by = refl
+  -- w and the word v of a level, compared
+  module _ (l : ℕ) (a : 1 ≤ l) (b : l ≤ 3) {v : List ℕ} (e : v ≡ level_word l) where
+    pub level_is : true ≡ pointwise eqb w v → l ≡ level_named w
+    level_is t = sym ((level_named_iff w l a b).1 ((bytes_decides w v).0 (sym t) ∙ e))
 
-  pub level_rc : is_same_word w (text "rc") ≡ true → level_named w ≡ 1
-  level_rc e = level_by ∙ pick_on _ _ _ e
-
-  module _ (a : is_same_word w (text "rc") ≡ false) where
-    pub level_ra : is_same_word w (text "ra") ≡ true → level_named w ≡ 2
-    level_ra e = level_by ∙ pick_off _ _ _ a ∙ pick_on _ _ _ e
-
-    module _ (b : is_same_word w (text "ra") ≡ false) where
-      pub level_tcc : is_same_word w (text "tcc") ≡ true → level_named w ≡ 3
-      level_tcc e = level_by ∙ pick_off _ _ _ a ∙ pick_off _ _ _ b ∙ pick_on _ _ _ e
-
-      pub level_none : is_same_word w (text "tcc") ≡ false → level_named w ≡ 0
-      level_none e = level_by ∙ pick_off _ _ _ a ∙ pick_off _ _ _ b ∙ pick_off _ _ _ e
+    pub level_other : false ≡ pointwise eqb w v → level_named w ≡ l → ⊥
+    level_other t n = clash ((bytes_decides w v).1 ((level_named_iff w l a b).0 n ∙ sym e)) (sym t)
 
 -- ── the tests of a number's word ──
+
+-- a byte is no digit
+abbrev pub IsOther : ℕ → Type 0
+IsOther d = (d < 48) ⊎ (57 < d)
+
+-- what `any` answers of the bytes
+pub other_is : (w : List ℕ) (r : Bool) → MatchBool r ((k : ℕ) × (k < length w) × HoldsAt IsOther w k) (AllWithin IsDigit w 0 (length w))
+    → r ≡ some 0 (length w) (is_other w)
+unfolding is_other
+other_is w true h =
+    sym
+    (some_of_lem (is_other w) (length w) 0 h.0 (omega arith) h.1
+    (⊎_elim (λ a. or_left _ _ (lt-ltb _ _ a)) (λ a. or_right _ _ (lt-ltb _ _ a)) (h.2 0)))
+other_is w false h = sym (some-none (is_other w) (length w) 0 (λ i a l. let d = h i 0 a l in or_on _ _ (le-ltb _ _ d.from) ∙ le-ltb _ _ d.to))
 
 module _ (w : List ℕ) where
   pub short_none : length w < 1 → is_short w ≡ false
@@ -107,19 +83,18 @@ module _ (w : List ℕ) where
 -- ── the number n of the first i bytes ──
 
 pub record Denoting (w : List ℕ) (n i : ℕ) : Type 0 where
-  pub within : i ≤ length w
   pub small : n < 10 ^ i
   pub whole : denoted_from n (drop i w) ≡ denoted w
 
 module _ {w : List ℕ} where
   pub denoting_none : Denoting w 0 0
   unfolding denoted
-  denoting_none = record { within = omega arith; small = omega arith; whole = refl }
+  denoting_none = record { small = omega arith; whole = refl }
 
   module _ {n i : ℕ} (x : Denoting w n i) where
     pub denoting_all : length w ≤ i → n ≡ denoted w
     unfolding denoted_from
-    denoting_all g = let e : i ≡ length w = omega (arith, x.within) in rw (e, drop-length w) at x.whole
+    denoting_all g = rw (drop_all i w g) at x.whole
 
     module _ (short : is_short w ≡ true) (l : i < length w) where
       pub denoting_small : n < 1000
@@ -131,7 +106,6 @@ module _ {w : List ℕ} where
       denoting_more =
           let p : 10 ^ (i + 1) ≡ 10 ^ i * 10 = rw (add-one i) (pow-suc 10 i) in
           record {
-            within = omega arith;
             small = omega (arith, x.small, ((short_numeral w short).digits i l).to);
             whole = rw (add-one i) (rw (drop-cons w i 0 l) at x.whole);
           }
@@ -150,3 +124,9 @@ module _ (w : List ℕ) where
   pub named-is : is_short w ≡ true → denoted w < 256 → number_named w ≡ denoted w
   unfolding number_named
   named-is e l = pick_on _ _ _ (both _ _ e (lt-ltb (denoted w) 256 l))
+
+  -- what is left of n, the number of a short word, as a byte
+  pub named_byte : {E : Type 0} (r : Result ℕ E) {n : ℕ} → is_short w ≡ true → n ≡ denoted w → OkIff r (n < 256) n
+      → MatchOption (result_ok r) (number_named w ≡ 256) (λ m. number_named w ≡ m)
+  named_byte (Ok x) s e k = named-is s (omega (arith, k.0)) ∙ sym e ∙ sym k.1
+  named_byte (Err y) s e k = named-over (omega arith)

@@ -3,7 +3,7 @@ use Rattle.std.specs.Prelude.{ℕ, ◌≤◌, List, length}
 use Rattle.show.specs.Laid.{Put}
 use Rattle.claims_rules.specs.Claims.{reply}
 use Rattle.claims_rules.specs.Lines.{reply_line}
-use Rattle.claims_rules.specs.declared.ClaimAnswer.{ClaimAnswer}
+use Rattle.claims_rules.specs.Claims.{ClaimAnswer}
 
 -- that of a was put into o, which made b of it; it ends at n
 pub record Replied (a : ClaimAnswer) (o b : List ℕ) (n : ℕ) : Type 0 where

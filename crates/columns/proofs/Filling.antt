@@ -63,7 +63,7 @@ module _ (c : List ℕ) (n s : ℕ) where
   width_miss e l m = let q : s - 1 + 1 ≡ s = omega arith in e ∙ ap (last (says_column c)) (sym q) ∙ last_miss (says_column c) (s - 1) m
 
   module _ (e : last (says_column c) n ≡ last (says_column c) s) where
-    pub width_hit : 0 < s → says_column c (s - 1) ≡ true → s ≡ last (says_column c) n + 1
+    pub width_hit : 0 < s → says_column c (s - 1) ≡ true → s - 1 + 1 ≡ last (says_column c) n + 1
     width_hit l t =
         let q : s - 1 + 1 ≡ s = omega arith in
         let r : last (says_column c) s ≡ s - 1 = rw q at (last_hit (says_column c) (s - 1) t) in

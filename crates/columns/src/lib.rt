@@ -26,12 +26,8 @@ pub fn fill_columns(h: &[u64], p: &[u8; 128], c: &mut [u8; 128])
     requires { Settled h.now × Priors (history_of h.now) p.now × Blank c.old }
     ensures { Numbered (history_of h.now) c.new }
 {
-    let n = table::txs(h);
-    let mut t = 1;
-    while t <= n {
-        let x = column(h, p, c, t);
-        c[t] = x;
-        t += 1;
+    for t in 1..=table::txs(h) {
+        c[t] = column(h, p, c, t);
     }
 }
 
@@ -48,12 +44,10 @@ pub fn width(c: &[u8; 128], n: usize) -> usize
     requires { n ≤ 128 }
     ensures { result ≡ last (says_column c.now) n + 1 }
 {
-    let mut s = n;
-    while 1 < s {
-        if is_column(c, s - 1) {
-            return s;
+    for s in (1..n).rev() {
+        if is_column(c, s) {
+            return s + 1;
         }
-        s -= 1;
     }
     1
 }

@@ -6,7 +6,7 @@ use mathlib.Core.List.{List}
 use native.Mathlib.Omega.{arith}
 use lib.ListN.{length}
 use Rattle.rules.specs.Outcome.{Report, declining, rejecting, accepting, reported, Outcome, outcome}
-use Rattle.rules.specs.declared.Answer.{Answer}
+use Rattle.rules.specs.Outcome.{Answer}
 use Rattle.rules.proofs.Outcome.{ReportIs, says_declined, says_rejected, says_accepted, says}
 use Rattle.demand1.proofs.Lengths.{refused_small}
 use Rattle.demand2.specs.Accepted.{AcceptsTrace}

@@ -9,7 +9,7 @@ use Rattle.base.specs.Base.{pick}
 use Rattle.base.proofs.Tests.{clash, pick_of, split}
 use Rattle.rules.specs.Reading.{Reading, refused, read, reading}
 use Rattle.rules.specs.Outcome.{Report, reported}
-use Rattle.rules.specs.declared.Answer.{Answer}
+use Rattle.rules.specs.Outcome.{Answer}
 use Rattle.rules.proofs.Outcome.{ReportIs, says_declined, says_rejected, says_accepted, says}
 use Rattle.demand1.specs.Rows.{Refuses}
 use Rattle.demand1.proofs.Lawful.{lawful_history}

@@ -2,7 +2,7 @@
 use Rattle.std.specs.Prelude.{ℕ, ◌≤◌, Bool, true, false, List, length}
 use Rattle.base.specs.Base.{pick}
 use Rattle.rules.specs.Outcome.{Verdict, declines, rejects, accepts}
-use Rattle.rules.specs.declared.Answer.{Answer}
+use Rattle.rules.specs.Outcome.{Answer}
 use Rattle.demands.specs.Demands.{Demands}
 
 -- r is answered of the trace s at a level and meets the demands, with room for every order and whatever room for lists, it may be none

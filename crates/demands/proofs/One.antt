@@ -3,7 +3,7 @@ use Prim.Native.Nat.{ℕ}
 use mathlib.Core.Path.{◌≡◌, refl, ap, sym, ◌∙◌}
 use mathlib.Core.List.{List}
 use Rattle.rules.specs.Outcome.{Report, reported, Outcome, outcome, judged}
-use Rattle.rules.specs.declared.Answer.{Answer}
+use Rattle.rules.specs.Outcome.{Answer}
 use Rattle.rules.proofs.Outcome.{reported_one, ReportIs, says_declined, says_rejected, says_accepted, says}
 use Rattle.demand2.proofs.Accepted.{order-written_one}
 use Rattle.demand2.proofs.Traces.{accepted_trace, order-trace}

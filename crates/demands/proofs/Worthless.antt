@@ -9,7 +9,7 @@ use Rattle.rules.specs.Outcome.{Verdict, declines, accepts, Report, declining, r
 use Rattle.rules.specs.Traces.{room}
 use Rattle.rules.specs.Cases.{Case, all, table}
 use Rattle.rules.proofs.Cases.{at_each}
-use Rattle.rules.specs.declared.Answer.{Answer}
+use Rattle.rules.specs.Outcome.{Answer}
 use Rattle.rules.proofs.Outcome.{verdict_no, ReportIs, says_declined, says_rejected, says_accepted, says}
 use Rattle.demand1.proofs.Readings.{history_one}
 use Rattle.demand2.specs.Accepted.{AcceptsTrace}

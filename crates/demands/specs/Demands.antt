@@ -3,7 +3,7 @@
 use Rattle.std.specs.Prelude.{ℕ, ◌≤◌, ◌≡◌, List, ◌↔◌, length}
 use Rattle.rules.specs.History.{History}
 use Rattle.rules.specs.Outcome.{declines, declining, rejecting, accepting, reported, outcome}
-use Rattle.rules.specs.declared.Answer.{Answer}
+use Rattle.rules.specs.Outcome.{Answer}
 use Rattle.demand1.specs.Rows.{HasHistory}
 use Rattle.demand2.specs.Kinds.{AllClean}
 use Rattle.demand2.specs.Axiom.{HasOrder}

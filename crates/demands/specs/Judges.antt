@@ -2,7 +2,7 @@
 use Rattle.std.specs.Prelude.{ℕ, ◌≡◌, List, length}
 use Rattle.rules.specs.History.{History}
 use Rattle.rules.specs.Outcome.{Verdict, declines, rejecting, reported}
-use Rattle.rules.specs.declared.Answer.{Answer}
+use Rattle.rules.specs.Outcome.{Answer}
 use Rattle.demand1.specs.Rows.{HasHistory}
 use Rattle.demand3.specs.Rejected.{FindingCount, PairCount}
 use Rattle.demands.specs.Declined.{Declines}

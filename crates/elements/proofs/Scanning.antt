@@ -1,7 +1,7 @@
 -- Looking at the elements of a list one by one.
 use Prim.Native.Nat.{ℕ, ◌+◌, ◌<◌, ◌≤◌}
 use mathlib.Core.Path.{◌≡◌, refl, ap, sym, ◌∙◌}
-use mathlib.Core.Bool.{Bool, true, false, not}
+use mathlib.Core.Bool.{Bool, true, false, not, ◌||◌}
 use mathlib.Core.List.{List}
 use mathlib.Core.Logic.{◌⊎◌, inl, inr, ⊎_elim}
 use native.Mathlib.Omega.{arith}
@@ -19,7 +19,9 @@ use Rattle.rules.specs.History.{append_key}
 use Rattle.appends_rules.specs.Appends.{append_of, appender_of}
 use Rattle.appends_rules.specs.ListKinds.{element, is_lost, same_element, is_again, is_undone, last_element, is_half, is_half_by}
 use Rattle.rules.specs.Reads.{wrote_between}
-use Rattle.elements.specs.Elements.{worst, worse_by, is_aborted, Visited, fault_kind, has_append, mark_of, Fresh, Scanned}
+use Rattle.elements.specs.declared.ListKind.{ListKind}
+use Rattle.elements.specs.declared.ListKind.TheVariants.{Lost, Again, Undone, Half, Apart}
+use Rattle.elements.specs.Elements.{number_of, worst, is_aborted, Visited, fault_kind, has_append, mark_of, Fresh, Scanned}
 
 -- ── appends ──
 
@@ -38,14 +40,19 @@ module _ (h : History) (x v : ℕ) (z : 0 < append_of h x v) where
 
 -- ── kinds ──
 
-pub worse_is : (a u b v : Bool) → worse_by (worst a u) b v ≡ worst (a or b) (u or v)
-unfolding worse_by worst pick ◌or◌
-worse_is true u true v = refl
-worse_is true u false v = refl
-worse_is false true true v = refl
-worse_is false true false v = refl
-worse_is false false true v = refl
-worse_is false false false v = refl
+-- a kind's number is not below 7
+pub number-low : (k : ListKind) → 7 ≤ number_of k
+number-low Lost = omega arith
+number-low Again = omega arith
+number-low Undone = omega arith
+number-low Half = omega arith
+number-low Apart = omega arith
+
+-- what the code writes for it
+or_is : (a b : Bool) → a || b ≡ a or b
+unfolding ◌or◌
+or_is true b = refl
+or_is false b = refl
 
 -- one number more
 some_more : (p : ℕ → Bool) (q : ℕ) → some 0 (q + 1) p ≡ some 0 q p or p q
@@ -53,28 +60,30 @@ some_more p q =
     ifso (p q) (λ t. top_hit p 0 q (omega arith) t ∙ sym (or_right _ _ t)) (λ t. top_miss p 0 q t ∙ sym (or_off _ _ t))
 
 module _ (h : History) (x : ℕ) (e : List ℕ) (i : ℕ) (k : List ℕ) where
-  -- the first q elements were looked at: none is lost, `kind` is the kind so far, and k has become m
-  pub record Scanning (m : List ℕ) (kind q : ℕ) : Type 0 where
+  -- the first q elements were looked at: none is lost, `again` and `undone` say whether one came again or is undone, and k has become m
+  pub record Scanning (m : List ℕ) (again undone : Bool) (q : ℕ) : Type 0 where
     pub within : q ≤ length e
     pub lost : some 0 (length e) (is_lost h x e) ≡ some q (length e) (is_lost h x e)
     pub there : (j : ℕ) → j < q → 0 < append_of h x (element e j)
-    pub kind_is : kind ≡ worst (some 0 q (is_again e)) (some 0 q (is_undone h x e))
+    pub again_is : again ≡ some 0 q (is_again e)
+    pub undone_is : undone ≡ some 0 q (is_undone h x e)
     pub room : length m ≡ 1025
     pub marks : (w : ℕ) → get_or m w 0 ≡ mark_of h x e i k q w
 
-  pub scan_start : Fresh h x i k → Scanning k 0 0
-  unfolding worst mark_of pick
+  pub scan_start : Fresh h x i k → Scanning k false false 0
+  unfolding mark_of pick
   scan_start f =
       record {
         within = omega arith;
         lost = refl;
         there = λ j l. absurd (omega arith);
-        kind_is = rw (some_end (is_again e) 0 0 (omega arith), some_end (is_undone h x e) 0 0 (omega arith));
+        again_is = sym (some_end (is_again e) 0 0 (omega arith));
+        undone_is = sym (some_end (is_undone h x e) 0 0 (omega arith));
         room = f.room;
         marks = λ w. rw (some_end (has_append h x e w) 0 0 (omega arith));
       }
 
-  module _ (f : Fresh h x i k) {m : List ℕ} {kind q : ℕ} (z : Scanning m kind q) where
+  module _ (f : Fresh h x i k) {m : List ℕ} {again undone : Bool} {q : ℕ} (z : Scanning m again undone q) where
     -- only appends have got another number
     kept : (w : ℕ) → (get_or m w 0 ≡ get_or k w 0) ⊎ ((get_or m w 0 ≡ i) × (keyed h (append_key x) w ≡ true))
     unfolding mark_of has_append
@@ -127,23 +136,22 @@ module _ (h : History) (x : ℕ) (e : List ℕ) (i : ℕ) (k : List ℕ) where
             kept = kept;
           }
 
-      pub scan_on : {n : List ℕ} {r : ℕ} (w : ℕ) → w ≡ append_of h x (element e q) → 0 < w → w < 1025 → Visited h m n i w kind r → Scanning n r (q + 1)
+      pub scan_on : {n : List ℕ} {r t : Bool} (w : ℕ) → w ≡ append_of h x (element e q) → 0 < w → w < 1025 → Visited m n i w r → t ≡ is_aborted h w
+          → Scanning n (again || r) (undone || t) (q + 1)
       unfolding is_lost is_aborted is_undone appender_of mark_of has_append
-      scan_on {n} {r} w a b c d =
+      scan_on {n} {r} {t} w a b c d f =
           record {
             within = omega arith;
             lost = z.lost ∙ some_miss (is_lost h x e) q (length e) l (ne_eqb (append_of h x (element e q)) 0 (λ y. omega (arith, a, y)));
             there = λ j g. ⊎_elim (λ (y : j < q). z.there j y) (λ (y : q ≤ j). let g : j ≡ q = omega arith in rw g (omega (arith, a, b))) (split j q);
-            kind_is =
-                d.kind_is
-                ∙ rw (z.kind_is, again-is w a b, undone_is)
-                (worse_is _ _ _ _ ∙ rw (some_more (is_again e) q, some_more (is_undone h x e) q));
+            again_is = or_is again r ∙ rw (z.again_is, d.again_is, again-is w a b, some_more (is_again e) q);
+            undone_is = or_is undone t ∙ rw (z.undone_is, f, undone_here, some_more (is_undone h x e) q);
             room = ap length d.is ∙ length-set m w i ∙ z.room;
             marks = λ u. ap (λ (g : List ℕ). get_or g u 0) d.is ∙ marks_on u;
           }
         where
-          undone_is : is_aborted h w ≡ is_undone h x e q
-          undone_is = ap (λ (u : ℕ). eqb (tx h (op h u).tx).status 0) a
+          undone_here : is_aborted h w ≡ is_undone h x e q
+          undone_here = ap (λ (u : ℕ). eqb (tx h (op h u).tx).status 0) a
 
           marks_on : (u : ℕ) → get_or (set m w i) u 0 ≡ mark_of h x e i k (q + 1) u
           marks_on u =
@@ -159,12 +167,12 @@ module _ (h : History) (x : ℕ) (e : List ℕ) (i : ℕ) (k : List ℕ) where
               ∙ ap (λ (y : Bool). pick y i (get_or k u 0))
               (sym (top_miss (has_append h x e u) 0 q (ne_eqb (append_of h x (element e q)) u (λ y. g (sym (a ∙ y)))))))
 
-    pub scan_end : length e ≤ q → Scanned h x e i k m kind
+    pub scan_end : {r : ℕ} → length e ≤ q → r ≡ worst again undone → Scanned h x e i k m r
     unfolding fault_kind
-    scan_end l =
+    scan_end l is =
         let g : q ≡ length e = omega (arith, z.within) in
         record {
-          kind = z.kind_is ∙ rw g (sym (pick_off _ _ _ (z.lost ∙ some_end (is_lost h x e) q (length e) l)));
+          kind = is ∙ rw (z.again_is, z.undone_is, g) (sym (pick_off _ _ _ (z.lost ∙ some_end (is_lost h x e) q (length e) l)));
           room = z.room;
           kept = kept;
         }

@@ -1,12 +1,14 @@
 -- One list read: where its list stands in the trace, and what is found out about it. k has a number for each operation; with an append it is the number of
 -- the last list read that has its value, so that an element that comes again is found out without a look at the others.
-use Rattle.std.specs.Prelude.{ℕ, ◌+◌, ◌*◌, ◌≤◌, ◌<◌, ◌≡◌, Bool, true, List, ◌⊎◌, length, get_or, set, eqb}
+use Rattle.std.specs.Prelude.{ℕ, ◌+◌, ◌*◌, ◌≤◌, ◌<◌, ◌≡◌, Bool, true, Option, None, Some, List, ◌⊎◌, length, get_or, set, eqb}
 use Rattle.base.specs.Base.{pick, some}
 use Rattle.rules.specs.History.{History, tx, op, append_key}
 use Rattle.rules.specs.Records.{number_at}
 use Rattle.table.specs.Table.{Held, keyed}
 use Rattle.appends_rules.specs.Appends.{append_of}
 use Rattle.appends_rules.specs.ListKinds.{element, is_lost, is_again, is_undone}
+use Rattle.elements.specs.declared.ListKind.{ListKind}
+use Rattle.elements.specs.declared.ListKind.TheVariants.{Lost, Again, Undone, Half, Apart}
 
 -- the list in the record at p is in the trace s, and has n elements
 pub record ListAt (s : List ℕ) (p n : ℕ) : Type 0 where
@@ -19,24 +21,34 @@ pub record KeyedList (s h : List ℕ) (p n x : ℕ) : Type 0 where
   pub small : x < 4294967296
   pub at : ListAt s p n
 
+-- ── kinds ──
+
+-- the number of a kind; 0 where there is none
+abbrev pub number_of : ListKind → ℕ
+number_of Lost = 7
+number_of Again = 8
+number_of Undone = 9
+number_of Half = 10
+number_of Apart = 11
+
+abbrev pub number_or_0 : Option ListKind → ℕ
+number_or_0 None = 0
+number_or_0 (Some k) = number_of k
+
 -- ── elements at fault ──
 
 -- 8 or 9, by whether an element came again, or is of an aborted transaction; 0 where neither is
 unfoldable pub worst : Bool → Bool → ℕ
 worst again undone = pick again 8 (pick undone 9 0)
 
--- the kind so far, and what the next element adds
-unfoldable pub worse_by : ℕ → Bool → Bool → ℕ
-worse_by kind again undone = pick again 8 (pick (eqb kind 0) (pick undone 9 0) kind)
-
 -- the transaction of append w aborted
 unfoldable pub is_aborted : History → ℕ → Bool
 is_aborted h w = eqb (tx h (op h w).tx).status 0
 
--- list read i has come to append w: k becomes m, and the kind so far, `kind`, becomes r
-pub record Visited (h : History) (k m : List ℕ) (i w kind r : ℕ) : Type 0 where
+-- list read i has come to append w, and k becomes m; `again`: it had come to it before
+pub record Visited (k m : List ℕ) (i w : ℕ) (again : Bool) : Type 0 where
   pub is : m ≡ set k w i
-  pub kind_is : r ≡ worse_by kind (eqb (get_or k w 0) i) (is_aborted h w)
+  pub again_is : again ≡ eqb (get_or k w 0) i
 
 -- the first of kinds 7, 8 and 9 that fits the list e of x
 unfoldable pub fault_kind : History → ℕ → List ℕ → ℕ

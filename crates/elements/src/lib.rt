@@ -1,19 +1,19 @@
 // One list read: its elements, read from the trace where its record stands, and what is at fault with them.
 #![tactic(auto)]
 
-ghost use Rattle.std.specs.Prelude.{◌≡◌, ◌+◌, ◌*◌, ◌≤◌, ◌<◌, length};
+ghost use Rattle.std.specs.Prelude.{◌≡◌, ◌⊎◌, MatchOption, ◌+◌, ◌*◌, ◌≤◌, ◌<◌, length};
 ghost use Rattle.rules.specs.History.{op, op_count};
 ghost use Rattle.rules.specs.Records.{number_at};
 ghost use Rattle.table.specs.Table.{history_of, Held, HasOp, Below};
 ghost use Rattle.appends_rules.specs.Appends.{value_at, values_at, append_of};
 ghost use Rattle.appends_rules.specs.ListKinds.{element, in_line, is_half, is_half_by};
-ghost use Rattle.elements.specs.Elements.{ListAt, KeyedList, is_aborted, worse_by, Visited, Fresh, Scanned};
+ghost use Rattle.elements.specs.Elements.{ListAt, KeyedList, number_of, is_aborted, Visited, Fresh, Scanned};
 
 // One of the numbers in k, as the numbers of operations are: read so, it is asked only where it stands, not whether it fits.
 pub fn wide(x: u16) -> usize
     ensures { result ≡ x }
 {
-    x as usize
+    usize::from(x)
 }
 
 // How many elements the list in the record at p has: "a 2-byte number".
@@ -21,7 +21,7 @@ pub fn length_at(s: &[u8], p: usize) -> usize
     requires { p + 16 ≤ length s.now }
     ensures { result ≡ number_at s.now p }
 {
-    frame::u16_at(s, p + 14) as usize
+    usize::from(frame::u16_at(s, p + 14))
 }
 
 // Its element q, from 0.
@@ -48,6 +48,45 @@ pub fn append_at(s: &[u8], h: &[u64], p: usize, n: usize, x: u64, q: usize) -> u
     append_of(h, x, value_at(s, p, q))
 }
 
+// ── kinds ──
+
+// The kinds of unclean list reads, with their numbers.
+#[derive(Clone, Copy)]
+pub enum ListKind {
+    // An element was "never appended".
+    Lost = 7,
+    // One is "equal to an earlier one".
+    Again = 8,
+    // The "appender has status 0" of one.
+    Undone = 9,
+    // "the last element's append is in another transaction that later appended to the key again"
+    Half = 10,
+    // "neither it nor some earlier clean list of the key starts with the other"
+    Apart = 11,
+}
+
+impl ListKind {
+    // The kind of a number; none where it is no kind's.
+    pub fn from_number(n: u8) -> Option<ListKind>
+        ensures { MatchOption result ((n < 7) ⊎ (11 < n)) (λ k. number_of k ≡ n) }
+    {
+        match n {
+            7 => Some(ListKind::Lost),
+            8 => Some(ListKind::Again),
+            9 => Some(ListKind::Undone),
+            10 => Some(ListKind::Half),
+            11 => Some(ListKind::Apart),
+            _ => None,
+        }
+    }
+
+    pub fn number(self) -> u8
+        ensures { result ≡ number_of self }
+    {
+        self as u8
+    }
+}
+
 // ── kinds 7, 8 and 9 ──
 
 // Whether the append w is of an aborted transaction.
@@ -58,48 +97,37 @@ pub fn is_aborted(h: &[u64], w: usize) -> bool
     table::status_of(h, table::tx_of(h, w)) == 0
 }
 
-// The kind that is known so far, 8, 9 or 0, and what the next element adds: 8 comes before 9.
-fn worse(kind: u8, again: bool, undone: bool) -> u8
-    ensures { result ≡ worse_by kind again undone }
-{
-    if again {
-        return 8;
-    }
-    if kind != 0 {
-        return kind;
-    }
-    if undone {
-        return 9;
-    }
-    0
-}
-
-// The append w gets the number i of the list read that has come to it. If it has that number already, its value came earlier in the list.
-fn visit(h: &[u64], k: &mut [u16], i: usize, w: usize, kind: u8) -> u8
-    requires { HasOp h.now w × (length k.old ≡ 1025) × (i ≤ 1024) }
-    ensures { Visited (history_of h.now) k.old k.new i w kind result }
+// The append w gets the number i of the list read that has come to it. Whether it had that number already: then its value came earlier in the list.
+fn visit(k: &mut [u16], i: usize, w: usize) -> bool
+    requires { (length k.old ≡ 1025) × (i ≤ 1024) × (w ≤ 1024) }
+    ensures { Visited k.old k.new i w result }
 {
     let again = wide(k[w]) == i;
     k[w] = i as u16;
-    worse(kind, again, is_aborted(h, w))
+    again
 }
 
 // The first of kinds 7, 8 and 9 that fits the list at p, which list read i has; 0 where none does. One look at each element.
+// Kept (1): the answer is the number that `grading` puts into its table of fixed memory, one number for each operation.
 pub fn scan(s: &[u8], h: &[u64], k: &mut [u16], i: usize, p: usize, n: usize, x: u64) -> u8
     requires { KeyedList s.now h.now p n x × Fresh (history_of h.now) x i k.old }
     ensures { Scanned (history_of h.now) x (values_at s.now p) i k.old k.new result }
 {
-    let mut kind = 0;
-    let mut q = 0;
-    while q < n {
+    let mut again = false;
+    let mut undone = false;
+    for q in 0..n {
         let w = append_at(s, h, p, n, x, q);
         if w == 0 {
-            return 7;
+            return ListKind::Lost.number();
         }
-        kind = visit(h, k, i, w, kind);
-        q += 1;
+        again |= visit(k, i, w);
+        undone |= is_aborted(h, w);
     }
-    kind
+    match (again, undone) {
+        (true, _) => ListKind::Again.number(),
+        (false, true) => ListKind::Undone.number(),
+        (false, false) => 0,
+    }
 }
 
 // ── kind 10 ──
@@ -136,15 +164,5 @@ pub fn in_line(s: &[u8], p: usize, n: usize, o: usize, m: usize) -> bool
     requires { ListAt s.now p n × ListAt s.now o m }
     ensures { result ≡ in_line (values_at s.now p) (values_at s.now o) }
 {
-    let mut q = 0;
-    while q < n {
-        if m <= q {
-            return true;
-        }
-        if value_at(s, p, q) != value_at(s, o, q) {
-            return false;
-        }
-        q += 1;
-    }
-    true
+    (0..n.min(m)).all(|q| value_at(s, p, q) == value_at(s, o, q))
 }

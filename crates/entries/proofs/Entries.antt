@@ -1,19 +1,17 @@
 -- The lists in the buffers: what the bytes of their entries are, and how the lines of all of them follow.
-use Prim.Native.Nat.{ℕ, zero, suc, ◌+◌, ◌-◌, ◌*◌, ◌<◌, ◌≤◌}
-use mathlib.Core.Path.{◌≡◌, refl, ap, sym, ◌∙◌}
-use mathlib.Core.List.{List, [], ◌∷◌}
+use Prim.Native.Nat.{ℕ, ◌+◌, ◌-◌, ◌*◌, ◌<◌, ◌≤◌}
+use mathlib.Core.Path.{◌≡◌, ap, sym, ◌∙◌}
+use mathlib.Core.List.{List}
 use native.Mathlib.Nat.{mul-add}
 use native.Mathlib.Omega.{arith}
 use native.Mathlib.Numerals.{add-one}
 use lib.ListN.{length, get_or, drop, length-append}
 use lib.Seq.{drop-cons}
+use Rattle.std.proofs.lemmas.List.{drop_all}
 use Rattle.base.specs.Base.{listed, joined}
 use Rattle.base.proofs.Searches.{downward, listed-step, listed_end, listed_same, joined_length, joined_at}
 use Rattle.rules.specs.Numbers.{le, over}
 use Rattle.rules.proofs.Numbers.{le_same, over-at}
-use Rattle.text.specs.Lines.{line, read_line}
-use Rattle.entries.specs.declared.Lines.TheVariants.{ReadLines}
-use Rattle.entries.specs.Entries.{pair_entry, entry_line}
 
 -- ── what is written over a buffer ──
 
@@ -43,24 +41,6 @@ module _ {A : Type 0} (f : A → List ℕ) (w : ℕ) (wide : (x : A) → length 
 
 -- ── lines of entries ──
 
--- from its bytes
-module _ (l : List ℕ) (i : ℕ) {a b c : ℕ} where
-  pub entry_read : {d : ℕ} → a ≡ get_or l (6 * i) 0 → b ≡ get_or l (6 * i + 1) 0 → c ≡ le 2 l (6 * i + 2) → d ≡ le 2 l (6 * i + 4)
-      → entry_line ReadLines l i ≡ read_line a c b d
-  unfolding entry_line
-  entry_read x y z w = rw (x, y, z, w)
-
-  pub entry-pair : (word : List ℕ) → a ≡ get_or l (4 * i) 0 → b ≡ get_or l (4 * i + 1) 0 → c ≡ get_or l (4 * i + 2) 0
-      → pair_entry word l i ≡ line word (a ∷ b ∷ c ∷ [])
-  unfolding pair_entry
-  entry-pair word x y z = rw (x, y, z)
-
-past_end : {A : Type 0} (l : List A) (j : ℕ) → length l ≤ j → drop j l ≡ []
-past_end [] zero h = refl
-past_end [] (suc j) h = refl
-past_end (x ∷ l) zero h = absurd (omega arith)
-past_end (x ∷ l) (suc j) h = past_end l j (omega arith)
-
 module _ {A : Type 0} (g : A → List ℕ) (d : A) (l : List A) where
   -- what g gives for the entries, one by one
   unfoldable each : ℕ → List ℕ
@@ -70,7 +50,7 @@ module _ {A : Type 0} (g : A → List ℕ) (d : A) (l : List A) where
   unfolding each joined
   each_from =
       downward (λ j. listed j (length l) each ≡ joined g (drop j l)) (length l)
-      (λ j h. listed_end each j (length l) h ∙ ap (joined g) (sym (past_end l j h)))
+      (λ j h. listed_end each j (length l) h ∙ ap (joined g) (sym (drop_all j l h)))
       (λ j h ih. listed-step each j (length l) h ∙ rw (ih, add-one j) (ap (joined g) (sym (drop-cons l j d h))))
 
   pub listed-joined : (f : ℕ → List ℕ) → ((i : ℕ) → i < length l → f i ≡ g (get_or l i d)) → listed 0 (length l) f ≡ joined g l

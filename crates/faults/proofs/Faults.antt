@@ -1,30 +1,42 @@
 -- What a list read's code says of its finding, and the finding's last field.
 use Prim.Native.Nat.{ℕ, ◌+◌, ◌-◌, ◌*◌, ◌/◌, ◌%◌, ◌<◌, ◌≤◌}
 use mathlib.Core.Path.{◌≡◌, refl, ap, sym, ◌∙◌}
-use mathlib.Core.Bool.{true, false}
+use mathlib.Core.Bool.{Bool, true, false}
 use mathlib.Core.List.{List, [], ◌∷◌}
-use mathlib.Core.Logic.{⊎_elim}
+use mathlib.Core.Logic.{◌⊎◌, ⊎_elim}
 use native.Mathlib.Omega.{arith}
 use lib.Dec.{leb}
 use lib.ListN.{length}
-use borrow.Author.Tests.{ne_eqb, lt-ltb, le-ltb, le-leb, lt-leb, ltb-true}
+use mir.Val.{bool_byte}
+use Rattle.std.specs.Prelude.{Option, None, Some, MatchOption, unwrap_or}
+use Rattle.std.specs.Bool.{MatchBool}
+use Rattle.std.specs.List.{range_with_len, AllWithin, HoldsAt}
+use Rattle.std.proofs.Common.{zero-add}
+use Rattle.std.proofs.lemmas.List.FromFn.{length-range_with_len, get_or-range_with_len}
+use borrow.Author.Tests.{eq-eqb, ne_eqb, lt-ltb, le-ltb, le-leb, lt-leb, ltb-true}
 use Rattle.base.specs.Base.{◌and◌, pick, first, listed, first_fit}
 use Rattle.base.proofs.Tests.{ifso, clash, is_false, both, and_left, and_right, and_no_left, pick_on, pick_off, split}
-use Rattle.base.proofs.Searches.{some_end, joined-those, joined_length}
+use Rattle.base.proofs.Searches.{first_cases, first-is, some_of_lem, some-none, some_end, joined-those, joined_length}
 use Rattle.base.proofs.Fill.{Appended}
 use Rattle.rules.specs.History.{History, tx, op, op_count}
 use Rattle.rules.proofs.History.{op_0, status_0}
 use Rattle.sifting.specs.Lists.{entry_at}
-use Rattle.sifting.proofs.Listings.{those-listed, room_for, put_in}
-use Rattle.appends_rules.specs.Appends.{is_list, key_of, append_of, appender_of, is_judged_list}
-use Rattle.appends_rules.specs.ListKinds.{begins, element, is_lost, is_again, is_undone, is_half, list_kind_by, list_kind, is_clean_list, is_list_finding, list_at, longest_below}
+use Rattle.sifting.proofs.Listings.{those-listed, those_most, count_more, room_for, put_in}
+use Rattle.appends_rules.specs.Appends.{is_list, key_of, append_of, appender_of, is_judged_list, value_at, values_at}
+use Rattle.appends_rules.specs.ListKinds.{begins, element, is_lost, same_element, is_again, is_undone, is_half, list_kind_by, list_kind, is_clean_list, is_list_finding, list_at, longest_below}
 use Rattle.appends_rules.specs.ListOutcome.{fault_by, fault_of, list_findings, list_finding_bytes, list_finding_list}
 use Rattle.appends_rules.proofs.Lines.{begins-none, line_left}
 use Rattle.appends_rules.proofs.Longest.{kind-by_longest, clean_kind, kind_clean}
-use Rattle.elements.specs.Elements.{is_aborted}
+use Rattle.elements.specs.Elements.{ListAt, is_aborted}
+use Rattle.elements.proofs.Lists.{at-element}
 use Rattle.grading.specs.Grades.{code_of}
-use Rattle.grading.proofs.Codes.{kind-low}
-use Rattle.faults.specs.Faults.{is_fault, finding_in}
+use Rattle.grading.proofs.Codes.{kind-low, code_most}
+use Rattle.faults.specs.Faults.{finding_in}
+
+byte-pick : (b : Bool) → bool_byte b ≡ pick b 1 0
+unfolding pick
+byte-pick true = refl
+byte-pick false = refl
 
 begins-empty : (a b : List ℕ) → length a ≡ 0 → begins a b ≡ true
 begins-empty [] b e = begins-none b
@@ -86,6 +98,20 @@ module _ (h : History) (l : ℕ → List ℕ) where
   unfolding list_findings
   faults_listed = those-listed 1 (op_count h + 1) (is_list_finding h l)
 
+  -- how many there are among the operations below i
+  abbrev pub below : ℕ → ℕ
+  below i = length (listed 1 i (entry_at (is_list_finding h l)))
+
+  -- .. and with operation i, whose code is v
+  pub below_more : (i : ℕ) {n v w : ℕ} → 1 ≤ i → n ≡ below i → v ≡ code_of h l i → w ≡ bool_byte (leb 7 v) → n + w ≡ below (i + 1)
+  below_more i a en ev ew = rw (en, ew, ev, code_finding i, byte-pick (is_list_finding h l i)) (sym (count_more (is_list_finding h l) 1 i a))
+
+  pub below_most : (i : ℕ) {n : ℕ} → n ≡ below i → n ≤ i - 1
+  below_most i e = omega (arith, e, those_most (is_list_finding h l) 1 i)
+
+  pub below_all : {i n : ℕ} → i ≡ op_count h + 1 → n ≡ below i → n ≡ length (list_findings h l)
+  below_all e f = f ∙ rw e (ap length (sym faults_listed))
+
   pub fault_list : list_finding_list h l ≡ listed 1 (op_count h + 1) (finding_in h l)
   unfolding list_finding_list list_findings finding_in
   fault_list = joined-those (list_finding_bytes h l) (is_list_finding h l) (op_count h + 1) 1
@@ -99,8 +125,8 @@ module _ (h : History) (l : ℕ → List ℕ) where
 
   -- operation i's, whose code is v
   module _ (i : ℕ) {v : ℕ} (ev : v ≡ code_of h l i) where
-    pub no_finding : v < 7 → is_list_finding h l i ≡ false
-    no_finding b = sym (code_finding i) ∙ lt-leb 7 (code_of h l i) (omega arith)
+    pub no_finding : (v < 7) ⊎ (11 < v) → is_list_finding h l i ≡ false
+    no_finding b = sym (code_finding i) ∙ lt-leb 7 (code_of h l i) (⊎_elim (λ u. omega arith) (λ u. absurd (omega (arith, code_most h l i))) b)
 
     module _ (b : 7 ≤ v) where
       is_finding : is_list_finding h l i ≡ true
@@ -129,25 +155,60 @@ module _ (h : History) (l : ℕ → List ℕ) where
             let f : w ≡ fault_by h (key_of h i) (l i) (list_kind h l i) = ew ∙ rw (ex, ee, k) in
             put_in (list_finding_bytes h l i) is_finding (rw (← et, ← f, ← k) p)
 
+-- ── the first element at fault ──
+
+-- what a search of the numbers below n for one that passes p found, if any
+pub first_found : (p : ℕ → Bool) (n : ℕ) (found : Option ℕ)
+    → MatchOption found ((k : ℕ) → 0 ≤ k → k < n → p k ≡ false) (λ q. (0 ≤ q) × (q < n) × (p q ≡ true) × ((k : ℕ) → 0 ≤ k → k < q → p k ≡ false))
+    → (unwrap_or found 0 ≡ first 0 0 n p) × (0 < n → unwrap_or found 0 < n)
+first_found p n None none = (sym (⊎_elim (λ z. z.0) (λ z. absurd (clash z.passes (none _ z.from z.to))) (first_cases 0 p n 0)), λ l. l)
+first_found p n (Some q) x = (sym (first-is 0 p n 0 q (record { from = x.0; to = x.1; passes = x.2; none = x.3 })), λ l. x.1)
+
+-- element q of the list at p, v, among those before it
+pub again_by : {s : List ℕ} {p n q v : ℕ} → ListAt s p n → q < n → v ≡ value_at s p q → (r : Bool)
+    → MatchBool r ((k : ℕ) × (k < length (range_with_len 0 q)) × HoldsAt (λ j. value_at s p j ≡ v) (range_with_len 0 q) k)
+    (AllWithin (λ j. value_at s p j ≡ v → ⊥) (range_with_len 0 q) 0 (length (range_with_len 0 q)))
+    → r ≡ is_again (values_at s p) q
+unfolding is_again same_element
+again_by {s} {p} {n} {q} {v} x l e true t =
+    let k = t.0 in
+    let m : k < q = omega (arith, t.1, length-range_with_len 0 q) in
+    let i = get_or-range_with_len 0 q k 0 m ∙ zero-add k in
+    sym
+    (some_of_lem (same_element (values_at s p) q) q 0 k (omega arith) m
+    (eq-eqb _ _ (at-element x k (omega arith) ∙ (rw i at (t.2 0)) ∙ e ∙ sym (at-element x q l))))
+again_by {s} {p} {n} {q} {v} x l e false t =
+    sym
+    (some-none (same_element (values_at s p) q) q 0
+    (λ k a m.
+    let i = get_or-range_with_len 0 q k 0 m ∙ zero-add k in
+    ne_eqb (element (values_at s p) k) (element (values_at s p) q)
+    (λ d. (rw i at (t k 0 (omega arith) (omega (arith, length-range_with_len 0 q)))) (sym (at-element x k (omega arith)) ∙ d ∙ at-element x q l ∙ sym e))))
+
 -- ── the last field ──
 
 module _ (h : History) (x : ℕ) (e : List ℕ) where
-  module _ {r w : ℕ} (k : ℕ) (z : w ≡ append_of h x (element e r)) where
-    pub fault_8 : k ≡ 8 → r ≡ first 0 0 (length e) (is_fault true h x e) → w ≡ fault_by h x e k
-    unfolding fault_by pick is_fault
-    fault_8 y a = rw y (z ∙ ap (λ (q : ℕ). append_of h x (element e q)) a)
-
-    pub fault_9 : k ≡ 9 → r ≡ first 0 0 (length e) (is_fault false h x e) → w ≡ fault_by h x e k
-    unfolding fault_by pick is_fault
-    fault_9 y a = rw y (z ∙ ap (λ (q : ℕ). append_of h x (element e q)) a)
-
-    pub fault_10 : k ≡ 10 → r ≡ length e - 1 → w ≡ fault_by h x e k
+  -- w is the append of element r; n: how many elements e has
+  module _ {n r w : ℕ} (z : w ≡ append_of h x (element e r)) where
+    pub fault_8 : length e ≡ n → r ≡ first 0 0 n (is_again e) → w ≡ fault_by h x e 8
     unfolding fault_by pick
-    fault_10 y a = rw y (z ∙ ap (λ (q : ℕ). append_of h x (element e q)) a)
+    fault_8 l a = rw l (z ∙ ap (λ (q : ℕ). append_of h x (element e q)) a)
 
-  pub fault_none : (k : ℕ) → (k ≡ 8 → ⊥) → (k ≡ 9 → ⊥) → (k ≡ 10 → ⊥) → 0 ≡ fault_by h x e k
+    pub fault_9 : length e ≡ n → r ≡ first 0 0 n (is_undone h x e) → w ≡ fault_by h x e 9
+    unfolding fault_by pick
+    fault_9 l a = rw l (z ∙ ap (λ (q : ℕ). append_of h x (element e q)) a)
+
+    pub fault_10 : length e ≡ n → r ≡ n - 1 → w ≡ fault_by h x e 10
+    unfolding fault_by pick
+    fault_10 l a = z ∙ ap (λ (q : ℕ). append_of h x (element e q)) (omega arith)
+
+  pub fault_7 : 0 ≡ fault_by h x e 7
   unfolding fault_by pick
-  fault_none k a b c = rw (ne_eqb k 8 a, ne_eqb k 9 b, ne_eqb k 10 c)
+  fault_7 = refl
+
+  pub fault_11 : 0 ≡ fault_by h x e 11
+  unfolding fault_by pick
+  fault_11 = refl
 
   -- w is element q's append
   module _ (q : ℕ) {w : ℕ} (z : w ≡ append_of h x (element e q)) where

@@ -7,13 +7,13 @@ use native.Mathlib.Omega.{arith}
 use borrow.Author.Tests.{lt-ltb, le-ltb}
 use Rattle.base.proofs.Tests.{split, pick_on, pick_off}
 use Rattle.rules.specs.Outcome.{Outcome, outcome, reported, judged}
-use Rattle.rules.specs.declared.Answer.{Answer}
+use Rattle.rules.specs.Outcome.{Answer}
 use Rattle.rules.proofs.Outcome.{judged_no_level}
 use Rattle.deciding.specs.Deciding.{decision_no, decision_of, whole_put, counts_put, decided_as, decided_by, decided}
 use Rattle.deciding.specs.declared.Decision.{Decision}
 use Rattle.claims_rules.specs.Claims.{Reply, reply, claimed}
 use Rattle.claims_rules.specs.Numbers.{reply_no, reply_bytes, in_numbers, claimed_in_numbers}
-use Rattle.claims_rules.specs.declared.ClaimAnswer.{ClaimAnswer}
+use Rattle.claims_rules.specs.Claims.{ClaimAnswer}
 use Rattle.claims_rules.proofs.Claims.{claimed_no_level}
 use Rattle.ferozhak.specs.Calls.{level_byte}
 

@@ -11,15 +11,18 @@ use Rattle.base.proofs.Tests.{ifso, clash, split, pick_on, pick_off}
 use Rattle.rules.specs.History.{History}
 use Rattle.rules.specs.Reading.{Reading, refused, read, reading}
 use Rattle.rules.specs.Outcome.{findings, Verdict, declines, rejects, accepts, Outcome, outcome, reported, is_accepted, judged}
-use Rattle.rules.specs.declared.Answer.{Answer}
-use Rattle.rules.specs.declared.Answer.TheVariants.{Refused, Rejected, Accepted}
+use Rattle.rules.specs.Outcome.{Answer}
+use Rattle.std.specs.Prelude.{Ok, Err}
+use Rattle.rules.specs.Refusals.{cause_no}
+use Rattle.rules.specs.declared.Refusal.{Refusal}
+use Rattle.rules.specs.declared.Ruling.TheVariants.{Rejected, Accepted}
 use Rattle.rules.proofs.Outcome.{is_accepted_lem, found_rejected, Came, came_no_level, came_refused, came_short, came_short_pairs, came_rejected, came_short_order, came_accepted, came}
 use Rattle.rules.proofs.Lists.{findings-long, pairs-long}
 use Rattle.demand1.proofs.Readings.{refuses_iff}
 use Rattle.demand1.proofs.Lengths.{lawful_reading, order_few, refused_numbers}
 use Rattle.deciding.specs.Deciding.{accepted_read, is_accepted_at, strongest}
 use Rattle.deciding.specs.declared.Strongest.TheVariants.{NoLevel, ReadCommitted, ReadAtomicity, Causal}
-use Rattle.ferozhak.specs.Calls.{without_lists, seen_read, seen_at, below_causal}
+use Rattle.ferozhak.specs.Calls.{without_lists, seen_of, seen_read, seen_at, below_causal}
 use Rattle.ferozhak.specs.declared.Seen.{Seen}
 use Rattle.ferozhak.specs.declared.Seen.TheVariants.{Here, NotHere, Nowhere}
 
@@ -45,6 +48,12 @@ abbrev made_of : Verdict → ℕ → Seen
 made_of declines n = without_lists n
 made_of rejects n = NotHere
 made_of accepts n = Here
+
+seen_made : (a : Answer) → seen_of a ≡ made_of (reported a).verdict (reported a).no
+unfolding seen_of reported
+seen_made (Err r) = refl
+seen_made (Ok (Rejected f p)) = refl
+seen_made (Ok (Accepted n)) = refl
 
 -- what a look says is so: the level accepts the trace s, or does not, or none does
 abbrev LookSays : List ℕ → ℕ → Seen → Type 0
@@ -111,17 +120,8 @@ module _ (s : List ℕ) where
       made : made_of (reported a).verdict (reported a).no ≡ seen_at s level
       made = rw (ap (λ (x : Outcome). x.report) is) (by_came (came s level fs ps os))
 
-      pub look_refused : {n p : ℕ} {d : Seen} → a ≡ Refused n p → d ≡ without_lists n → d ≡ seen_at s level
-      unfolding reported
-      look_refused e f = f ∙ (rw e at made)
-
-      pub look_rejected : {f p : ℕ} → a ≡ Rejected f p → NotHere ≡ seen_at s level
-      unfolding reported
-      look_rejected e = rw e at made
-
-      pub look_accepted : {n : ℕ} → a ≡ Accepted n → Here ≡ seen_at s level
-      unfolding reported
-      look_accepted e = rw e at made
+      pub looks : {d : Seen} → d ≡ seen_of a → d ≡ seen_at s level
+      looks e = e ∙ seen_made a ∙ made
 
   -- ── the strongest ──
 

@@ -5,17 +5,17 @@
 ghost use Rattle.std.specs.Prelude.{◌≡◌, ℕ, ◌≤◌, List, length};
 ghost use Rattle.base.proofs.Fill.{Appended};
 ghost use Rattle.rules.specs.Outcome.{reported};
-ghost use Rattle.deciding.specs.Deciding.{decision_no, decision_of, whole_counts, whole_put, five_bytes, count_bytes, counts_put, decided_as, decided, strongest_no, is_accepted_at, strongest};
+ghost use Rattle.deciding.specs.Deciding.{decision_of, whole_counts, whole_put, count_bytes, decided_as, decided, strongest_no, is_accepted_at, strongest};
 ghost use Rattle.claims_rules.specs.Claims.{reply};
 ghost use Rattle.claims_rules.specs.Numbers.{reply_no, reply_bytes, in_numbers, claimed_in_numbers};
 ghost use Rattle.pairs.specs.Pairs.{Ready};
 ghost use Rattle.forcing.specs.Forcing.{ReadInto, AtLevel};
-ghost use Rattle.ferozhak.specs.Calls.{level_byte, seen_at, without_lists, below_causal};
+ghost use Rattle.ferozhak.specs.Calls.{level_byte, bytes_of, refused_five, seen_at, without_lists, seen_of, below_causal};
+ghost use Rattle.rules.specs.Refusals.{cause_no};
 
-use claims_rules::ClaimAnswer;
+use claims_rules::ClaimRuling;
 use deciding::{Decision, Strongest};
-use rules::Answer;
-use trace::Out;
+use rules::{Cause, Refusal, Ruling};
 
 // ── the first call ──
 
@@ -32,8 +32,8 @@ pub fn ferozhak_decide(
     ensures { decided_as result findings.new pairs.new order.new counts.new ≡ decided trace.now level findings.old pairs.old order.old counts.old }
 {
     let answer = judging::judge(trace, level_byte(level), findings, pairs, order);
-    put_counts(answer, counts);
-    decision_number(decision_of(answer))
+    put_five(counts_of(answer), counts);
+    u32::from(decision_of(answer))
 }
 
 // C's numbers are wider than the judge's byte: 257 must not be taken for 1.
@@ -47,57 +47,76 @@ fn level_byte(level: u32) -> u8
 }
 
 // What each answer of the judge is to the index.
-fn decision_of(answer: Answer) -> Decision
+#[tactic(auto, unfolding(rules::specs::Outcome::reported, deciding::specs::Deciding::decision_of))]
+fn decision_of(answer: Result<Ruling, Refusal>) -> Decision
     ensures { result ≡ decision_of (reported answer).verdict }
 {
     match answer {
-        Answer::Refused(_, _) => Decision::NoTrace,
-        Answer::Rejected(_, _) => Decision::Hold,
-        Answer::Accepted(_) => Decision::Promote,
+        Err(_) => Decision::NoTrace,
+        Ok(Ruling::Rejected(_, _)) => Decision::Hold,
+        Ok(Ruling::Accepted(_)) => Decision::Promote,
     }
 }
 
-fn decision_number(decision: Decision) -> u32
-    ensures { result ≡ decision_no decision }
-{
-    match decision {
-        Decision::Promote => 1,
-        Decision::Hold => 2,
-        Decision::NoTrace => 3,
-    }
-}
+// ── five numbers for C ──
 
-// ── the counts ──
-
-// Five numbers, one behind the other. Answers where they end.
-fn spell(
-    out: &mut [u8],
-    findings: usize,
-    pairs: usize,
-    order: usize,
-    no: usize,
+// The numbers of an answer, 0 where they do not apply: three of the call's own, then a refusal's number and place.
+#[derive(Clone, Copy, Debug, PartialEq, Eq)]
+struct Five {
+    first: usize,
+    second: usize,
+    third: usize,
+    no: u8,
     place: usize,
-) -> usize
-    requires { 20 ≤ length out.old }
-    ensures { Appended out.old 0 out.new result (five_bytes findings pairs order no place) }
+}
+
+const NONE: Five = Five {
+    first: 0,
+    second: 0,
+    third: 0,
+    no: 0,
+    place: 0,
+};
+
+fn refused(refusal: Refusal) -> Five
+    ensures { result ≡ refused_five refusal }
 {
-    let to = putting::put_number(out, 0, 4, findings as u64);
-    let to = putting::put_number(out, to, 4, pairs as u64);
-    let to = putting::put_number(out, to, 4, order as u64);
-    let to = putting::put_number(out, to, 4, no as u64);
-    putting::put_number(out, to, 4, place as u64)
+    Five {
+        no: u8::from(refusal.cause),
+        place: refusal.place,
+        ..NONE
+    }
 }
 
 // "0 where they do not apply"
-fn spell_counts(answer: Answer, out: &mut [u8]) -> usize
-    requires { 20 ≤ length out.old }
-    ensures { Appended out.old 0 out.new result (count_bytes (reported answer)) }
+#[tactic(auto, unfolding(rules::specs::Outcome::reported, deciding::specs::Deciding::count_bytes))]
+fn counts_of(answer: Result<Ruling, Refusal>) -> Five
+    ensures { bytes_of result ≡ count_bytes (reported answer) }
 {
     match answer {
-        Answer::Refused(no, place) => spell(out, 0, 0, 0, no as usize, place),
-        Answer::Rejected(findings, pairs) => spell(out, findings, pairs, 0, 0, 0),
-        Answer::Accepted(order) => spell(out, 0, 0, order, 0, 0),
+        Err(refusal) => refused(refusal),
+        Ok(Ruling::Rejected(findings, pairs)) => Five {
+            first: findings,
+            second: pairs,
+            ..NONE
+        },
+        Ok(Ruling::Accepted(order)) => Five {
+            third: order,
+            ..NONE
+        },
     }
+}
+
+// One behind the other. Answers where they end.
+fn spell(five: Five, out: &mut [u8]) -> usize
+    requires { 20 ≤ length out.old }
+    ensures { Appended out.old 0 out.new result (bytes_of five) }
+{
+    let to = putting::put_number(out, 0, 4, five.first as u64);
+    let to = putting::put_number(out, to, 4, five.second as u64);
+    let to = putting::put_number(out, to, 4, five.third as u64);
+    let to = putting::put_number(out, to, 4, u64::from(five.no));
+    putting::put_number(out, to, 4, five.place as u64)
 }
 
 // How many of n bytes get a number.
@@ -111,12 +130,12 @@ fn whole_counts(n: usize) -> usize
 }
 
 // They are spelt beside the caller's slice, which may be too short for all.
-fn put_counts(answer: Answer, counts: &mut [u8])
-    ensures { counts.new ≡ counts_put (reported answer) counts.old }
+fn put_five(five: Five, slice: &mut [u8])
+    ensures { slice.new ≡ whole_put (bytes_of five) slice.old }
 {
     let mut all = [0u8; 20];
-    spell_counts(answer, &mut all);
-    copying::copy(&all, whole_counts(counts.len()), counts);
+    spell(five, &mut all);
+    copying::copy(&all, whole_counts(slice.len()), slice);
 }
 
 // ── the second call ──
@@ -125,31 +144,19 @@ fn put_counts(answer: Answer, counts: &mut [u8])
 pub fn ferozhak_strongest(trace: &[u8]) -> u32
     ensures { result ≡ strongest_no (strongest trace.now) }
 {
-    strongest_number(strongest_of(trace))
-}
-
-fn strongest_number(level: Strongest) -> u32
-    ensures { result ≡ strongest_no level }
-{
-    match level {
-        Strongest::NoLevel => 0,
-        Strongest::ReadCommitted => 1,
-        Strongest::ReadAtomicity => 2,
-        Strongest::Causal => 3,
-    }
+    u32::from(strongest_of(trace))
 }
 
 // The trace is read once for all levels; one that cannot be read is accepted by none.
 fn strongest_of(trace: &[u8]) -> Strongest
     ensures { result ≡ strongest trace.now }
 {
-    // The words of a history's table, and a byte for each number that an operation can have.
-    let mut h = [0u64; 2306];
+    // a byte for each number that an operation can have
+    let mut h = [0u64; table::WORDS];
     let mut k = [0u8; 1025];
-    let read = forcing::prepare(trace, &mut h, &mut k);
-    match read {
-        Out::Bad(_, _) => Strongest::NoLevel,
-        Out::Good(_) => strongest_of_history(&h, &k),
+    match forcing::prepare(trace, &mut h, &mut k) {
+        Err(_) => Strongest::NoLevel,
+        Ok(_) => strongest_of_history(&h, &k),
     }
 }
 
@@ -184,16 +191,14 @@ fn accepts(h: &[u64], k: &[u8], level: u8) -> bool
     requires { AtLevel h.now k.now level }
     ensures { (s : List ℕ) → ReadInto s h.now k.now → result ≡ is_accepted_at s level }
 {
-    let seen = look(h, k, level);
-    match seen {
+    match look(h, k, level) {
         Seen::Here => true,
-        Seen::NotHere => false,
-        Seen::Nowhere => false,
+        Seen::NotHere | Seen::Nowhere => false,
     }
 }
 
 // Where a trace is accepted, by a look at one level: at this one; not at this one, for its pairs; at none, for an unclean read.
-#[derive(Clone, Copy)]
+#[derive(Clone, Copy, Debug, PartialEq, Eq)]
 enum Seen {
     Here,
     NotHere,
@@ -211,21 +216,30 @@ fn look(h: &[u64], k: &[u8], level: u8) -> Seen
     let mut pairs = [0u8; 0];
     let mut order = [0u8; 128];
     let answer = judging::judge_history(h, k, level, &mut findings, &mut pairs, &mut order);
+    seen_of(answer)
+}
+
+// What the judge's answer shows then.
+#[tactic(auto, unfolding(crate::specs::Calls::seen_of))]
+fn seen_of(answer: Result<Ruling, Refusal>) -> Seen
+    ensures { result ≡ seen_of answer }
+{
     match answer {
-        Answer::Refused(no, _) => without_lists(no),
-        Answer::Rejected(_, _) => Seen::NotHere,
-        Answer::Accepted(_) => Seen::Here,
+        Err(refusal) => without_lists(refusal.cause),
+        Ok(Ruling::Rejected(_, _)) => Seen::NotHere,
+        Ok(Ruling::Accepted(_)) => Seen::Here,
     }
 }
 
 // What a refusal shows where no room for lists was lent. 13 says that pairs are listed at this level; 12 that a read is unclean, and so it is at every level.
-fn without_lists(no: u8) -> Seen
-    ensures { result ≡ without_lists no }
+fn without_lists(cause: Cause) -> Seen
+    ensures { result ≡ without_lists (cause_no cause) }
 {
-    if no == 13 {
-        return Seen::NotHere;
+    if u8::from(cause) == u8::from(Cause::PairsRoom) {
+        Seen::NotHere
+    } else {
+        Seen::Nowhere
     }
-    Seen::Nowhere
 }
 
 // ── the third call ──
@@ -237,40 +251,39 @@ pub fn ferozhak_claim(trace: &[u8], level: u32, claim: &[u8], numbers: &mut [u8]
     ensures { in_numbers result numbers.new ≡ claimed_in_numbers trace.now level claim.now numbers.old }
 {
     let answer = claims::claim(trace, level_byte(level), claim);
-    put_numbers(answer, numbers);
+    put_five(numbers_of(answer), numbers);
     answer_number(answer)
 }
 
-fn answer_number(answer: ClaimAnswer) -> u32
+#[tactic(auto, unfolding(claims_rules::specs::Claims::reply, claims_rules::specs::Numbers::reply_no))]
+fn answer_number(answer: Result<ClaimRuling, Refusal>) -> u32
     ensures { result ≡ reply_no (reply answer) }
 {
     match answer {
-        ClaimAnswer::Yes => 1,
-        ClaimAnswer::NoRead(_) => 2,
-        ClaimAnswer::NoMembers => 3,
-        ClaimAnswer::NoPair(_, _) => 4,
-        ClaimAnswer::Refused(_, _) => 5,
+        Ok(ClaimRuling::Yes) => 1,
+        Ok(ClaimRuling::NoRead(_)) => 2,
+        Ok(ClaimRuling::NoMembers) => 3,
+        Ok(ClaimRuling::NoPair(_, _)) => 4,
+        Err(_) => 5,
     }
 }
 
 // "0 where they do not apply"
-fn spell_numbers(answer: ClaimAnswer, out: &mut [u8]) -> usize
-    requires { 20 ≤ length out.old }
-    ensures { Appended out.old 0 out.new result (reply_bytes (reply answer)) }
+#[tactic(auto, unfolding(claims_rules::specs::Claims::reply, claims_rules::specs::Numbers::reply_bytes))]
+fn numbers_of(answer: Result<ClaimRuling, Refusal>) -> Five
+    ensures { bytes_of result ≡ reply_bytes (reply answer) }
 {
     match answer {
-        ClaimAnswer::Yes => spell(out, 0, 0, 0, 0, 0),
-        ClaimAnswer::NoRead(operation) => spell(out, operation, 0, 0, 0, 0),
-        ClaimAnswer::NoMembers => spell(out, 0, 0, 0, 0, 0),
-        ClaimAnswer::NoPair(first, second) => spell(out, 0, first, second, 0, 0),
-        ClaimAnswer::Refused(no, place) => spell(out, 0, 0, 0, no as usize, place),
+        Ok(ClaimRuling::Yes | ClaimRuling::NoMembers) => NONE,
+        Ok(ClaimRuling::NoRead(operation)) => Five {
+            first: operation,
+            ..NONE
+        },
+        Ok(ClaimRuling::NoPair(first, second)) => Five {
+            second: first,
+            third: second,
+            ..NONE
+        },
+        Err(refusal) => refused(refusal),
     }
-}
-
-fn put_numbers(answer: ClaimAnswer, numbers: &mut [u8])
-    ensures { numbers.new ≡ whole_put (reply_bytes (reply answer)) numbers.old }
-{
-    let mut all = [0u8; 20];
-    spell_numbers(answer, &mut all);
-    copying::copy(&all, whole_counts(numbers.len()), numbers);
 }

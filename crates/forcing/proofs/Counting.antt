@@ -1,26 +1,24 @@
--- How many count as committed, number by number.
-use Prim.Native.Nat.{ℕ, ◌+◌, ◌<◌, ◌≤◌}
-use mathlib.Core.Bool.{Bool}
-use mathlib.Core.Path.{◌≡◌, ap, ◌∙◌}
+-- How many numbers pass a test: as many as a filter leaves of them.
+use Prim.Native.Nat.{ℕ, zero, suc, ◌+◌}
+use mathlib.Core.Bool.{Bool, true, false, cond}
+use mathlib.Core.List.{List, ◌∷◌}
+use mathlib.Core.Path.{◌≡◌, refl}
 use native.Mathlib.Omega.{arith}
-use Rattle.base.specs.Base.{pick, count}
-use Rattle.base.proofs.Tests.{ifso, pick_on, pick_off}
-use Rattle.base.proofs.Searches.{count_hit, count_miss, count_end}
+use native.Mathlib.Nat.{sub-zero}
+use lib.ListN.{length}
+use Rattle.std.specs.List.{filter, range_with_len}
+use Rattle.base.specs.Base.{pick, count_of, count}
 
--- n of those below t pass p, of those below e
-pub record Counting (p : ℕ → Bool) (e t n : ℕ) : Type 0 where
-  pub all : n + count t e p ≡ count 0 e p
-  pub few : n ≤ t
+one_more : (b : Bool) (a : ℕ) (xs : List ℕ) (m : ℕ) → length xs ≡ m → length (cond b (a ∷ xs) xs) ≡ pick b 1 0 + m
+unfolding pick
+one_more true a xs m e = omega (arith, e)
+one_more false a xs m e = omega (arith, e)
 
-module _ (p : ℕ → Bool) (e : ℕ) where
-  pub counting_start : Counting p e 0 0
-  counting_start = record { all = omega arith; few = omega arith }
+filtered : (p : ℕ → Bool) (a n : ℕ) → length (filter p (range_with_len a n)) ≡ count_of p a n
+unfolding count_of
+filtered p a zero = refl
+filtered p a (suc n) = one_more (p a) a (filter p (range_with_len (a + 1) n)) _ (filtered p (a + 1) n)
 
-  pub counting_next : {t n r : ℕ} → Counting p e t n → t < e → r ≡ n + pick (p t) 1 0 → Counting p e (t + 1) r
-  counting_next {t} {n} {r} c l q =
-      ifso (p t)
-      (λ s. let q : r ≡ n + 1 = q ∙ ap (λ (x : ℕ). n + x) (pick_on _ _ _ s) in record { all = omega (arith, c.all, count_hit p t e l s); few = omega (arith, c.few) })
-      (λ s. let q : r ≡ n + 0 = q ∙ ap (λ (x : ℕ). n + x) (pick_off _ _ _ s) in record { all = omega (arith, c.all, count_miss p t e l s); few = omega (arith, c.few) })
-
-  pub counting_end : {t n : ℕ} → Counting p e t n → e ≤ t → n ≡ count 0 e p
-  counting_end {t} c l = omega (arith, c.all, count_end p t e l)
+pub filtered-count : (p : ℕ → Bool) (n : ℕ) → length (filter p (range_with_len 0 n)) ≡ count 0 n p
+unfolding count
+filtered-count p n = rw (sub-zero n) (filtered p 0 n)

@@ -6,32 +6,33 @@ use native.Mathlib.Omega.{arith}
 use Rattle.rules.specs.Reading.{refused, reading}
 use Rattle.table.specs.Table.{history_of}
 use Rattle.trace.specs.Trace.{TraceRead}
-use Rattle.trace.specs.declared.Out.{Out}
-use Rattle.trace.specs.declared.Out.TheVariants.{Good, Bad}
+use Rattle.std.specs.Prelude.{Result, Ok, Err}
+use Rattle.rules.specs.Refusals.{cause_no}
+use Rattle.rules.specs.declared.Refusal.{Refusal}
 use Rattle.trace.proofs.Answers.{read_bad, read_good}
 use Rattle.settling.specs.Settling.{Settles}
 use Rattle.reads.specs.Verdicts.{Classified}
 use Rattle.forcing.specs.Forcing.{ReadInto, Prepared, AtLevel}
 
-module _ {r : Out} {s h₀ g : List ℕ} (w : TraceRead r g h₀ s) {k₀ : List ℕ} {n : ℕ} where
-  pub prepared_refused : {at : ℕ} → r ≡ Bad n at → Prepared (Bad n at) s h₀ k₀ g k₀
-  prepared_refused {at} e =
-      record { g = g; read = rw e at w; left = λ m o q. (refl, refl); settles = λ m q. absurd (apart q); classified = λ m q. absurd (apart q) }
+module _ {r : Result ℕ Refusal} {s h₀ g : List ℕ} (w : TraceRead r g h₀ s) {k₀ : List ℕ} where
+  pub prepared_refused : {d : Refusal} → r ≡ Err d → Prepared (Err d) s h₀ k₀ g k₀
+  prepared_refused {d} e =
+      record { g = g; read = rw e at w; left = λ o q. (refl, refl); settles = λ m q. absurd (apart q); classified = λ m q. absurd (apart q) }
     where
-      apart : {m : ℕ} → Bad n at ≡ Good m → ⊥
+      apart : {m : ℕ} → ◌≡◌ {A = Result ℕ Refusal} (Err d) (Ok m) → ⊥
       apart q = let z : ◌≡◌ {A = ℕ} 0 1 = cc in omega arith
 
-  pub prepared_read : r ≡ Good n → {h k : List ℕ} → Settles g h → Classified k₀ k (history_of h) → Prepared (Good n) s h₀ k₀ h k
-  prepared_read e a b = record { g = g; read = rw e at w; left = λ m o q. absurd (apart q); settles = λ m q. a; classified = λ m q. b }
+  pub prepared_read : {n : ℕ} → r ≡ Ok n → {h k : List ℕ} → Settles g h → Classified k₀ k (history_of h) → Prepared (Ok n) s h₀ k₀ h k
+  prepared_read {n} e a b = record { g = g; read = rw e at w; left = λ o q. absurd (apart q); settles = λ m q. a; classified = λ m q. b }
     where
-      apart : {m at : ℕ} → Good n ≡ Bad m at → ⊥
+      apart : {d : Refusal} → ◌≡◌ {A = Result ℕ Refusal} (Ok n) (Err d) → ⊥
       apart q = let z : ◌≡◌ {A = ℕ} 0 1 = cc in omega arith
 
-module _ {r : Out} {s h₀ k₀ h k : List ℕ} (p : Prepared r s h₀ k₀ h k) where
-  pub prepared_bad : {n at : ℕ} → r ≡ Bad n at → reading s ≡ refused n at
+module _ {r : Result ℕ Refusal} {s h₀ k₀ h k : List ℕ} (p : Prepared r s h₀ k₀ h k) where
+  pub prepared_bad : {d : Refusal} → r ≡ Err d → reading s ≡ refused (cause_no d.cause) d.place
   prepared_bad e = read_bad p.read e
 
-  pub prepared_good : {n : ℕ} → r ≡ Good n → ReadInto s h k
+  pub prepared_good : {n : ℕ} → r ≡ Ok n → ReadInto s h k
   prepared_good {n} e =
       record {
         ready = record { settled = (p.settles n e).settled; judged = (p.classified n e).judged };

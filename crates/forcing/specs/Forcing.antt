@@ -1,5 +1,5 @@
 -- What a trace is prepared into, and the pairs that a level forces, as tables have them.
-use Rattle.std.specs.Prelude.{ℕ, ◌≤◌, ◌≡◌, Bool, List, eqb}
+use Rattle.std.specs.Prelude.{ℕ, ◌≤◌, ◌≡◌, Bool, List, eqb, Result, Ok, Err, MatchResult}
 use Rattle.base.specs.Base.{pick}
 use Rattle.rules.specs.History.{History}
 use Rattle.rules.specs.Reading.{read, reading}
@@ -7,14 +7,20 @@ use Rattle.rules.specs.Levels.{basic, is_rival, forced}
 use Rattle.table.specs.Table.{history_of}
 use Rattle.bits.specs.Bits.{Holds}
 use Rattle.trace.specs.Trace.{TraceRead}
-use Rattle.trace.specs.declared.Out.{Out}
-use Rattle.trace.specs.declared.Out.TheVariants.{Good, Bad}
+use Rattle.rules.specs.Refusals.{refusal_at}
+use Rattle.rules.specs.declared.Cause.TheVariants.{NoLevel}
+use Rattle.rules.specs.declared.Refusal.{Refusal}
 use Rattle.settling.specs.Settling.{Settles}
 use Rattle.reads.specs.Verdicts.{Classified}
 use Rattle.pairs.specs.Pairs.{Ready, before}
 use Rattle.causal.specs.Causal.{left_in}
 
 -- ── what all levels share ──
+
+-- the answer r to a level: it is one, or row 1 refuses it
+abbrev pub LevelChecked : ℕ → Result Unit Refusal → Type 0
+LevelChecked level r =
+    MatchResult r (λ x. (1 ≤ level) × (level ≤ 3)) (λ d. (d ≡ refusal_at NoLevel 0) × ((1 ≤ level) × (level ≤ 3) → ⊥))
 
 -- the trace s was read into the history of the table h, which has marks on those that count as committed, and k has what is to be known of its operations
 pub record ReadInto (s h k : List ℕ) : Type 0 where
@@ -24,12 +30,12 @@ pub record ReadInto (s h k : List ℕ) : Type 0 where
 
 -- the answer r to the trace s, of which the tables h₀ and k₀ became h and k; g is the table as reading leaves it. Every word and byte is told: a refused
 -- trace is not gone on with
-pub record Prepared (r : Out) (s h₀ k₀ h k : List ℕ) : Type 0 where
+pub record Prepared (r : Result ℕ Refusal) (s h₀ k₀ h k : List ℕ) : Type 0 where
   pub g : List ℕ
   pub read : TraceRead r g h₀ s
-  pub left : (n p : ℕ) → r ≡ Bad n p → (h ≡ g) × (k ≡ k₀)
-  pub settles : (n : ℕ) → r ≡ Good n → Settles g h
-  pub classified : (n : ℕ) → r ≡ Good n → Classified k₀ k (history_of h)
+  pub left : (d : Refusal) → r ≡ Err d → (h ≡ g) × (k ≡ k₀)
+  pub settles : (n : ℕ) → r ≡ Ok n → Settles g h
+  pub classified : (n : ℕ) → r ≡ Ok n → Classified k₀ k (history_of h)
 
 -- ── what a level forces ──
 

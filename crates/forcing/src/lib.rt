@@ -3,7 +3,7 @@
 #![tactic(auto)]
 
 ghost use Rattle.std.specs.Prelude.{◌≡◌, ◌+◌, ◌≤◌, ◌<◌, length};
-ghost use Rattle.base.specs.Base.{pick, count};
+ghost use Rattle.base.specs.Base.{count};
 ghost use Rattle.rules.specs.History.{size, committed};
 ghost use Rattle.rules.specs.Levels.{basic};
 ghost use Rattle.table.specs.Table.{table_words, history_of, Settled};
@@ -12,66 +12,49 @@ ghost use Rattle.order.specs.Sets.{Gathered};
 ghost use Rattle.pairs.specs.Pairs.{before};
 ghost use Rattle.keys.specs.Keys.{writers};
 ghost use Rattle.causal.specs.Causal.{Parties, Searched};
-ghost use Rattle.forcing.specs.Forcing.{Prepared, AtLevel, left_at, Forcing};
+ghost use Rattle.forcing.specs.Forcing.{LevelChecked, Prepared, AtLevel, left_at, Forcing};
 
 use order::Words;
-use trace::Out;
+use rules::{Cause, Refusal};
 
 // ── what all levels share ──
 
+// Row 1: "the level is not 1, 2 or 3", place 0.
+// Kept (1): a level stays a byte here and in the public calls, which take any: a type of three levels would ask more of whoever calls.
+pub fn check_level(level: u8) -> Result<(), Refusal>
+    ensures { LevelChecked level result }
+{
+    if level < 1 || 3 < level {
+        return Err(Cause::NoLevel.at(0));
+    }
+    Ok(())
+}
+
 // What all levels share: the trace is read into h, those that count as committed get their marks there, and k gets what is to be known of each operation.
-pub fn prepare(trace: &[u8], h: &mut [u64], k: &mut [u8]) -> Out
+pub fn prepare(trace: &[u8], h: &mut [u64], k: &mut [u8]) -> Result<usize, Refusal>
     requires { (length h.old ≡ table_words) × (length k.old ≡ 1025) }
     ensures { Prepared result trace.now h.old k.old h.new k.new }
 {
-    let read = trace::read_trace(trace, h);
-    match read {
-        Out::Bad(no, place) => Out::Bad(no, place),
-        Out::Good(notes) => {
-            settling::settle(h);
-            reads::classify(h, k);
-            Out::Good(notes)
-        }
-    }
+    let notes = trace::read_trace(trace, h)?;
+    settling::settle(h);
+    reads::classify(h, k);
+    Ok(notes)
 }
 
 // ── who takes part ──
 
-// "Only committed transactions take part": w has those below t; t gets into it, where it is one.
-fn enter(h: &[u64], w: Words, t: usize) -> Words
-    requires { Settled h.now × (t < 128) × Gathered (committed (history_of h.now)) t w }
-    ensures { Gathered (committed (history_of h.now)) (t + 1) result }
-{
-    if reads::is_committed(h, t) {
-        return order::with(w, t);
-    }
-    w
-}
-
-// The transactions that count as committed, 0 among them.
+// The transactions that count as committed, 0 among them: "Only committed transactions take part".
 pub fn members(h: &[u64]) -> Words
     requires { Settled h.now }
     ensures { Gathered (committed (history_of h.now)) (size (history_of h.now)) result }
 {
-    let n = table::txs(h);
     let mut w = order::none();
-    let mut t = 0;
-    while t <= n {
-        w = enter(h, w, t);
-        t += 1;
+    for t in 0..=table::txs(h) {
+        if reads::is_committed(h, t) {
+            w = order::with(w, t);
+        }
     }
     w
-}
-
-// n and, where transaction t counts as committed, one more.
-fn count_on(h: &[u64], n: usize, t: usize) -> usize
-    requires { Settled h.now × (n ≤ 127) }
-    ensures { result ≡ n + pick (committed (history_of h.now) t) 1 0 }
-{
-    if reads::is_committed(h, t) {
-        return n + 1;
-    }
-    n
 }
 
 // How many transactions count as committed, 0 among them.
@@ -79,14 +62,9 @@ pub fn count_members(h: &[u64]) -> usize
     requires { Settled h.now }
     ensures { result ≡ count 0 (size (history_of h.now)) (committed (history_of h.now)) }
 {
-    let last = table::txs(h);
-    let mut n = 0;
-    let mut t = 0;
-    while t <= last {
-        n = count_on(h, n, t);
-        t += 1;
-    }
-    n
+    (0..table::txs(h) + 1)
+        .filter(|t| reads::is_committed(h, *t))
+        .count()
 }
 
 // ── what a level forces ──

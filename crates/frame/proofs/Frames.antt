@@ -17,7 +17,7 @@ use Rattle.rules.specs.Records.{len_at, kind_at, next_at, payload_at, is_second,
 use Rattle.frame.specs.Framing.{kind_rows, lengths, ListKind, Above, session_of, stated_of, stated_at, StatedIs, LongEnough, Fit, framing}
 use Rattle.frame.specs.declared.Stated.{Stated}
 use Rattle.rules.specs.declared.Event.TheVariants.{Other}
-use Rattle.frame.specs.declared.Framed.TheVariants as F
+use Rattle.std.specs.Prelude.{Ok, Err}
 use Rattle.base.proofs.Rows.{fit_past, fit_here, fit_none, fit_unfit, RowsCounted, fit_behind}
 
 -- a byte is a number of one
@@ -340,49 +340,49 @@ module _ (second : Bool) (s : List ℕ) (at e : ℕ) where
       }
 
   -- the framing's answer, from the number of the row
-  pub framing_bad : {n : ℕ} → n ≡ first_fit (frame_rows second s at e) → 0 < n → F.Bad n ≡ framing second s at e
+  pub framing_bad : {n : ℕ} → n ≡ first_fit (frame_rows second s at e) → 0 < n → Err n ≡ framing second s at e
   unfolding framing pick
   framing_bad q h = rw (q) (rw (lt-ltb 0 (first_fit (frame_rows second s at e)) (omega arith)) refl)
 
-  pub framing_good : first_fit (frame_rows second s at e) ≡ 0 → F.Good (stated_at second s at) ≡ framing second s at e
+  pub framing_good : first_fit (frame_rows second s at e) ≡ 0 → Ok (stated_at second s at) ≡ framing second s at e
   unfolding framing pick
   framing_good h = rw h
 
   -- what the framing's answer says of the rows
-  pub is_bad : {n : ℕ} → framing second s at e ≡ F.Bad n → (first_fit (frame_rows second s at e) ≡ n) × (0 < n)
+  pub is_bad : {n : ℕ} → framing second s at e ≡ Err n → (first_fit (frame_rows second s at e) ≡ n) × (0 < n)
   unfolding framing
   is_bad {n} h =
       ifso (ltb 0 (first_fit (frame_rows second s at e)))
       (λ t.
-      let g : F.Bad (first_fit (frame_rows second s at e)) ≡ F.Bad n = sym (pick_on _ _ _ t) ∙ h in
+      let g : Err (first_fit (frame_rows second s at e)) ≡ Err n = sym (pick_on _ _ _ t) ∙ h in
       let q : first_fit (frame_rows second s at e) ≡ n = cc in
       (q, rw (← q) (ltb-true _ _ t)))
       (λ t.
-      let g : F.Good (stated_at second s at) ≡ F.Bad n = sym (pick_off _ _ _ t) ∙ h in
+      let g : Ok (stated_at second s at) ≡ Err n = sym (pick_off _ _ _ t) ∙ h in
       let z : ◌≡◌ {A = ℕ} 0 1 = cc in
       absurd (omega arith))
 
-  pub is_good : {x : Stated} → framing second s at e ≡ F.Good x → (first_fit (frame_rows second s at e) ≡ 0) × (stated_at second s at ≡ x)
+  pub is_good : {x : Stated} → framing second s at e ≡ Ok x → (first_fit (frame_rows second s at e) ≡ 0) × (stated_at second s at ≡ x)
   unfolding framing
   is_good {x} h =
       ifso (ltb 0 (first_fit (frame_rows second s at e)))
       (λ t.
-      let g : F.Bad (first_fit (frame_rows second s at e)) ≡ F.Good x = sym (pick_on _ _ _ t) ∙ h in
+      let g : Err (first_fit (frame_rows second s at e)) ≡ Ok x = sym (pick_on _ _ _ t) ∙ h in
       let z : ◌≡◌ {A = ℕ} 0 1 = cc in
       absurd (omega arith))
       (λ t.
-      let g : F.Good (stated_at second s at) ≡ F.Good x = sym (pick_off _ _ _ t) ∙ h in
+      let g : Ok (stated_at second s at) ≡ Ok x = sym (pick_off _ _ _ t) ∙ h in
       let z : first_fit (frame_rows second s at e) ≤ 0 = ltb-false _ _ t in
       (omega arith, cc))
 
-  pub good_fit : {x : Stated} → framing second s at e ≡ F.Good x → Fit second s at
+  pub good_fit : {x : Stated} → framing second s at e ≡ Ok x → Fit second s at
   good_fit h = fit (is_good h).0
 
   -- its session is the one that its kind's reader finds in the payload, which in edition 2 begins with the session
-  pub good_session : {x : Stated} → framing second s at e ≡ F.Good x → x.session ≡ session_of second (payload_at s at) x.event
+  pub good_session : {x : Stated} → framing second s at e ≡ Ok x → x.session ≡ session_of second (payload_at s at) x.event
   good_session h = rw (← (is_good h).1)
 
-  pub good_begins : {x : Stated} → framing second s at e ≡ F.Good x → second ≡ true → le 2 (payload_at s at) 0 ≡ session_at s at
+  pub good_begins : {x : Stated} → framing second s at e ≡ Ok x → second ≡ true → le 2 (payload_at s at) 0 ≡ session_at s at
   good_begins h q = payload_begins s at ((good_fit h).session q)
 
   -- rows behind those of the framing: where it passed they decide, where not they do not matter

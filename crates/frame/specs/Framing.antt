@@ -1,13 +1,12 @@
 -- What framing a record comes to, in edition 2 or not.
-use Rattle.std.specs.Prelude.{ℕ, ◌+◌, ◌≤◌, ◌≡◌, Bool, true, false, List, [], ◌∷◌, ◌⊎◌, length, get_or, ltb}
+use Rattle.std.specs.Prelude.{ℕ, ◌+◌, ◌≤◌, ◌≡◌, Bool, true, false, List, [], ◌∷◌, ◌⊎◌, length, get_or, ltb, Result, Ok, Err, IfOk}
 use Rattle.base.specs.Base.{pick, Row, row, first_fit}
 use Rattle.rules.specs.Numbers.{le}
 use Rattle.rules.specs.Records.{len_at, kind_at, next_at, payload_at, fields_from, number_at, lows, event_of, Sound, is_unknown, is_misfit, is_late, is_other_edition, frame_rows}
+use Rattle.rules.specs.declared.Cause.{Cause}
 use Rattle.rules.specs.declared.Event.{Event}
 use Rattle.rules.specs.declared.Event.TheVariants.{Open, Read, Write, Close, End, Note, Other}
 use Rattle.frame.specs.declared.Stated.{Stated}
-use Rattle.frame.specs.declared.Framed.{Framed}
-use Rattle.frame.specs.declared.Framed.TheVariants.{Good, Bad}
 
 -- the last of the framing's rows, which go by the record's kind
 abbrev pub kind_rows : Bool → List ℕ → ℕ → List Row
@@ -57,10 +56,10 @@ stated_of second at kind p = stated (session_of second p (event_of second at kin
 abbrev pub stated_at : Bool → List ℕ → ℕ → Stated
 stated_at second s at = stated_of second at (kind_at s at) (payload_at s at)
 
--- the first of the framing's rows that refuses the record at `at`, or else what it says; e is the serial that has to come
-unfoldable pub framing : Bool → List ℕ → ℕ → ℕ → Framed
+-- the number of the first of the framing's rows that refuses the record at `at`, or else what it says; e is the serial that has to come
+unfoldable pub framing : Bool → List ℕ → ℕ → ℕ → Result Stated ℕ
 framing second s at e =
-    pick (ltb 0 (first_fit (frame_rows second s at e))) (Bad (first_fit (frame_rows second s at e))) (Good (stated_at second s at))
+    pick (ltb 0 (first_fit (frame_rows second s at e))) (Err (first_fit (frame_rows second s at e))) (Ok (stated_at second s at))
 
 -- what a record at `at` says, with an event that is sound there
 pub record StatedIs (at : ℕ) (r x : Stated) : Type 0 where
@@ -72,9 +71,8 @@ abbrev pub StatedAnywhere : Stated → Stated → Type 0
 StatedAnywhere r x = (at : ℕ) → StatedIs at r x
 
 -- .. of what framing comes to
-unfoldable pub SoundFramed : ℕ → Framed → Type 0
-SoundFramed at (Good x) = Sound at x.event
-SoundFramed at (Bad n) = Unit
+abbrev pub SoundFramed : ℕ → Result Stated Cause → Type 0
+SoundFramed at r = IfOk r (λ x. Sound at x.event)
 
 -- a payload p of m bytes more than the six of kind and serial is as long as its kind needs; one of lists is of edition 2
 pub record LongEnough (second : Bool) (kind m : ℕ) : Type 0 where

@@ -6,30 +6,40 @@ ghost use Rattle.base.specs.Base.{◌or◌, first_fit};
 ghost use Rattle.rules.specs.Numbers.{le};
 ghost use Rattle.rules.specs.Records.{len_at, next_at, payload_at, is_second, fields_from, number_at, list_place as place_of, breaks, is_unknown, is_misfit, is_late, is_other_edition, frame_rows};
 ghost use Rattle.rules.specs.History.{append_key, list_key};
+ghost use Rattle.rules.specs.Refusals.{no_of, numbered};
 ghost use Rattle.frame.specs.Framing.{kind_rows, lengths, ListKind, Above, stated, session_in, stated_of, stated_at, StatedIs, StatedAnywhere, SoundFramed, LongEnough, Fit, framing};
 
-use rules::Event;
+use rules::{Cause, Event};
 
 // "all little-endian": the numbers that 2, 4 and 8 bytes spell.
 pub fn u16_at(s: &[u8], at: usize) -> u16
     requires { at + 2 ≤ length s.now }
     ensures { result ≡ le 2 s.now at }
 {
-    (s[at] as u16) + 256 * (s[at + 1] as u16)
+    u16::from_le_bytes([s[at], s[at + 1]])
 }
 
 pub fn u32_at(s: &[u8], at: usize) -> u32
     requires { at + 4 ≤ length s.now }
     ensures { result ≡ le 4 s.now at }
 {
-    (u16_at(s, at) as u32) + 65536 * (u16_at(s, at + 2) as u32)
+    u32::from_le_bytes([s[at], s[at + 1], s[at + 2], s[at + 3]])
 }
 
 pub fn u64_at(s: &[u8], at: usize) -> u64
     requires { at + 8 ≤ length s.now }
     ensures { result ≡ le 8 s.now at }
 {
-    (u32_at(s, at) as u64) + 4294967296 * (u32_at(s, at + 4) as u64)
+    u64::from_le_bytes([
+        s[at],
+        s[at + 1],
+        s[at + 2],
+        s[at + 3],
+        s[at + 4],
+        s[at + 5],
+        s[at + 6],
+        s[at + 7],
+    ])
 }
 
 // "Edition 2 of the trace begins with a kind 16 record": whether this one does.
@@ -269,28 +279,15 @@ fn is_unknown(second: bool, kind: u16) -> bool
 }
 
 // The length of kinds 1 to 5, in each edition. Only a note has more than one.
-fn first_length(kind: usize) -> usize
+fn length_of(second: bool, kind: usize) -> usize
     requires { (1 ≤ kind) × (kind < 6) }
-    ensures { result ≡ get_or (lengths false) kind 0 }
+    ensures { result ≡ get_or (lengths second) kind 0 }
 {
-    match kind {
-        1 => 8,
-        2 => 18,
-        3 => 18,
-        4 => 7,
-        _ => 8,
-    }
-}
-
-fn second_length(kind: usize) -> usize
-    requires { (1 ≤ kind) × (kind < 6) }
-    ensures { result ≡ get_or (lengths true) kind 0 }
-{
-    match kind {
-        1 => 8,
-        2 => 20,
-        3 => 20,
-        4 => 9,
+    match (kind, second) {
+        (2 | 3, false) => 18,
+        (2 | 3, true) => 20,
+        (4, false) => 7,
+        (4, true) => 9,
         _ => 8,
     }
 }
@@ -339,12 +336,12 @@ fn is_misfit(s: &[u8], at: usize, second: bool, kind: usize, len: usize) -> bool
         if 5 < kind {
             return is_misfit_above(s, at, kind, len);
         }
-        return len != second_length(kind);
+        return len != length_of(true, kind);
     }
     if kind == 6 {
         return is_outside(len, 6, 70);
     }
-    len != first_length(kind)
+    len != length_of(false, kind)
 }
 
 // Row 7, "a kind 16 that isn't first".
@@ -368,66 +365,56 @@ fn is_other_edition(s: &[u8], at: usize, kind: u16) -> bool
     read_edition(payload_at(s, at)) != 2
 }
 
-// The number of the first row that refuses the record at `at` for its kind, 0 where none does: "6, length for its kind (4)", then those of kind 16.
-fn kind_no(s: &[u8], at: usize, second: bool) -> u8
+// The first row that refuses the record at `at` for its kind: "6, length for its kind (4)", then those of kind 16.
+fn check_kind(s: &[u8], at: usize, second: bool) -> Result<(), Cause>
     requires { (at + 8 ≤ length s.now) × (next_at s.now at ≤ length s.now) }
-    ensures { result ≡ first_fit (kind_rows second s.now at) }
+    ensures { no_of result ≡ first_fit (kind_rows second s.now at) }
 {
     let len = u16_at(s, at) as usize;
     let kind = u16_at(s, at + 2);
     if is_unknown(second, kind) {
-        return 6;
+        return Err(Cause::Kind);
     }
     if is_misfit(s, at, second, kind as usize, len) {
-        return 4;
+        return Err(Cause::Length);
     }
     if is_late(kind, at) {
-        return 7;
+        return Err(Cause::Misplaced);
     }
     if is_other_edition(s, at, kind) {
-        return 8;
+        return Err(Cause::Unlawful);
     }
-    0
+    Ok(())
 }
 
-// The number of the first row that refuses the framing of the record at `at`, 0 where none does: "length field present (3), length at least 6
-// (4), bytes present (3), then 5, 6, length for its kind (4)".
-fn frame_no(s: &[u8], at: usize, expected: u32, second: bool) -> u8
+// The first row that refuses the framing of the record at `at`: "length field present (3), length at least 6 (4), bytes present (3), then 5, 6, length for
+// its kind (4)".
+fn check_frame(s: &[u8], at: usize, expected: u32, second: bool) -> Result<(), Cause>
     requires { at ≤ length s.now }
-    ensures { result ≡ first_fit (frame_rows second s.now at expected) }
+    ensures { no_of result ≡ first_fit (frame_rows second s.now at expected) }
 {
     let left = s.len() - at;
     if left < 2 {
-        return 3;
+        return Err(Cause::TooFew);
     }
     let len = u16_at(s, at) as usize;
     if len < 6 {
-        return 4;
+        return Err(Cause::Length);
     }
     if left - 2 < len {
-        return 3;
+        return Err(Cause::TooFew);
     }
     if breaks_off(s, at, expected) {
-        return 5;
+        return Err(Cause::Serial);
     }
-    kind_no(s, at, second)
+    check_kind(s, at, second)
 }
 
-// What comes of framing a record: what it says, or the number of the row that refuses it.
-#[derive(Clone, Copy)]
-pub enum Framed {
-    Good(Stated),
-    Bad(u8),
-}
-
-// The record at `at`, where `expected` is the serial that has to come, in edition 2 or not.
-pub fn frame_at(s: &[u8], at: usize, expected: u32, second: bool) -> Framed
+// What the record at `at` says, or the row that refuses it, where `expected` is the serial that has to come, in edition 2 or not.
+pub fn frame_at(s: &[u8], at: usize, expected: u32, second: bool) -> Result<Stated, Cause>
     requires { at ≤ length s.now }
-    ensures { (result ≡ framing second s.now at expected) × SoundFramed at result }
+    ensures { (numbered result ≡ framing second s.now at expected) × SoundFramed at result }
 {
-    let no = frame_no(s, at, expected, second);
-    if 0 < no {
-        return Framed::Bad(no);
-    }
-    Framed::Good(stated_at(s, at, second))
+    check_frame(s, at, expected, second)?;
+    Ok(stated_at(s, at, second))
 }

@@ -149,6 +149,10 @@ module _ (h : History) (l : ℕ → List ℕ) where
   unfolding grade_of
   grade_is i e f = rw (e, f)
 
+  -- .. which a word of the table holds
+  pub grade_small : (i : ℕ) {c b : ℕ} → i ≤ 1024 → c ≡ code_of h l i → b ≡ longest_below h l (key_of h i) (i + 1) → c + 16 * b < 65536
+  grade_small i few e f = omega (arith, e, code_small h l i, longest_most (key_of h i) i f)
+
   -- .. of which the code is the lower
   pub grade_code : {k : List ℕ} {n : ℕ} → Graded h l n k → (i : ℕ) → i < n → is_list h i ≡ true → get_or k i 0 % 16 ≡ code_of h l i
   unfolding grade_of
@@ -179,13 +183,4 @@ module _ (h : History) (l : ℕ → List ℕ) where
             λ w t.
             let d : w ≡ i → ⊥ = λ z. clash (rw (← z) at is) t in
             ⊎_elim (λ u. omega (arith, u, get_or-set_other m i w v 0 d, g.marks w t)) (λ u. omega (arith, u.0, get_or-set_other m i w v 0 d)) (c.kept w);
-      }
-
-  pub graded_past : {k : List ℕ} (i : ℕ) → is_list h i ≡ false → Graded h l i k → Graded h l (i + 1) k
-  graded_past i is g =
-      record {
-        room = g.room;
-        zero = g.zero;
-        grades = λ j d t. g.grades j (⊎_elim (λ y. y) (λ y. let z : j ≡ i = omega arith in absurd (clash (rw z at t) is)) (split j i)) t;
-        marks = λ w t. omega (arith, g.marks w t);
       }

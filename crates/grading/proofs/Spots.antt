@@ -3,6 +3,7 @@ use Prim.Native.Nat.{ℕ, ◌+◌, ◌%◌, ◌<◌, ◌≤◌}
 use mathlib.Core.Path.{◌≡◌, refl, ap, sym, ◌∙◌}
 use mathlib.Core.Bool.{true, false, not}
 use mathlib.Core.List.{List, []}
+use mathlib.Core.Logic.{◌⊎◌}
 use native.Mathlib.Omega.{arith}
 use lib.ListN.{length}
 use borrow.Author.Tests.{leb-true, le-leb}
@@ -15,11 +16,14 @@ use Rattle.appends_rules.specs.Appends.{is_list, key_of, is_judged_list, values_
 use Rattle.appends_rules.specs.ListKinds.{in_line, is_half, is_of, list_kind_by, list_kind, list_at, longest_below}
 use Rattle.appends_rules.proofs.Lines.{line_right, begins-none}
 use Rattle.appends_rules.proofs.Longest.{kind-by_longest, clean_judged, at_list, at_zero, longest_below_lem}
-use Rattle.elements.specs.Elements.{fault_kind}
+use Rattle.std.specs.Prelude.{Option, None, Some, MatchOption}
+use Rattle.elements.specs.declared.ListKind.{ListKind}
+use Rattle.elements.specs.Elements.{number_of, number_or_0, fault_kind}
 use Rattle.elements.proofs.Lists.{at_length}
+use Rattle.elements.proofs.Scanning.{number-low}
 use Rattle.grading.specs.declared.Spot.{Spot}
 use Rattle.grading.specs.Grades.{IsSpot}
-use Rattle.grading.proofs.Codes.{kind_fault, kind_late}
+use Rattle.grading.proofs.Codes.{kind_fault, fault-none, kind_late}
 
 -- ── list reads ──
 
@@ -87,11 +91,12 @@ module _ (s h : List ℕ) where
         → list_kind H L i ≡ list_kind_by H t e.key (values_at s e.at) (not (in_line (values_at s e.at) (list_at L m)))
     kind_parts et = kind-by_longest H L i ∙ rw (← x.list, ← em, ← x.key, ← et)
 
-    module _ {r : ℕ} (er : r ≡ fault_kind H e.key (values_at s e.at)) where
-      pub told_fault : (r ≡ 0 → ⊥) → r ≡ list_kind H L i
-      told_fault d = er ∙ kind_fault H _ _ _ _ (λ z. d (er ∙ z)) ∙ sym (kind_parts refl)
-
-      pub told_late : {t q : ℕ} → r ≡ 0 → t ≡ (op H i).tx
-          → ◌≡◌ {A = ℕ} q (pick (is_half H t e.key (values_at s e.at)) 10 (pick (not (in_line (values_at s e.at) (list_at L m))) 11 0))
-          → q ≡ list_kind H L i
-      told_late z et eq = eq ∙ kind_late H _ _ _ _ (sym er ∙ z) ∙ sym (kind_parts et)
+    -- r: the kind that the elements show; q: what was found, by r and, where that is no kind, by the list as a whole
+    pub told_kind : (f q : Option ListKind) {r : ℕ} → r ≡ fault_kind H e.key (values_at s e.at) → MatchOption f ((r < 7) ⊎ (11 < r)) (λ k. number_of k ≡ r)
+        → MatchOption f
+        (◌≡◌ {A = ℕ} (number_or_0 q) (pick (is_half H (op H i).tx e.key (values_at s e.at)) 10 (pick (not (in_line (values_at s e.at) (list_at L m))) 11 0)))
+        (λ k. q ≡ Some k)
+        → number_or_0 q ≡ list_kind H L i
+    told_kind None q er n late = late ∙ kind_late H _ _ _ _ (sym er ∙ fault-none H _ _ er n) ∙ sym (kind_parts refl)
+    told_kind (Some k) q er n is =
+        ap number_or_0 is ∙ n ∙ er ∙ kind_fault H _ _ _ _ (λ z. omega (arith, number-low k, n, er, z)) ∙ sym (kind_parts refl)

@@ -6,8 +6,10 @@ ghost use Rattle.base.specs.Base.{pick};
 ghost use Rattle.table.specs.Table.{history_of, HasOp, HasList, Settled};
 ghost use Rattle.appends_rules.specs.Appends.{is_list, key_of, values_at, lists_in, ListsWithin};
 ghost use Rattle.appends_rules.specs.ListKinds.{in_line, is_half, list_kind, list_at, longest_below};
-ghost use Rattle.elements.specs.Elements.{ListAt, KeyedList};
+ghost use Rattle.elements.specs.Elements.{ListAt, KeyedList, number_or_0};
 ghost use Rattle.grading.specs.Grades.{IsSpot, code_of, Graded, AllGraded, Ungraded, Grading, FoundOut};
+
+use elements::ListKind;
 
 // ── list reads ──
 
@@ -36,13 +38,14 @@ pub fn spot_of(s: &[u8], h: &[u64], i: usize) -> Spot
 {
     let at = table::value_of(h, i) as usize;
     Spot {
-        at: at,
+        at,
         number: elements::length_at(s, at),
         key: table::key_of(h, i) % 4294967296,
     }
 }
 
 // How many elements list read m has; none where m is 0.
+// Kept (5): here and below `s` and `h` go on to public functions that take the two; a struct of them would be taken apart at each call.
 fn length_of(s: &[u8], h: &[u64], m: usize) -> usize
     requires { ListsWithin s.now (history_of h.now) × (0 < m → HasList h.now m) }
     ensures { result ≡ length (list_at (lists_in s.now (history_of h.now)) m) }
@@ -50,53 +53,46 @@ fn length_of(s: &[u8], h: &[u64], m: usize) -> usize
     if m == 0 {
         return 0;
     }
-    let o = spot_of(s, h, m);
-    o.number
+    spot_of(s, h, m).number
 }
 
 // ── the kind of each ──
 
-// "11, neither it nor some earlier clean list of the key starts with the other": it is the list at p, of n elements, and m the longest of those, 0 where there
-// is none.
-fn is_apart(s: &[u8], h: &[u64], p: usize, n: usize, m: usize) -> bool
-    requires { ListsWithin s.now (history_of h.now) × ListAt s.now p n × (0 < m → HasList h.now m) }
-    ensures { result ≡ not (in_line (values_at s.now p) (list_at (lists_in s.now (history_of h.now)) m)) }
+// "11, neither it nor some earlier clean list of the key starts with the other": e is the list, and m the longest of those, 0 where there is none.
+fn is_apart(s: &[u8], h: &[u64], e: Spot, m: usize) -> bool
+    requires { ListsWithin s.now (history_of h.now) × ListAt s.now e.at e.number × (0 < m → HasList h.now m) }
+    ensures { result ≡ not (in_line (values_at s.now e.at) (list_at (lists_in s.now (history_of h.now)) m)) }
 {
     if m == 0 {
         return false;
     }
     let o = spot_of(s, h, m);
-    !elements::in_line(s, p, n, o.at, o.number)
+    !elements::in_line(s, e.at, e.number, o.at, o.number)
 }
 
 // Kinds 10 and 11, where no other fits: e is the list, t the reader.
-fn late_kind(s: &[u8], h: &[u64], t: usize, e: Spot, m: usize) -> u8
+fn late_kind(s: &[u8], h: &[u64], t: usize, e: Spot, m: usize) -> Option<ListKind>
     requires { ListsWithin s.now (history_of h.now) × KeyedList s.now h.now e.at e.number e.key × (0 < m → HasList h.now m) }
-    ensures { ◌≡◌ {A = ℕ} result (pick (is_half (history_of h.now) t e.key (values_at s.now e.at)) 10 (pick (not (in_line (values_at s.now e.at) (list_at (lists_in s.now (history_of h.now)) m))) 11 0)) }
+    ensures { ◌≡◌ {A = ℕ} (number_or_0 result) (pick (is_half (history_of h.now) t e.key (values_at s.now e.at)) 10 (pick (not (in_line (values_at s.now e.at) (list_at (lists_in s.now (history_of h.now)) m))) 11 0)) }
 {
     if elements::ends_half(s, h, t, e.at, e.number, e.key) {
-        return 10;
+        return Some(ListKind::Half);
     }
-    if is_apart(s, h, e.at, e.number, m) {
-        return 11;
-    }
-    0
+    is_apart(s, h, e, m).then_some(ListKind::Apart)
 }
 
-// The kind of list read i, where m is the longest clean list of its key before it; 0 where none fits.
-fn kind_of(s: &[u8], h: &[u64], k: &mut [u16], i: usize, m: usize) -> u8
+// The kind of list read i, where m is the longest clean list of its key before it.
+fn kind_of(s: &[u8], h: &[u64], k: &mut [u16], i: usize, m: usize) -> Option<ListKind>
     requires { Grading s.now h.now i k.old × (m ≡ longest_below (history_of h.now) (lists_in s.now (history_of h.now)) (key_of (history_of h.now) i) i) }
-    ensures { FoundOut (history_of h.now) i k.old k.new result (list_kind (history_of h.now) (lists_in s.now (history_of h.now)) i) }
+    ensures { FoundOut (history_of h.now) i k.old k.new (number_or_0 result) (list_kind (history_of h.now) (lists_in s.now (history_of h.now)) i) }
 {
     let e = spot_of(s, h, i);
     let fault = elements::scan(s, h, k, i, e.at, e.number, e.key);
-    if fault != 0 {
-        return fault;
-    }
-    late_kind(s, h, table::tx_of(h, i), e, m)
+    ListKind::from_number(fault).or_else(|| late_kind(s, h, table::tx_of(h, i), e, m))
 }
 
 // What list read i is: 1 clean, 7 to 11 its kind, 0 where it is not judged.
+// Kept (1): this number is what the table has of it, in fixed memory, and what `code_at` answers.
 fn code_of(s: &[u8], h: &[u64], k: &mut [u16], i: usize, m: usize) -> u8
     requires { Grading s.now h.now i k.old × (m ≡ longest_below (history_of h.now) (lists_in s.now (history_of h.now)) (key_of (history_of h.now) i) i) }
     ensures { FoundOut (history_of h.now) i k.old k.new result (code_of (history_of h.now) (lists_in s.now (history_of h.now)) i) }
@@ -104,11 +100,7 @@ fn code_of(s: &[u8], h: &[u64], k: &mut [u16], i: usize, m: usize) -> u8
     if !reads::is_committed(h, table::tx_of(h, i)) {
         return 0;
     }
-    let r = kind_of(s, h, k, i, m);
-    if r != 0 {
-        return r;
-    }
-    1
+    kind_of(s, h, k, i, m).map_or(1, ListKind::number)
 }
 
 // ── all of them ──
@@ -135,7 +127,7 @@ fn grade(s: &[u8], h: &[u64], k: &mut [u16], i: usize)
     let m = elements::wide(k[table::prev_list(h, i)]) / 16;
     let c = code_of(s, h, k, i, m);
     let b = longer_of(s, h, i, m, c);
-    k[i] = (c as usize + 16 * b) as u16;
+    k[i] = (usize::from(c) + 16 * b) as u16;
 }
 
 // Operation i, if it is a list read.
@@ -153,11 +145,8 @@ pub fn grade_all(s: &[u8], h: &[u64], k: &mut [u16])
     requires { Settled h.now × ListsWithin s.now (history_of h.now) × Ungraded k.old }
     ensures { AllGraded s.now h.now k.new }
 {
-    let n = table::ops(h);
-    let mut i = 1;
-    while i <= n {
+    for i in 1..=table::ops(h) {
         grade_at(s, h, k, i);
-        i += 1;
     }
 }
 

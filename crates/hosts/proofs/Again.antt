@@ -1,7 +1,7 @@
 -- What is written again has left out the trace's notes.
 use Prim.Native.Nat.{ℕ}
 use mathlib.Core.List.{List}
-use Rattle.writing.specs.declared.Filled.{Filled}
+use Rattle.writing.specs.Filling.{Filled}
 use Rattle.written.specs.Fills.{Fills}
 use Rattle.written.specs.Writes.{AllBytes}
 use Rattle.written.specs.Rewrites.{WrittenAgain}

@@ -8,8 +8,11 @@ use Rattle.base.proofs.Fill.{Appended}
 use Rattle.rules.specs.History.{History, tx_count}
 use Rattle.rules.specs.Numbers.{over}
 use Rattle.rules.specs.Outcome.{findings, finding_list, pairs, pair_list, rejecting, reported, outcome}
-use Rattle.rules.specs.declared.Answer.{Answer}
-use Rattle.rules.specs.declared.Answer.TheVariants.{Refused, Rejected}
+use Rattle.rules.specs.Outcome.{Answer}
+use Rattle.std.specs.Prelude.{Ok, Err}
+use Rattle.rules.specs.Refusals.{refusal_at}
+use Rattle.rules.specs.declared.Cause.TheVariants.{FindingsRoom, PairsRoom}
+use Rattle.rules.specs.declared.Ruling.TheVariants.{Rejected}
 use Rattle.rules.proofs.Numbers.{appended-over}
 use Rattle.rules.proofs.Lists.{findings-long, pairs-long}
 use Rattle.rules.proofs.Outcome.{none-empty, is_accepted_lem, found_rejected, listed_rejected, judged_accepted, judged_rejected, rejection_short, rejection_short_pairs, rejection-fits}
@@ -41,12 +44,12 @@ module _ {h l r v : List ℕ} {n : Counts} (m : Counted h l n) (level : ℕ) (j 
   -- ── rejection, with buffers fo and po ──
 
   module _ (fo po : List ℕ) where
-    pub reject_findings : length fo < 6 * n.findings → OnRejection H level fo po fo po (Refused 12 (6 * n.findings))
+    pub reject_findings : length fo < 6 * n.findings → OnRejection H level fo po fo po (Err (refusal_at FindingsRoom (6 * n.findings)))
     unfolding reported
     reject_findings q = record { is = λ o. rw findings-bytes (sym (rejection_short level fo po o H (omega (arith, findings-bytes)))) }
 
     module _ (q : 6 * n.findings ≤ length fo) where
-      pub reject_pairs : length po < 4 * n.pairs → OnRejection H level fo po fo po (Refused 13 (4 * n.pairs))
+      pub reject_pairs : length po < 4 * n.pairs → OnRejection H level fo po fo po (Err (refusal_at PairsRoom (4 * n.pairs)))
       unfolding reported
       reject_pairs l2 =
           record {
@@ -57,7 +60,7 @@ module _ {h l r v : List ℕ} {n : Counts} (m : Counted h l n) (level : ℕ) (j 
           }
 
       pub reject_fits : 4 * n.pairs ≤ length po → {fo2 po2 : List ℕ} {a b : ℕ} → Appended fo 0 fo2 a (finding_list H) → Appended po 0 po2 b (pairs_in H l r v)
-          → OnRejection H level fo po fo2 po2 (Rejected n.findings n.pairs)
+          → OnRejection H level fo po fo2 po2 (Ok (Rejected n.findings n.pairs))
       unfolding reported
       reject_fits l2 x y =
           record {
@@ -81,13 +84,13 @@ module _ (h : History) (level : ℕ) (none : pairs h level ≡ []) {n : ℕ} (fo
   nothing-over p = rw (none-empty (pair_list h level) no_bytes)
 
   module _ (fo po : List ℕ) where
-    pub reads_short : length fo < 6 * n → OnRejection h level fo po fo po (Refused 12 (6 * n))
+    pub reads_short : length fo < 6 * n → OnRejection h level fo po fo po (Err (refusal_at FindingsRoom (6 * n)))
     unfolding reported
     reads_short l =
         let e : 6 * n ≡ length (finding_list h) = omega (arith, found, findings-long h) in
         record { is = λ o. rw e (sym (rejection_short level fo po o h (omega arith))) }
 
-    pub reads_fit : 6 * n ≤ length fo → {fo2 : List ℕ} {a : ℕ} → Appended fo 0 fo2 a (finding_list h) → OnRejection h level fo po fo2 po (Rejected n 0)
+    pub reads_fit : 6 * n ≤ length fo → {fo2 : List ℕ} {a : ℕ} → Appended fo 0 fo2 a (finding_list h) → OnRejection h level fo po fo2 po (Ok (Rejected n 0))
     unfolding reported
     reads_fit l x =
         record {

@@ -10,7 +10,10 @@ use Rattle.theory.proofs.Same.{rest-same}
 use Rattle.rules.specs.History.{History, tx_count, size, committed}
 use Rattle.rules.specs.Levels.{forced}
 use Rattle.rules.specs.Outcome.{order, reported}
-use Rattle.rules.specs.declared.Answer.TheVariants.{Refused, Accepted}
+use Rattle.std.specs.Prelude.{Ok, Err}
+use Rattle.rules.specs.Refusals.{refusal_at}
+use Rattle.rules.specs.declared.Cause.TheVariants.{OrderRoom}
+use Rattle.rules.specs.declared.Ruling.TheVariants.{Accepted}
 use Rattle.rules.proofs.Numbers.{appended-over}
 use Rattle.rules.proofs.Outcome.{acceptance_short, acceptance-fits}
 use Rattle.table.specs.Table.{history_of, Held}
@@ -39,11 +42,11 @@ module _ {h : List ℕ} {x : ℕ} (p : Held h) (e : x ≡ tx_count (history_of h
         record { long = omega (arith, s.end, ap length order_is); shown = appended-front s ∙ order_is; room = omega (arith, s.room, appended-length s) }
 
 module _ {h : History} {level : ℕ} {b : List ℕ} {n : ℕ} (x : Arranged h level b n) (o : List ℕ) where
-  pub accept_short : length o < n → OnAcceptance h level o o (Refused 14 n)
+  pub accept_short : length o < n → OnAcceptance h level o o (Err (refusal_at OrderRoom n))
   unfolding reported
   accept_short l = record { is = λ fs ps. rw x.long (sym (acceptance_short level fs ps o h (omega (arith, x.long)))) }
 
-  pub accept_fits : n ≤ length o → {o2 : List ℕ} → Appended o 0 o2 n (take n b) → OnAcceptance h level o o2 (Accepted n)
+  pub accept_fits : n ≤ length o → {o2 : List ℕ} → Appended o 0 o2 n (take n b) → OnAcceptance h level o o2 (Ok (Accepted n))
   unfolding reported
   accept_fits l {o2} y =
       record { is = λ fs ps. rw (appended-over (rw x.shown at y), x.long) (sym (acceptance-fits level fs ps o h (omega (arith, x.long)))) }

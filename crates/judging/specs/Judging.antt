@@ -3,7 +3,7 @@ use Rattle.std.specs.Prelude.{ℕ, ◌≤◌, ◌≡◌, List, length, take}
 use Rattle.rules.specs.History.{History, size}
 use Rattle.rules.specs.Reading.{read}
 use Rattle.rules.specs.Outcome.{findings, order, reported, outcome, acceptance, rejection, judged_read}
-use Rattle.rules.specs.declared.Answer.{Answer}
+use Rattle.rules.specs.Outcome.{Answer}
 use Rattle.table.specs.Table.{history_of}
 use Rattle.sifting.specs.Lists.{pair_count}
 use Rattle.judging.specs.declared.Counts.{Counts}

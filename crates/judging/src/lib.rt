@@ -15,11 +15,7 @@ ghost use Rattle.forcing.specs.Forcing.{AtLevel};
 ghost use Rattle.judging.specs.Judging.{Counted, Arranged, OnAcceptance, OnRejection, OnReading};
 
 use order::Words;
-use rules::Answer;
-use trace::Out;
-
-// The words of a history's table.
-const WORDS: usize = 2306;
+use rules::{Cause, Refusal, Ruling};
 
 // ── acceptance ──
 
@@ -33,15 +29,15 @@ fn arrange(h: &[u64], f: &[u64; 256], m: Words, shown: &mut [u8; 128]) -> usize
 }
 
 // "on acceptance only, 14"
-fn accept(shown: &[u8; 128], n: usize, out: &mut [u8]) -> Answer
+fn accept(shown: &[u8; 128], n: usize, out: &mut [u8]) -> Result<Ruling, Refusal>
     requires { n ≤ length shown.now }
     ensures { (h : History) (level : ℕ) → Arranged h level shown.now n → OnAcceptance h level out.old out.new result }
 {
     if out.len() < n {
-        return Answer::Refused(14, n);
+        return Err(Cause::OrderRoom.at(n));
     }
     copying::copy(shown, n, out);
-    Answer::Accepted(n)
+    Ok(Ruling::Accepted(n))
 }
 
 // ── rejection ──
@@ -57,11 +53,9 @@ fn count(h: &[u64], k: &[u8], l: &[u64; 256]) -> Counts
     requires { Ready h.now k.now × Under (size (history_of h.now)) l.now }
     ensures { Counted h.now l.now result }
 {
-    let findings = sifting::count_findings(h, k);
-    let pairs = sifting::count_pairs(l, table::txs(h) + 1);
     Counts {
-        findings: findings,
-        pairs: pairs,
+        findings: sifting::count_findings(h, k),
+        pairs: sifting::count_pairs(l, table::txs(h) + 1),
     }
 }
 
@@ -75,19 +69,19 @@ fn reject(
     n: Counts,
     findings: &mut [u8],
     pairs: &mut [u8],
-) -> Answer
+) -> Result<Ruling, Refusal>
     requires { Ready h.now k.now × Listing h.now l.now r.now v.now × Counted h.now l.now n }
     ensures { (level : ℕ) → Judging h.now l.now r.now v.now level → OnRejection (history_of h.now) level findings.old pairs.old findings.new pairs.new result }
 {
     if findings.len() < 6 * n.findings {
-        return Answer::Refused(12, 6 * n.findings);
+        return Err(Cause::FindingsRoom.at(6 * n.findings));
     }
     if pairs.len() < 4 * n.pairs {
-        return Answer::Refused(13, 4 * n.pairs);
+        return Err(Cause::PairsRoom.at(4 * n.pairs));
     }
     sifting::put_findings(h, k, findings);
     sifting::put_pairs(h, l, r, v, pairs);
-    Answer::Rejected(n.findings, n.pairs)
+    Ok(Ruling::Rejected(n.findings, n.pairs))
 }
 
 // .. where a pair is listed, so that both lists have to be told.
@@ -99,7 +93,7 @@ fn reject_listed(
     v: &[u64; 256],
     findings: &mut [u8],
     pairs: &mut [u8],
-) -> Answer
+) -> Result<Ruling, Refusal>
     requires { Ready h.now k.now × Listing h.now l.now r.now v.now × Under (size (history_of h.now)) l.now }
     ensures { (level : ℕ) → Judging h.now l.now r.now v.now level → OnRejection (history_of h.now) level findings.old pairs.old findings.new pairs.new result }
 {
@@ -108,15 +102,15 @@ fn reject_listed(
 }
 
 // .. for its n findings alone, where no pair is listed: the list of pairs is empty, and fits.
-fn reject_reads(h: &[u64], k: &[u8], n: usize, out: &mut [u8]) -> Answer
+fn reject_reads(h: &[u64], k: &[u8], n: usize, out: &mut [u8]) -> Result<Ruling, Refusal>
     requires { Ready h.now k.now × (n ≡ length (findings (history_of h.now))) × (n ≤ 1024) }
     ensures { (level : ℕ) (p : List ℕ) → (pairs (history_of h.now) level ≡ []) → OnRejection (history_of h.now) level out.old p out.new p result }
 {
     if out.len() < 6 * n {
-        return Answer::Refused(12, 6 * n);
+        return Err(Cause::FindingsRoom.at(6 * n));
     }
     sifting::put_findings(h, k, out);
-    Answer::Rejected(n, 0)
+    Ok(Ruling::Rejected(n, 0))
 }
 
 // ── deciding ──
@@ -129,7 +123,7 @@ fn decide_placed(
     n: usize,
     findings: &mut [u8],
     order: &mut [u8],
-) -> Answer
+) -> Result<Ruling, Refusal>
     requires { Ready h.now k.now × (n ≤ length shown.now) }
     ensures { (level : ℕ) (p : List ℕ) → (pairs (history_of h.now) level ≡ []) → Arranged (history_of h.now) level shown.now n → OnReading (history_of h.now) level findings.old p order.old findings.new p order.new result }
 {
@@ -171,7 +165,7 @@ pub fn judge_history(
     findings: &mut [u8],
     pairs: &mut [u8],
     order: &mut [u8],
-) -> Answer
+) -> Result<Ruling, Refusal>
     requires { AtLevel h.now k.now level }
     ensures { OnReading (history_of h.now) level findings.old pairs.old order.old findings.new pairs.new order.new result }
 {
@@ -202,20 +196,12 @@ pub fn judge(
     findings: &mut [u8],
     pairs: &mut [u8],
     order: &mut [u8],
-) -> Answer
+) -> Result<Ruling, Refusal>
     ensures { outcome (reported result) findings.new pairs.new order.new ≡ judged trace.now level findings.old pairs.old order.old }
 {
-    if level < 1 {
-        return Answer::Refused(1, 0);
-    }
-    if 3 < level {
-        return Answer::Refused(1, 0);
-    }
-    let mut h = [0u64; WORDS];
+    forcing::check_level(level)?;
+    let mut h = [0u64; table::WORDS];
     let mut k = [0u8; 1025];
-    let read = forcing::prepare(trace, &mut h, &mut k);
-    match read {
-        Out::Bad(no, place) => Answer::Refused(no, place),
-        Out::Good(_) => judge_history(&h, &k, level, findings, pairs, order),
-    }
+    forcing::prepare(trace, &mut h, &mut k)?;
+    judge_history(&h, &k, level, findings, pairs, order)
 }

@@ -1,13 +1,14 @@
 -- What was kept and marked is who writes the keys that are read; who writes the key of a read has the bit of its bucket.
-use Prim.Native.Nat.{ℕ, ◌+◌, ◌<◌, ◌≤◌}
+use Prim.Native.Nat.{ℕ, ◌+◌, ◌-◌, ◌<◌, ◌≤◌}
 use mathlib.Core.Path.{◌≡◌, refl, sym, ap, ◌∙◌}
 use mathlib.Core.Bool.{true, false, not}
-use mathlib.Core.List.{List}
+use mathlib.Core.List.{List, ◌++◌}
 use mathlib.Core.Logic.{⊎_elim}
 use native.Mathlib.Omega.{arith}
 use lib.Dec.{eqb}
-use lib.ListN.{length, set, length-set}
+use lib.ListN.{length, get_or, set, drop, replicate, length-set, length-append, length-drop, length-replicate, get_or-append, get_or-replicate}
 use lib.Seq.{get_or-set_same, get_or-set_other}
+use Rattle.std.proofs.lemmas.List.{get_or-append_right, get_or-drop}
 use borrow.Author.Tests.{eqb-true, eqb-false, eq-eqb, ne_eqb}
 use Rattle.base.specs.Base.{◌and◌, ◌or◌, last}
 use Rattle.base.proofs.Tests.{ifso, clash, is_false, is_true, same_test, both, and_left, and_right, and_on, and_no_left, and_no_right, or_cases, or_left, or_right, or_on, or_off, pick_on, pick_off}
@@ -18,7 +19,7 @@ use Rattle.rules.specs.Reads.{writes_at, wrote_between, is_external}
 use Rattle.rules.specs.Levels.{writes_key}
 use Rattle.table.specs.Table.{history_of, Held}
 use Rattle.bits.specs.Bits.{Holds, nothing}
-use Rattle.bits.proofs.Tables.{Rewritten, no_word}
+use Rattle.bits.proofs.Tables.{Rewritten}
 use Rattle.pairs.specs.Pairs.{across}
 use Rattle.pairs.proofs.Marking.{cell-is, cell_has, Marking}
 use Rattle.keys.specs.Keys.{bucket_of, reads_into, key_below, key_read, reads_other, is_shared, is_entered, writes_into, wrote, writers, Kept, shared_bit, shared_only, Parted, write_bit}
@@ -27,16 +28,21 @@ use Rattle.keys.specs.Keys.{bucket_of, reads_into, key_below, key_read, reads_ot
 
 module _ (h : History) where
   -- at first there is none: transaction 0's operation stands in, whose key is 0
-  pub keys_start : {o r : List ℕ} → Rewritten no_word o r 128 → Rewritten (key_below h 1) r r 128
-  unfolding no_word key_below op
-  keys_start w =
+  pub keys_start : {o z : List ℕ} → length o ≡ 256 → z ≡ replicate 128 0 → Rewritten (key_below h 1) o (z ++ drop 128 o) 128
+  unfolding key_below op
+  keys_start {o} {z} room e =
+      let long : length z ≡ 128 = ap length e ∙ length-replicate {A = ℕ} 128 0 in
       record {
-        room = refl;
+        room = simp (length-append, length-drop) (omega arith);
         done =
             λ b l.
-            let z : last (reads_into h b) 1 ≡ 0 = omega (arith, last_less (reads_into h b) 1 (omega arith)) in
-            w.done b l ∙ sym (ap (λ (j : ℕ). (op h j).key) z);
-        left = λ b l. refl;
+            let none : last (reads_into h b) 1 ≡ 0 = omega (arith, last_less (reads_into h b) 1 (omega arith)) in
+            get_or-append z (drop 128 o) 0 b (omega arith) ∙ ap (λ (y : List ℕ). get_or y b 0) e ∙ get_or-replicate {A = ℕ} 128 b 0 0 l
+            ∙ sym (ap (λ (j : ℕ). (op h j).key) none);
+        left =
+            λ b l.
+            let q : 128 + (b - 128) ≡ b = omega arith in
+            get_or-append_right z (drop 128 o) 128 b 0 long l ∙ get_or-drop 128 o (b - 128) 0 ∙ ap (λ (j : ℕ). get_or o j 0) q;
       }
 
   module _ {o r : List ℕ} (i : ℕ) (w : Rewritten (key_below h i) o r 128) where
@@ -69,10 +75,6 @@ module _ (h : History) where
           done = λ c m. w.done c m ∙ sym (ap (λ (j : ℕ). (op h j).key) (last_miss (reads_into h c) i (and_no_left _ _ t)));
           left = w.left;
         }
-
--- what the loop left alone was left alone before it
-pub keys_end : {f g : ℕ → ℕ} {o a r : List ℕ} → Rewritten f o a 128 → Rewritten g a r 128 → Rewritten g o r 128
-keys_end p q = record { room = q.room ∙ p.room; done = q.done; left = λ b l. q.left b l ∙ p.left b l }
 
 pub keys_kept : {h : History} {o r : List ℕ} → length o ≡ 256 → Rewritten (key_read h) o r 128 → Kept h r
 keys_kept room w = record { room = w.room ∙ room; is = w.done }

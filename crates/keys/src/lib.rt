@@ -7,7 +7,7 @@ ghost use Rattle.std.specs.Prelude.{◌≡◌, List, ℕ, ◌+◌, ◌<◌, leng
 ghost use Rattle.rules.specs.History.{op};
 ghost use Rattle.table.specs.Table.{history_of, Held, HasOp};
 ghost use Rattle.bits.specs.Bits.{bit_of, Holds, nothing, either};
-ghost use Rattle.bits.proofs.Tables.{Rewritten, no_word};
+ghost use Rattle.bits.proofs.Tables.{Rewritten};
 ghost use Rattle.pairs.specs.Pairs.{Ready};
 ghost use Rattle.keys.specs.Keys.{bucket_of, key_below, key_read, is_entered, writers, Kept, shared_bit, shared_only, Parted, write_bit};
 
@@ -21,17 +21,7 @@ pub fn bucket_of(h: &[u64], i: usize) -> usize
 
 // ── which keys are read ──
 
-// A word for each bucket: no key yet.
-fn clear_keys(r: &mut [u64])
-    requires { length r.old ≡ 256 }
-    ensures { Rewritten no_word r.old r.new 128 }
-{
-    let mut b = 0;
-    while b < 128 {
-        r[b] = 0;
-        b += 1;
-    }
-}
+// Kept (5): h, k, r and w are passed on as the public function gets them: a struct of them would be made there for that alone, and each step writes another.
 
 // The word of operation i's bucket gets its key, where it is a clean external read.
 fn keep_key(h: &[u64], k: &[u8], r: &mut [u64], i: usize)
@@ -48,12 +38,10 @@ fn keep_keys(h: &[u64], k: &[u8], r: &mut [u64])
     requires { Ready h.now k.now × (length r.old ≡ 256) }
     ensures { Rewritten (key_read (history_of h.now)) r.old r.new 128 }
 {
-    clear_keys(r);
-    let n = table::ops(h);
-    let mut i = 1;
-    while i <= n {
+    // a word for each bucket: no key yet
+    r[..128].fill(0);
+    for i in 1..=table::ops(h) {
         keep_key(h, k, r, i);
-        i += 1;
     }
 }
 
@@ -75,11 +63,8 @@ fn mark_shared(h: &[u64], k: &[u8], r: &[u64], w: &mut [u64])
     requires { Ready h.now k.now × Kept (history_of h.now) r.now × Holds w.old nothing }
     ensures { Holds w.new (shared_only (history_of h.now)) }
 {
-    let n = table::ops(h);
-    let mut i = 1;
-    while i <= n {
+    for i in 1..=table::ops(h) {
         mark_other(h, k, r, w, i);
-        i += 1;
     }
 }
 
@@ -94,10 +79,7 @@ fn is_entered(h: &[u64], r: &[u64], w: &[u64], i: usize) -> bool
         return false;
     }
     let b = bucket_of(h, i);
-    if r[b] == table::key_of(h, i) {
-        return true;
-    }
-    bits::bit(w, b, 0)
+    r[b] == table::key_of(h, i) || bits::bit(w, b, 0)
 }
 
 // The row of operation i's key gets the bit of its transaction, where it is such a write.
@@ -114,11 +96,8 @@ fn enter_writes(h: &[u64], r: &[u64], w: &mut [u64])
     requires { Held h.now × Kept (history_of h.now) r.now × Holds w.old (shared_only (history_of h.now)) }
     ensures { Holds w.new (writers (history_of h.now)) }
 {
-    let n = table::ops(h);
-    let mut i = 1;
-    while i <= n {
+    for i in 1..=table::ops(h) {
         enter_write(h, r, w, i);
-        i += 1;
     }
 }
 

@@ -6,19 +6,20 @@ use mathlib.Core.List.{List}
 use native.Mathlib.Omega.{arith}
 use lib.ListN.{length}
 use borrow.Author.Tests.{ne_eqb}
+use Rattle.std.specs.Prelude.{Result, Ok, Err}
 use Rattle.base.proofs.Fill.{Appended}
 use Rattle.rules.specs.History.{History, tx, tx_count, op_count, is_open}
 use Rattle.rules.specs.Records.{is_second}
 use Rattle.rules.specs.Reading.{read, reading}
+use Rattle.rules.specs.Refusals.{refusal_at}
+use Rattle.rules.specs.declared.Cause.TheVariants.{Kind}
+use Rattle.rules.specs.declared.Refusal.{Refusal}
 use Rattle.rules.proofs.Singles.{ReadsSingle}
 use Rattle.demand1.proofs.Readings.{has_read}
 use Rattle.demand1.proofs.Lawful.{over_most, lawful_history}
 use Rattle.table.specs.Table.{history_of}
-use Rattle.trace.specs.declared.Out.{Out}
-use Rattle.trace.specs.declared.Out.TheVariants.{Good, Bad}
 use Rattle.trace.specs.Trace.{TraceRead}
 use Rattle.trace.proofs.Answers.{read_bad, read_good}
-use Rattle.writing.specs.declared.Filled.TheVariants.{Refused}
 use Rattle.writing.specs.declared.Form.TheVariants.{Step}
 use Rattle.writing.specs.Filling.{Said, said, content, fill_of, into}
 use Rattle.writing.specs.Listing.{stepped}
@@ -66,14 +67,14 @@ listable s first {h} k e =
       long = listing-length s first r;
     }
 
-module _ {s g g₀ : List ℕ} {r : Out} (x : TraceRead r g g₀ s) where
-  pub call_refused : (n p : ℕ) → r ≡ Bad n p → (out : List ℕ) → fill_of (said (Refused n p)) out ≡ stepped s out
+module _ {s g g₀ : List ℕ} {r : Result ℕ Refusal} (x : TraceRead r g g₀ s) where
+  pub call_refused : {d : Refusal} → r ≡ Err d → (out : List ℕ) → fill_of (said (Err d)) out ≡ stepped s out
   unfolding said
-  call_refused n p q out = sym (listed_refused s out (read_bad x q))
+  call_refused q out = sym (listed_refused s out (read_bad x q))
 
   -- one that was read, whose edition is told by b
-  module _ {n : ℕ} (q : r ≡ Good n) {b : Bool} (e : b ≡ is_second s) where
-    pub call_second : b ≡ true → (out : List ℕ) → fill_of (said (Refused 6 0)) out ≡ stepped s out
+  module _ {n : ℕ} (q : r ≡ Ok n) {b : Bool} (e : b ≡ is_second s) where
+    pub call_second : b ≡ true → (out : List ℕ) → fill_of (said (Err (refusal_at Kind 0))) out ≡ stepped s out
     unfolding said
     call_second t out = sym (listed-second s out (read_good x q) (sym e ∙ t))
 

@@ -8,21 +8,18 @@ ghost use Rattle.writing.specs.Listing.{stepped};
 ghost use Rattle.lister.specs.Lister.{all_bytes, Listable};
 
 use blocks::Place;
-use trace::Out;
-use writing::{Filled, Form};
-
-// The words of a history's table.
-const WORDS: usize = 2306;
+use rules::{Cause, Refusal};
+use writing::Form;
 
 // A trace that was read.
-fn list_history(h: &[u64], out: &mut [u8]) -> Filled
+fn list_history(h: &[u64], out: &mut [u8]) -> Result<usize, Refusal>
     requires { Held h.now × Listable (history_of h.now) }
     ensures { fill_of (said result) out.new ≡ into (content (all_bytes (history_of h.now))) out.old }
 {
     let count = 2 * table::txs(h) + table::ops(h);
     let n = 16 * count;
     if out.len() < n {
-        return Filled::Refused(16, n);
+        return Err(Cause::OutputRoom.at(n));
     }
     blocks::put_txs(
         h,
@@ -34,23 +31,18 @@ fn list_history(h: &[u64], out: &mut [u8]) -> Filled
             count: count as u32,
         },
     );
-    Filled::Length(n)
+    Ok(n)
 }
 
 // Puts the steps of a trace into a lent buffer: "2 to 11, then 16". One of edition 2 has no steps: once it is read, it is refused for its first record. What
 // the answer means, and what the buffer then holds, is what the definition gives these bytes and this buffer.
-pub fn list_steps(trace: &[u8], out: &mut [u8]) -> Filled
+pub fn list_steps(trace: &[u8], out: &mut [u8]) -> Result<usize, Refusal>
     ensures { fill_of (said result) out.new ≡ stepped trace.now out.old }
 {
-    let mut h = [0u64; WORDS];
-    let read = trace::read_trace(trace, &mut h);
-    match read {
-        Out::Bad(no, place) => Filled::Refused(no, place),
-        Out::Good(_) => {
-            if frame::is_second(trace) {
-                return Filled::Refused(6, 0);
-            }
-            list_history(&h, out)
-        }
+    let mut h = [0u64; table::WORDS];
+    trace::read_trace(trace, &mut h)?;
+    if frame::is_second(trace) {
+        return Err(Cause::Kind.at(0));
     }
+    list_history(&h, out)
 }

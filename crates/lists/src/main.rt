@@ -3,6 +3,7 @@
 
 use std::io;
 
+// Kept (2): the programs of this shape differ in the call between reading and writing; a closure that hands back a part of what it is lent is no plainer.
 fn main(rt: HostRuntime) -> io::Result<()> {
     // One byte more than a trace may have, so that a longer one is seen to be too long. Whatever stands behind, the text is the same (`kept_lists`,
     // appends_text/proofs/Kept.antt).

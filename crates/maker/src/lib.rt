@@ -9,11 +9,9 @@ ghost use Rattle.table.specs.Table.{table_words, history_of, Held};
 ghost use Rattle.writing.specs.Filling.{fill_of, said};
 ghost use Rattle.writing.specs.Steps.{step_count, step_of, step_at, steps_in};
 ghost use Rattle.writing.specs.Writing.{is_no_step, trace_of, written};
-ghost use Rattle.maker.specs.Maker.{number_in, Entered, Ended, FollowedInto, Makes};
+ghost use Rattle.maker.specs.Maker.{Entered, Ended, FollowedInto, Makes};
 
-use rules::Event;
-use steps::Next;
-use writing::Filled;
+use rules::{Cause, Event, Refusal};
 
 // ── steps ──
 
@@ -67,66 +65,40 @@ fn is_no_step(event: Event) -> bool
     }
 }
 
-// The number of the row that refused, 0 where none did.
-fn number_in(next: Next) -> u8
-    ensures { result ≡ number_in next }
-{
-    match next {
-        Next::Refuse(no) => no,
-        Next::Go => 0,
-        Next::Count => 0,
-        Next::List => 0,
-        Next::Done => 0,
-    }
-}
-
-// A step goes into the table h, unless a row, 6 to 10, refuses it; that row's number, else 0.
-fn enter(event: Event, h: &mut [u64]) -> u8
+// A step goes into the table h, unless a row, 6 to 10, refuses it.
+fn enter(event: Event, h: &mut [u64]) -> Result<(), Cause>
     requires { Held h.old × (written_key event < 4294967296) }
     ensures { Entered result h.new h.old event }
 {
     if is_no_step(event) {
-        return 6;
+        return Err(Cause::Kind);
     }
-    number_in(steps::take(event, h))
+    steps::take(event, h)?;
+    Ok(())
 }
 
-// The number of the row that refuses the end record, which would have the number of transactions opened; 0 where none does.
-fn end_no(h: &mut [u64]) -> u8
+// The end record, which would have the number of transactions opened, unless a row refuses it.
+fn enter_end(h: &mut [u64]) -> Result<(), Cause>
     requires { Held h.old }
     ensures { Ended result h.new h.old }
 {
     let txs = table::txs(h) as u16;
-    number_in(steps::take(Event::End(txs), h))
+    steps::take(Event::End(txs), h)?;
+    Ok(())
 }
 
-// No row refused, and the table has the history; or one did, with its number and the step's.
-#[derive(Clone, Copy)]
-pub enum Course {
-    Good,
-    Bad(u8, usize),
-}
-
-// "the step's number, from 1, as place; a sequence that ends inside a transaction gets 7 with the number of steps plus one"
-fn follow_steps(s: &[u8], h: &mut [u64]) -> Course
+// All steps and the end record go into the table h, unless a row refuses one of them: "the step's number, from 1, as place; a sequence that ends inside a
+// transaction gets 7 with the number of steps plus one"
+fn follow_steps(s: &[u8], h: &mut [u64]) -> Result<(), Refusal>
     requires { length h.old ≡ table_words }
     ensures { FollowedInto result h.new s.now }
 {
     table::clear(h);
     let n = step_count(s);
-    let mut k = 0;
-    while k < n {
-        let no = enter(step_at(s, 16 * k), h);
-        if 0 < no {
-            return Course::Bad(no, k + 1);
-        }
-        k += 1;
+    for k in 0..n {
+        rules::placed(enter(step_at(s, 16 * k), h), k + 1)?;
     }
-    let no = end_no(h);
-    if 0 < no {
-        return Course::Bad(no, n + 1);
-    }
-    Course::Good
+    rules::placed(enter_end(h), n + 1)
 }
 
 // ── the trace ──
@@ -144,46 +116,37 @@ fn put_trace(s: &[u8], serial: u32, h: &[u64], out: &mut [u8]) -> usize
     requires { Makes h.now s.now × (length (trace_of serial (steps_in s.now) (history_of h.now)) ≤ length out.old) }
     ensures { Appended out.old 0 out.new result (trace_of serial (steps_in s.now) (history_of h.now)) }
 {
-    let n = step_count(s);
     let mut next = serial;
     let mut at = 0;
-    let mut k = 0;
-    while k < n {
+    for k in 0..step_count(s) {
         at = putting::put_record(out, at, next, false, 0, step_at(s, 16 * k));
         // "after 4,294,967,295 comes 0"
-        next = std::num::wrapping_add_u32(next, 1);
-        k += 1;
+        next = next.wrapping_add(1);
     }
     let txs = table::txs(h) as u16;
     putting::put_record(out, at, next, false, 0, Event::End(txs))
 }
 
 // "16, output buffer too short, place the bytes needed, after all others"
-fn put_whole(s: &[u8], serial: u32, h: &[u64], out: &mut [u8]) -> Filled
+fn put_whole(s: &[u8], serial: u32, h: &[u64], out: &mut [u8]) -> Result<usize, Refusal>
     requires { Makes h.now s.now }
     ensures { fill_of (said result) out.new ≡ written s.now serial out.old }
 {
     let needed = trace_length(h);
     if out.len() < needed {
-        return Filled::Refused(16, needed);
+        return Err(Cause::OutputRoom.at(needed));
     }
-    Filled::Length(put_trace(s, serial, h, out))
+    Ok(put_trace(s, serial, h, out))
 }
 
 // ── the call ──
 
-// How many words a table has.
-const WORDS: usize = 2306;
-
 // Fills the buffer with the trace of these steps, whose first serial is given. "Nothing is written on refusal"; what the answer means, and what the
 // buffer then holds, is what the definition gives these bytes, this serial and this buffer.
-pub fn write_trace(steps: &[u8], serial: u32, out: &mut [u8]) -> Filled
+pub fn write_trace(steps: &[u8], serial: u32, out: &mut [u8]) -> Result<usize, Refusal>
     ensures { fill_of (said result) out.new ≡ written steps.now serial out.old }
 {
-    let mut h = [0u64; WORDS];
-    let course = follow_steps(steps, &mut h);
-    match course {
-        Course::Bad(no, place) => Filled::Refused(no, place),
-        Course::Good => put_whole(steps, serial, &h, out),
-    }
+    let mut h = [0u64; table::WORDS];
+    follow_steps(steps, &mut h)?;
+    put_whole(steps, serial, &h, out)
 }

@@ -24,10 +24,7 @@ fn is_single(x: u64) -> bool
 fn is_other(x: u64, y: u64) -> bool
     ensures { result ≡ is_other_sort (is_single x) (is_single y) }
 {
-    if is_single(x) {
-        return !is_single(y);
-    }
-    is_single(y)
+    is_single(x) != is_single(y)
 }
 
 // The first operation before i that has i's key, 0 where none has: only the keys of one bucket are looked at, each once.
@@ -76,13 +73,10 @@ pub fn enter_all(h: &[u64], k: &mut [u16; 1153]) -> bool
     requires { Held h.now × (k.old ≡ replicate 1153 0) }
     ensures { EnteredAll result k.new (history_of h.now) }
 {
-    let n = table::ops(h);
-    let mut i = 1;
-    while i <= n {
+    for i in 1..=table::ops(h) {
         if enter(h, k, i) {
             return true;
         }
-        i += 1;
     }
     false
 }

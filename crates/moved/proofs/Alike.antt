@@ -2,7 +2,7 @@
 use Prim.Native.Nat.{ℕ}
 use mathlib.Core.Bool.{Bool}
 use mathlib.Core.List.{List}
-use Rattle.rules.specs.declared.Answer.{Answer}
+use Rattle.rules.specs.Outcome.{Answer}
 use Rattle.demand1.proofs.Lawful.{lawful_history}
 use Rattle.demand1.proofs.Readings.{has_history}
 use Rattle.demands.specs.Demands.{Demands}

@@ -7,7 +7,6 @@ use mathlib.Core.Logic.{⊎_elim, ◌↔◌}
 use native.Mathlib.Omega.{arith}
 use lib.ListN.{length}
 use borrow.Author.Tests.{eqb-true, eq-eqb}
-use Rattle.base.specs.Base.{◌or◌}
 use Rattle.base.proofs.Tests.{clash, ifso, split, below_suc, or_cases, or_left, or_right}
 use Rattle.rules.specs.History.{History, Op, op, op_count, opened, closed, with_op}
 use Rattle.rules.specs.Records.{is_second}

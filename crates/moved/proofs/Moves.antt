@@ -13,9 +13,8 @@ use Rattle.rules.specs.Records.{is_second}
 use Rattle.rules.specs.Reading.{Reading, refused, read, reading}
 use Rattle.demand1.specs.Rows.{serial, HasHistory}
 use Rattle.demand1.proofs.Readings.{refuses_iff, has_read, read_has, history_one}
-use Rattle.writing.specs.Filling.{refusing, answering, said, fill_of}
+use Rattle.writing.specs.Filling.{refusing, answering, said, fill_of, Filled}
 use Rattle.writing.specs.Forms.{whole_of}
-use Rattle.writing.specs.declared.Filled.{Filled}
 use Rattle.writing.proofs.Filling.{into_short, into-fits}
 use Rattle.written.specs.Writes.{AllBytes, record_at}
 use Rattle.written.proofs.Declined.{TraceRows, refused_rows, rows_never_15}

@@ -5,15 +5,13 @@ use Rattle.rules.specs.History.{History, op, tx_count, op_count}
 use Rattle.rules.specs.Records.{is_second}
 use Rattle.demand1.specs.Lawful.{IsOp}
 use Rattle.demand1.specs.Rows.{kind, serial, OfLists, Refuses, ReadInto, HasHistory}
-use Rattle.writing.specs.Filling.{answering, said}
+use Rattle.writing.specs.Filling.{answering, said, Filled}
 use Rattle.writing.specs.Forms.{whole_of}
-use Rattle.writing.specs.declared.Filled.{Filled}
 use Rattle.written.specs.Fills.{Fills}
 use Rattle.written.specs.Writes.{record_at}
 use Rattle.renumbering.specs.Renumbering.{Renumbers}
 use Rattle.moving.specs.Renumbering.{new_number, old_number}
-use Rattle.moving.specs.Tally.{tallied_fill, filled_of}
-use Rattle.moving.specs.declared.Tallied.{Tallied}
+use Rattle.moving.specs.Tally.{tallied_fill, filled_of, Tallied}
 use Rattle.noteless.specs.Texts.{NoteCount}
 use Rattle.moved.specs.Records.{RecordsAre}
 

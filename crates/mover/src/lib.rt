@@ -11,17 +11,13 @@ ghost use Rattle.writing.specs.Forms.{form_of, preamble, whole_of};
 ghost use Rattle.writing.proofs.Sizes.{whole_size};
 ghost use Rattle.blocks.specs.Blocks.{PutBefore, RoomBefore};
 ghost use Rattle.moving.specs.Moving.{is_same, moved_trace, is_list_kind, list_from, first_list, moved_to};
-ghost use Rattle.moving.specs.Tally.{tallied_fill, filled_of, with_notes, moved_to_second, GivesTallied};
+ghost use Rattle.moving.specs.Tally.{tallied_fill, with_notes, moved_to_second, GivesTallied};
 ghost use Rattle.mover.specs.Mover.{whole_count, Movable};
 
 use blocks::Place;
-use moving::Tallied;
-use rules::Event;
-use trace::Out;
-use writing::{Filled, Form};
-
-// The words of a history's table.
-const WORDS: usize = 2306;
+use moving::Output;
+use rules::{Cause, Event, Refusal};
+use writing::Form;
 
 // ── a trace that is of the wanted edition ──
 
@@ -35,15 +31,15 @@ fn is_same(is: bool, second: bool) -> bool
 }
 
 // "A trace already in the wanted edition comes out unchanged, notes too."
-fn put_same(trace: &[u8], notes: usize, out: &mut [u8]) -> Tallied
+fn put_same(trace: &[u8], notes: usize, out: &mut [u8]) -> Result<Output, Refusal>
     ensures { tallied_fill result out.new ≡ with_notes (into (content trace.now) out.old) notes }
 {
     let n = trace.len();
     if out.len() < n {
-        return Tallied::Refused(16, n);
+        return Err(Cause::OutputRoom.at(n));
     }
     copying::copy(trace, n, out);
-    Tallied::Length(n, notes)
+    Ok(Output { length: n, notes })
 }
 
 // ── one that is not ──
@@ -103,27 +99,24 @@ fn put_whole(h: &[u64], second: bool, first: u32, out: &mut [u8], place: Place) 
 }
 
 // "The first serial is kept and the rest follow it. Notes are left out."
-fn put_moved(trace: &[u8], h: &[u64], notes: usize, second: bool, out: &mut [u8]) -> Tallied
+fn put_moved(
+    trace: &[u8],
+    h: &[u64],
+    notes: usize,
+    second: bool,
+    out: &mut [u8],
+) -> Result<Output, Refusal>
     requires { Held h.now × Movable second (history_of h.now) × (8 ≤ length trace.now) }
     ensures { tallied_fill result out.new ≡ with_notes (into (content (moved_trace second (serial_at trace.now 0) (history_of h.now))) out.old) notes }
 {
     let first = frame::u32_at(trace, 4);
     let n = moved_length(h, second);
     if out.len() < n {
-        return Tallied::Refused(16, n);
+        return Err(Cause::OutputRoom.at(n));
     }
     let count = moved_count(h, second);
-    put_whole(
-        h,
-        second,
-        first,
-        out,
-        Place {
-            at: n,
-            count: count,
-        },
-    );
-    Tallied::Length(n, notes)
+    put_whole(h, second, first, out, Place { at: n, count });
+    Ok(Output { length: n, notes })
 }
 
 // ── appends and list reads, which edition 1 has not ──
@@ -143,11 +136,12 @@ fn list_from(trace: &[u8]) -> usize
 {
     let n = trace.len();
     let mut at = 0;
+    // Kept (3): each step is as long as the record says, so no range has these offsets; a rest of the slice in place of the offset would not answer where it is.
     while at + 4 <= n {
         if is_list_kind(frame::u16_at(trace, at + 2)) {
             return at;
         }
-        at = at + 2 + frame::u16_at(trace, at) as usize;
+        at += 2 + usize::from(frame::u16_at(trace, at));
     }
     n
 }
@@ -166,47 +160,32 @@ fn first_list(is: bool, trace: &[u8]) -> usize
 // ── the calls ──
 
 // To edition 2 or 1: "Refusals: 01's for the input, then 16 for the output."; "20, list kinds in a move to edition 1, .. before 16".
-fn move_to(second: bool, trace: &[u8], out: &mut [u8]) -> Tallied
+fn move_to(second: bool, trace: &[u8], out: &mut [u8]) -> Result<Output, Refusal>
     ensures { tallied_fill result out.new ≡ with_notes (moved_to second trace.now out.old) (notes_of (reading trace.now)) }
 {
-    let mut h = [0u64; WORDS];
-    let read = trace::read_trace(trace, &mut h);
-    match read {
-        Out::Bad(no, place) => Tallied::Refused(no, place),
-        Out::Good(notes) => {
-            let is = frame::is_second(trace);
-            if is_same(is, second) {
-                return put_same(trace, notes, out);
-            }
-            let place = first_list(is, trace);
-            if place < trace.len() {
-                return Tallied::Refused(20, place);
-            }
-            put_moved(trace, &h, notes, second, out)
-        }
+    let mut h = [0u64; table::WORDS];
+    let notes = trace::read_trace(trace, &mut h)?;
+    let is = frame::is_second(trace);
+    if is_same(is, second) {
+        return put_same(trace, notes, out);
     }
+    let place = first_list(is, trace);
+    if place < trace.len() {
+        return Err(Cause::ListsMoved.at(place));
+    }
+    put_moved(trace, &h, notes, second, out)
 }
 
-// The answer without the notes: a move to edition 1 does not answer them.
-pub fn filled(answer: Tallied) -> Filled
-    ensures { result ≡ filled_of answer }
-{
-    match answer {
-        Tallied::Refused(no, place) => Filled::Refused(no, place),
-        Tallied::Length(n, _) => Filled::Length(n),
-    }
-}
-
-// Fills a lent buffer with a trace, moved to edition 1. What the answer means, and what the buffer then holds, is what the definition gives these bytes and
-// this buffer.
-pub fn to_edition_1(trace: &[u8], out: &mut [u8]) -> Filled
+// Fills a lent buffer with a trace, moved to edition 1, and does not answer its notes. What the answer means, and what the buffer then holds, is what the
+// definition gives these bytes and this buffer.
+pub fn to_edition_1(trace: &[u8], out: &mut [u8]) -> Result<usize, Refusal>
     ensures { Gives result out.new (moved_to false trace.now out.old) }
 {
-    filled(move_to(false, trace, out))
+    move_to(false, trace, out).map(|output| output.length)
 }
 
 // .. moved to edition 2, and answers how many notes the trace had.
-pub fn to_edition_2(trace: &[u8], out: &mut [u8]) -> Tallied
+pub fn to_edition_2(trace: &[u8], out: &mut [u8]) -> Result<Output, Refusal>
     ensures { GivesTallied result out.new (moved_to_second trace.now out.old) }
 {
     move_to(true, trace, out)

@@ -6,5 +6,6 @@ pub mod Turns
 pub mod Grown
 pub mod Lists
 pub mod Moving
+pub mod Named
 pub mod Tally
 pub mod Cases

@@ -11,7 +11,7 @@ use Rattle.base.specs.Base.{pick}
 use Rattle.rules.specs.History.{History}
 use Rattle.rules.specs.Records.{serial_at, is_second}
 use Rattle.rules.specs.Reading.{refused, read, reading}
-use Rattle.writing.specs.declared.Filled.{Filled}
+use Rattle.writing.specs.Filling.{Filled}
 use Rattle.writing.specs.Filling.{refusing, said, content, fill_of, Gives, into}
 use Rattle.writing.proofs.Within.{filled_within}
 use Rattle.moving.specs.Moving.{is_same, moved_trace, first_list, moved_read, moved_to}

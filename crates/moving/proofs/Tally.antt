@@ -5,36 +5,46 @@ use mathlib.Core.Bool.{Bool, true, true≢false, false≢true}
 use mathlib.Core.List.{List}
 use Rattle.base.specs.Base.{pick}
 use Rattle.rules.specs.Reading.{reading, notes_of}
-use Rattle.writing.specs.declared.Filled.{Filled}
+use Rattle.writing.specs.Filling.{Filled}
 use Rattle.writing.specs.Filling.{refusing, answering, said, Fill, fill_of, Gives}
-use Rattle.moving.specs.declared.Tallied.{Tallied}
-use Rattle.moving.specs.declared.Tallied.TheVariants as T
+use Rattle.std.specs.Prelude.{Ok, Err}
+use Rattle.rules.specs.Refusals.{cause_no}
+use Rattle.rules.specs.declared.Refusal.{Refusal}
+use Rattle.rules.proofs.Refusals.{refusal_one}
+use Rattle.moving.specs.Tally.{Tallied}
+use Rattle.moving.specs.declared.Output.{Output}
 use Rattle.moving.specs.Moving.{moved_to}
 use Rattle.moving.specs.Tally.{TalliedFill, tallied_fill, filled_of, with_notes, moved_to_second, GivesTallied}
 use Rattle.moving.proofs.Moving.{gives_moved}
 
 -- a refusal tells none, whatever there were; what was filled tells them all
-pub tallied_refused : {x : Fill} {b : List ℕ} (n p k : ℕ) → fill_of (refusing n p) b ≡ x → tallied_fill (T.Refused n p) b ≡ with_notes x k
-unfolding tallied_fill with_notes pick
-tallied_refused n p k e = rw (← e) refl
+pub output_one : {t u : Output} → t.length ≡ u.length → t.notes ≡ u.notes → t ≡ u
+output_one n k = rw (n, k)
 
-pub tallied_length : {x : Fill} {b : List ℕ} (n k : ℕ) → fill_of (answering n) b ≡ x → tallied_fill (T.Length n k) b ≡ with_notes x k
+pub tallied_refused : {x : Fill} {b : List ℕ} (r : Refusal) (k : ℕ) → fill_of (refusing (cause_no r.cause) r.place) b ≡ x → tallied_fill (Err r) b ≡ with_notes x k
 unfolding tallied_fill with_notes pick
-tallied_length n k e = rw (← e) refl
+tallied_refused r k e = rw (← e) refl
+
+pub tallied_length : {x : Fill} {b : List ℕ} (t : Output) → fill_of (answering t.length) b ≡ x → tallied_fill (Ok t) b ≡ with_notes x t.notes
+unfolding tallied_fill with_notes pick
+tallied_length t e = rw (← e) refl
 
 -- what an answer says, with the buffer, leaves one answer and one content
 pub tallied_one : (r q : Tallied) {b c : List ℕ} → tallied_fill r b ≡ tallied_fill q c → (r ≡ q) × (b ≡ c)
 unfolding tallied_fill
-tallied_one (T.Refused n p) (T.Refused m q) e = (rw (ap (λ (x : TalliedFill). x.fill.answer.no) e, ap (λ (x : TalliedFill). x.fill.answer.place) e), ap (λ (x : TalliedFill). x.fill.buffer) e)
-tallied_one (T.Refused n p) (T.Length m k) e = absurd (true≢false (ap (λ (x : TalliedFill). x.fill.answer.is_refused) e))
-tallied_one (T.Length n k) (T.Refused m p) e = absurd (false≢true (ap (λ (x : TalliedFill). x.fill.answer.is_refused) e))
-tallied_one (T.Length n k) (T.Length m l) e = (rw (ap (λ (x : TalliedFill). x.fill.answer.length) e, ap (λ (x : TalliedFill). x.notes) e), ap (λ (x : TalliedFill). x.fill.buffer) e)
+tallied_one (Err r) (Err q) e = (ap Err (refusal_one (ap (λ (x : TalliedFill). x.fill.answer.no) e) (ap (λ (x : TalliedFill). x.fill.answer.place) e)), ap (λ (x : TalliedFill). x.fill.buffer) e)
+tallied_one (Err r) (Ok t) e = absurd (true≢false (ap (λ (x : TalliedFill). x.fill.answer.is_refused) e))
+tallied_one (Ok t) (Err q) e = absurd (false≢true (ap (λ (x : TalliedFill). x.fill.answer.is_refused) e))
+tallied_one (Ok t) (Ok u) e =
+    let n : t.length ≡ u.length = ap (λ (x : TalliedFill). x.fill.answer.length) e in
+    let k : t.notes ≡ u.notes = ap (λ (x : TalliedFill). x.notes) e in
+    (ap (λ (x : Output). Ok x) (output_one n k), ap (λ (x : TalliedFill). x.fill.buffer) e)
 
 -- without the notes it is the answer of any call that fills a buffer
 fill_is : (r : Tallied) (b : List ℕ) → fill_of (said (filled_of r)) b ≡ (tallied_fill r b).fill
 unfolding tallied_fill filled_of said
-fill_is (T.Refused n p) b = refl
-fill_is (T.Length n k) b = refl
+fill_is (Err r) b = refl
+fill_is (Ok t) b = refl
 
 pub filled_is : (r : Tallied) (b : List ℕ) (x : Fill) (n : ℕ) → tallied_fill r b ≡ with_notes x n → fill_of (said (filled_of r)) b ≡ x
 unfolding with_notes

@@ -1,28 +1,31 @@
 -- Document 02, request Six: "The move to edition 2 now also answers how many notes the trace had."
-use Rattle.std.specs.Prelude.{ℕ, ◌≤◌, ◌≡◌, true, List, length}
+use Rattle.std.specs.Prelude.{ℕ, ◌≤◌, ◌≡◌, true, List, length, Result, Ok, Err}
 use Rattle.base.specs.Base.{pick}
+use Rattle.rules.specs.Refusals.{cause_no}
 use Rattle.rules.specs.Reading.{reading, notes_of}
-use Rattle.writing.specs.Filling.{refusing, answering, said, Fill, fill_of}
-use Rattle.writing.specs.declared.Filled.{Filled}
-use Rattle.writing.specs.declared.Filled.TheVariants as F
+use Rattle.rules.specs.declared.Refusal.{Refusal}
+use Rattle.writing.specs.Filling.{Filled, refusing, answering, said, Fill, fill_of}
 use Rattle.moving.specs.Moving.{moved_to}
-use Rattle.moving.specs.declared.Tallied.{Tallied}
-use Rattle.moving.specs.declared.Tallied.TheVariants as T
+use Rattle.moving.specs.declared.Output.{Output}
 
 -- an answer and what the buffer then holds, as of any call that fills one, and the number of notes, 0 on refusal
 pub record TalliedFill : Type 0 where
   pub fill : Fill
   pub notes : ℕ
 
--- what each case of the answer says, in the documents' numbers, where the buffer then holds b
+-- the answer
+abbrev pub Tallied : Type 0
+Tallied = Result Output Refusal
+
+-- what each case of it says, in the documents' numbers, where the buffer then holds b
 unfoldable pub tallied_fill : Tallied → List ℕ → TalliedFill
-tallied_fill (T.Refused n p) b = record { fill = fill_of (refusing n p) b; notes = 0 }
-tallied_fill (T.Length n k) b = record { fill = fill_of (answering n) b; notes = k }
+tallied_fill (Err r) b = record { fill = fill_of (refusing (cause_no r.cause) r.place) b; notes = 0 }
+tallied_fill (Ok t) b = record { fill = fill_of (answering t.length) b; notes = t.notes }
 
 -- .. without the notes
 unfoldable pub filled_of : Tallied → Filled
-filled_of (T.Refused n p) = F.Refused n p
-filled_of (T.Length n k) = F.Length n
+filled_of (Err r) = Err r
+filled_of (Ok t) = Ok t.length
 
 -- n notes, told with what was filled and not with a refusal
 unfoldable pub with_notes : Fill → ℕ → TalliedFill

@@ -1,15 +1,11 @@
 -- The look-up by halving: keys ascend, so that those which are less stand before the others.
-use Prim.Native.Nat.{ℕ, ◌+◌, ◌-◌, ◌≤◌, ◌<◌}
+use Prim.Native.Nat.{ℕ, ◌+◌, ◌≤◌, ◌<◌}
 use mathlib.Core.Path.{◌≡◌, ap, sym, ◌∙◌}
-use mathlib.Core.Bool.{Bool, true, false}
 use mathlib.Core.Logic.{⊎_elim}
 use mathlib.Core.List.{List}
 use native.Mathlib.Omega.{arith}
 use lib.ListN.{length, get_or}
-use lib.Dec.{ltb}
-use borrow.Author.Tests.{ltb-true, ltb-false}
-use Rattle.base.specs.Base.{pick}
-use Rattle.base.proofs.Tests.{ifso, split, pick_on, pick_off}
+use Rattle.base.proofs.Tests.{split}
 use Rattle.names_rules.specs.Names.{key_at, with_key, record_with, IndexOf}
 use Rattle.names_rules.proofs.Walking.{NameFits}
 use Rattle.names_rules.proofs.Offsets.{offset_fits, keys_ascend, key-first, key-none}
@@ -40,7 +36,7 @@ halving_end {s} {l} {key} {low} {high} x h =
 
 -- a test in the middle says which half is left
 module _ {s l : List ℕ} (i : IndexOf s l) {key low high : ℕ} (x : Halving s l key low high) {mid : ℕ} (from : low ≤ mid) (to : mid < high) where
-  half_above : key_at s (get_or l mid 0) < key → Halving s l key (mid + 1) high
+  pub half_above : key_at s (get_or l mid 0) < key → Halving s l key (mid + 1) high
   half_above h =
       record {
         between = omega arith;
@@ -50,7 +46,7 @@ module _ {s l : List ℕ} (i : IndexOf s l) {key low high : ℕ} (x : Halving s 
         rest = x.rest;
       }
 
-  half_below : key ≤ key_at s (get_or l mid 0) → Halving s l key low mid
+  pub half_below : key ≤ key_at s (get_or l mid 0) → Halving s l key low mid
   half_below h =
       record {
         between = from;
@@ -58,20 +54,6 @@ module _ {s l : List ℕ} (i : IndexOf s l) {key low high : ℕ} (x : Halving s 
         less = x.less;
         rest = λ j a b. ⊎_elim (λ (k : mid < j). omega (arith, entries_ascend i mid j k b)) (λ (k : j ≤ mid). let e : j ≡ mid = omega arith in rw e h) (split mid j);
       }
-
-  module _ {b : Bool} (is : b ≡ ltb (key_at s (get_or l mid 0)) key) {low2 high2 : ℕ} (p : low2 ≡ pick b (mid + 1) low) (q : high2 ≡ pick b high mid) where
-    pub halving_more : Halving s l key low2 high2
-    halving_more =
-        ifso b
-        (λ (t : b ≡ true).
-        rw (p ∙ pick_on b (mid + 1) low t, q ∙ pick_on b high mid t) (half_above (ltb-true _ _ (sym is ∙ t))))
-        (λ (t : b ≡ false). rw (p ∙ pick_off b (mid + 1) low t, q ∙ pick_off b high mid t) (half_below (ltb-false _ _ (sym is ∙ t))))
-
-    -- less is left
-    pub halving_less : high2 - low2 < high - low
-    halving_less =
-        ifso b (λ (t : b ≡ true). omega (arith, p ∙ pick_on b (mid + 1) low t, q ∙ pick_on b high mid t))
-        (λ (t : b ≡ false). omega (arith, p ∙ pick_off b (mid + 1) low t, q ∙ pick_off b high mid t))
 
 -- ── the record that has the key ──
 

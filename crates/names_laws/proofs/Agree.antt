@@ -11,10 +11,10 @@ use borrow.Author.Tests.{ltb-true, ltb-false, eqb-true, eqb-false, lt-ltb, le-lt
 use Rattle.base.specs.Base.{◌or◌, some}
 use Rattle.base.proofs.Tests.{ifso, split, or_cases, or_left, or_right, or_on, neither_left, neither_right}
 use Rattle.base.proofs.Searches.{some_at, some_of_lem, some-none, none-at}
-use Rattle.names_rules.specs.Names.{is_odd, name_no, check_from, checked}
+use Rattle.names_rules.specs.Names.{is_odd, name_no, FileCheck, check_from, checked}
 use Rattle.names_laws.specs.Names.{name_length, name_kind, name_key, name_end, WholeName, PlainName, OtherByte, SoundName, Faulty, no_length, other_length, missing, other_kind, other_byte, not_ascending, SoundTo, front, past, NamesRefused, too_long, faulty, NamesLawful}
-use Rattle.names_rules.specs.declared.FileCheck.{FileCheck}
-use Rattle.names_rules.specs.declared.FileCheck.TheVariants.{Good, Bad}
+use Rattle.std.specs.Prelude.{Ok, Err}
+use Rattle.rules.specs.Refusals.{declined}
 use Rattle.names_rules.proofs.Walking as W
 use Rattle.names_rules.proofs.Loops.{Checking, checking_first, checking_end, checking_bad, checking_more}
 
@@ -113,18 +113,18 @@ module _ (s : List ℕ) (at : ℕ) where
 
 -- what checking a file says, as a condition
 unfoldable Says : List ℕ → FileCheck → Type 0
-Says s Good = NamesLawful s
-Says s (Bad n p) = NamesRefused s n p
+Says s (Ok x) = NamesLawful s
+Says s (Err d) = NamesRefused s d.no d.place
 
 -- checking comes as far as records are as they should be
 pub comes_checking : (s : List ℕ) → length s ≤ 32768 → {at low : ℕ} → SoundTo s at low → Checking s at low
 comes_checking s h front = checking_first s h
 comes_checking s h (past {at} {low} c l x) = checking_more (comes_checking s h c) l (sound_no s at low x) (omega arith) refl refl
 
-lawful_is : (s : List ℕ) → NamesLawful s → checked s ≡ Good
+lawful_is : (s : List ℕ) → NamesLawful s → checked s ≡ Ok tt
 lawful_is s x = sym (checking_end (comes_checking s x.short x.ends) (omega arith))
 
-refused_is : (s : List ℕ) {n p : ℕ} → NamesRefused s n p → checked s ≡ Bad n p
+refused_is : (s : List ℕ) {n p : ℕ} → NamesRefused s n p → checked s ≡ Err (declined n p)
 refused_is s (too_long h) = W.too_long s h
 refused_is s (faulty {at} {low} h c l x) = sym (checking_bad (comes_checking s h c) l (faulty_no s at low x) (fault_counts s at low x))
 
@@ -152,11 +152,11 @@ check_says s =
     (λ (h : length s ≤ 32768). subst (Says s) (sym (W.from_front s h)) (says_from (length s) s 0 0 h (omega arith) (omega arith) front)) (split 32768 (length s))
 
 -- a file is found lawful exactly if every record is as it should be
-pub lawful_iff : (s : List ℕ) → (checked s ≡ Good) ↔ NamesLawful s
+pub lawful_iff : (s : List ℕ) → (checked s ≡ Ok tt) ↔ NamesLawful s
 unfolding Says
 lawful_iff s = (λ q. subst (Says s) q (check_says s), lawful_is s)
 
 -- .. and refused exactly on the rows, with their numbers and places
-pub refused_iff : (s : List ℕ) (n p : ℕ) → (checked s ≡ Bad n p) ↔ NamesRefused s n p
+pub refused_iff : (s : List ℕ) (n p : ℕ) → (checked s ≡ Err (declined n p)) ↔ NamesRefused s n p
 unfolding Says
 refused_iff s n p = (λ q. subst (Says s) q (check_says s), refused_is s)

@@ -1,18 +1,16 @@
 -- Two files: the refusal, the place of a name and the part that is handed back are those of the conditions, and no others.
-use Prim.Native.Nat.{ℕ, ◌≤◌, ◌<◌}
+use Prim.Native.Nat.{ℕ, ◌+◌, ◌≤◌, ◌<◌}
 use mathlib.Core.Path.{◌≡◌, refl, sym, ◌∙◌, subst}
 use mathlib.Core.Logic.{◌↔◌, ⊎_elim}
 use mathlib.Core.List.{List}
-use native.Mathlib.Omega.{arith}
 use lib.ListN.{length}
 use Rattle.base.proofs.Tests.{split}
-use Rattle.names_rules.specs.Names.{checked, record_with, refusal, place_in, place_of, bytes_at, memory_at}
-use Rattle.names_rules.specs.declared.FileCheck.{FileCheck}
-use Rattle.names_rules.specs.declared.FileCheck.TheVariants.{Good, Bad}
-use Rattle.names_rules.specs.declared.Refusal.{Refusal}
-use Rattle.names_rules.specs.declared.Refusal.TheVariants.{Accepted, OwnRefused, SharedRefused}
+use Rattle.rules.specs.Numbers.{part}
+use Rattle.std.specs.Prelude.{Option, None, Some, Ok, Err}
+use Rattle.names_rules.specs.Names.{FileCheck, checked, record_with, of_two, FilesCheck, refusal, stretch, place_in, place_of, bytes_at, memory_at}
+use Rattle.names_rules.specs.declared.NamesFile.{NamesFile}
+use Rattle.names_rules.specs.declared.NamesFile.TheVariants.{Own, Shared}
 use Rattle.names_rules.specs.declared.NamePlace.{NamePlace}
-use Rattle.names_rules.specs.declared.NamePlace.TheVariants.{Nowhere, InOwn, InShared}
 use Rattle.names_rules.proofs.Places as P
 use Rattle.names_laws.specs.Names.{NamesLawful, FilesSay, own_refused, shared_refused, both_lawful, NameAnswer, on_refusal, in_own, in_shared, in_neither, HandsBack, of_own, of_shared, of_none}
 use Rattle.names_laws.proofs.Agree.{lawful_iff, refused_iff}
@@ -25,19 +23,20 @@ module _ (own shared : List ℕ) where
   says = go (checked own) (checked shared) refl refl
     where
       go : (x y : FileCheck) → checked own ≡ x → checked shared ≡ y → FilesSay own shared (refusal own shared)
-      go (Bad n o) y p q = subst (FilesSay own shared) (P.own_refused own shared (sym p) refl) (own_refused ((refused_iff own n o).0 p))
-      go Good (Bad n o) p q =
-          subst (FilesSay own shared) (P.shared_refused own shared (sym p) refl (sym q) refl) (shared_refused ((lawful_iff own).0 p) ((refused_iff shared n o).0 q))
-      go Good Good p q =
+      go (Err d) y p q = subst (FilesSay own shared) (P.own_refused own shared (sym p) refl) (own_refused ((refused_iff own d.no d.place).0 p))
+      go (Ok x) (Err d) p q =
+          subst (FilesSay own shared) (P.shared_refused own shared (sym p) refl (sym q) refl)
+          (shared_refused ((lawful_iff own).0 p) ((refused_iff shared d.no d.place).0 q))
+      go (Ok x) (Ok y) p q =
           subst (FilesSay own shared) (P.accepted own shared (sym p) refl (sym q) refl) (both_lawful ((lawful_iff own).0 p) ((lawful_iff shared).0 q))
 
-  says_is : {r : Refusal} → FilesSay own shared r → r ≡ refusal own shared
+  says_is : {r : FilesCheck} → FilesSay own shared r → r ≡ refusal own shared
   says_is (own_refused {n} {p} x) = P.own_refused own shared (sym ((refused_iff own n p).1 x)) refl
   says_is (shared_refused {n} {p} x y) = P.shared_refused own shared (sym ((lawful_iff own).1 x)) refl (sym ((refused_iff shared n p).1 y)) refl
   says_is (both_lawful x y) = P.accepted own shared (sym ((lawful_iff own).1 x)) refl (sym ((lawful_iff shared).1 y)) refl
 
   -- the two are refused exactly on the rows, own file first, or accepted
-  pub says_iff : (r : Refusal) → (r ≡ refusal own shared) ↔ FilesSay own shared r
+  pub says_iff : (r : FilesCheck) → (r ≡ refusal own shared) ↔ FilesSay own shared r
   says_iff r = (λ e. subst (FilesSay own shared) (sym e) says, says_is)
 
   -- ── the place of a name ──
@@ -67,17 +66,12 @@ module _ (own shared : List ℕ) where
             (split (record_with shared k) (length shared)))
             (split (record_with own k) (length own)))
 
-        go : (r : Refusal) → FilesSay own shared r → r ≡ refusal own shared → NameAnswer own shared k (place_of own shared k)
-        go (OwnRefused n o) t p =
-            subst (NameAnswer own shared k) (P.nowhere_own own shared k p refl) (on_refusal t (λ e. let z : ◌≡◌ {A = ℕ} 0 1 = cc in absurd (omega arith)))
-        go (SharedRefused n o) t p =
-            subst (NameAnswer own shared k) (P.nowhere_shared own shared k p refl) (on_refusal t (λ e. let z : ◌≡◌ {A = ℕ} 0 1 = cc in absurd (omega arith)))
-        go Accepted (both_lawful x y) p = lawful x y
+        go : (r : FilesCheck) → FilesSay own shared r → r ≡ refusal own shared → NameAnswer own shared k (place_of own shared k)
+        go (Err d) t p = subst (NameAnswer own shared k) (P.nowhere own shared k p refl) (on_refusal t)
+        go (Ok u) (both_lawful x y) p = lawful x y
 
-    answers_is : {x : NamePlace} → NameAnswer own shared k x → x ≡ place_of own shared k
-    answers_is (on_refusal (own_refused x) e) = P.nowhere_own own shared k (says_is (own_refused x)) refl
-    answers_is (on_refusal (shared_refused x y) e) = P.nowhere_shared own shared k (says_is (shared_refused x y)) refl
-    answers_is (on_refusal (both_lawful x y) e) = absurd (e refl)
+    answers_is : {x : Option NamePlace} → NameAnswer own shared k x → x ≡ place_of own shared k
+    answers_is (on_refusal x) = P.nowhere own shared k (says_is x) refl
     answers_is (in_own x y z) =
         rw (z.from, z.to) (P.place-own own shared k (named-is own k ((lawful_iff own).1 x) z) z.there refl ∙ in_lawful x y)
     answers_is (in_shared x y u z) =
@@ -89,17 +83,21 @@ module _ (own shared : List ℕ) where
         ∙ in_lawful x y
 
     -- the answer is where the own file has the name, failing that the shared one, failing that nowhere, as on refusal
-    pub answers_iff : (x : NamePlace) → (x ≡ place_of own shared k) ↔ NameAnswer own shared k x
+    pub answers_iff : (x : Option NamePlace) → (x ≡ place_of own shared k) ↔ NameAnswer own shared k x
     answers_iff x = (λ e. subst (NameAnswer own shared k) (sym e) answers, answers_is)
 
     -- ── the part that is handed back ──
 
     module _ (p q : ℕ × ℕ) where
-      at_place : (x : NamePlace) → x ≡ place_of own shared k → {l : List ℕ} {w : ℕ × ℕ} → l ≡ bytes_at own shared x → w ≡ memory_at p q x → HandsBack own shared p q k l w
+      in_file : (f : NamesFile) (a e : ℕ) → Some (stretch f a e) ≡ place_of own shared k → {l : List ℕ} {w : ℕ × ℕ} → l ≡ part a e (of_two own shared f)
+          → w ≡ ((of_two p q f).0, a + (of_two p q f).1) → HandsBack own shared p q k l w
+      in_file Own a e h b m = of_own ((answers_iff (Some (stretch Own a e))).0 h) b m
+      in_file Shared a e h b m = of_shared ((answers_iff (Some (stretch Shared a e))).0 h) b m
+
+      at_place : (x : Option NamePlace) → x ≡ place_of own shared k → {l : List ℕ} {w : ℕ × ℕ} → l ≡ bytes_at own shared x → w ≡ memory_at p q x → HandsBack own shared p q k l w
       unfolding bytes_at memory_at
-      at_place (InOwn a e) h b m = of_own ((answers_iff (InOwn a e)).0 h) b m
-      at_place (InShared a e) h b m = of_shared ((answers_iff (InShared a e)).0 h) b m
-      at_place Nowhere h b m = of_none ((answers_iff Nowhere).0 h) b m
+      at_place (Some x) h b m = in_file x.file x.from x.to h b m
+      at_place None h b m = of_none ((answers_iff None).0 h) b m
 
       handed : {l : List ℕ} {w : ℕ × ℕ} → HandsBack own shared p q k l w → (l ≡ bytes_at own shared (place_of own shared k)) × (w ≡ memory_at p q (place_of own shared k))
       unfolding bytes_at memory_at

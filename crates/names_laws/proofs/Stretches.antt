@@ -8,7 +8,7 @@ use lib.ListN.{length, get_or}
 use Rattle.base.proofs.Tests.{split}
 use Rattle.rules.specs.Records.{next_at}
 use Rattle.names_rules.specs.Names.{checked, offsets_from, offsets, with_key, record_with}
-use Rattle.names_rules.specs.declared.FileCheck.TheVariants.{Good}
+use Rattle.std.specs.Prelude.{Ok}
 use Rattle.names_rules.proofs.Walking.{offsets_on, lawful_short, lawful_front}
 use Rattle.names_rules.proofs.Offsets.{walked, key_hit, key_on, key-found}
 use Rattle.names_rules.proofs.Loops.{checking_lawful}
@@ -46,7 +46,7 @@ module _ (s : List ℕ) (k : ℕ) where
             ∙ key_on s k at (offsets_from (y.fuel - 1) s (next_at s at)) (λ q. omega arith);
       }
 
-  module _ (g : checked s ≡ Good) where
+  module _ (g : checked s ≡ Ok tt) where
     stands_at : (i : ℕ) → i < length (offsets s) → Stands s (get_or (offsets s) i 0)
     unfolding offsets
     stands_at =

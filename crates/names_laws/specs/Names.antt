@@ -1,10 +1,9 @@
 -- Document 02's names in place of numbers as conditions in its own words, apart from the functions that compute. The theorems say that the two agree.
-use Rattle.std.specs.Prelude.{ℕ, ◌+◌, ◌<◌, ◌≤◌, ◌≡◌, List, [], ◌⊎◌, length, get_or}
+use Rattle.std.specs.Prelude.{ℕ, ◌+◌, ◌<◌, ◌≤◌, ◌≡◌, List, [], ◌⊎◌, length, get_or, Option, None, Some, Ok, Err}
 use Rattle.rules.specs.Numbers.{le, part}
-use Rattle.names_rules.specs.declared.Refusal.{Refusal}
-use Rattle.names_rules.specs.declared.Refusal.TheVariants.{Accepted, OwnRefused, SharedRefused}
+use Rattle.names_rules.specs.Names.{FileDeclined, file_declined, FilesCheck, stretch}
+use Rattle.names_rules.specs.declared.NamesFile.TheVariants.{Own, Shared}
 use Rattle.names_rules.specs.declared.NamePlace.{NamePlace}
-use Rattle.names_rules.specs.declared.NamePlace.TheVariants.{Nowhere, InOwn, InShared}
 
 -- ── a record ──
 
@@ -92,21 +91,21 @@ Unnamed s k = (a e : ℕ) → Named s k a e → ⊥
 -- ── two files ──
 
 -- "own file first"
-pub data FilesSay (own shared : List ℕ) : Refusal → Type 0 where
-  own_refused : {n p : ℕ} → NamesRefused own n p → FilesSay own shared (OwnRefused n p)
-  shared_refused : {n p : ℕ} → NamesLawful own → NamesRefused shared n p → FilesSay own shared (SharedRefused n p)
-  both_lawful : NamesLawful own → NamesLawful shared → FilesSay own shared Accepted
+pub data FilesSay (own shared : List ℕ) : FilesCheck → Type 0 where
+  own_refused : {n p : ℕ} → NamesRefused own n p → FilesSay own shared (Err (file_declined Own n p))
+  shared_refused : {n p : ℕ} → NamesLawful own → NamesRefused shared n p → FilesSay own shared (Err (file_declined Shared n p))
+  both_lawful : NamesLawful own → NamesLawful shared → FilesSay own shared (Ok tt)
 
 -- "The answer is the stretch of the own file with that name, failing that the shared file's, failing that an empty one, as on refusal"
-pub data NameAnswer (own shared : List ℕ) (k : ℕ) : NamePlace → Type 0 where
-  on_refusal : {r : Refusal} → FilesSay own shared r → (r ≡ Accepted → ⊥) → NameAnswer own shared k Nowhere
-  in_own : {a e : ℕ} → NamesLawful own → NamesLawful shared → Named own k a e → NameAnswer own shared k (InOwn a e)
-  in_shared : {a e : ℕ} → NamesLawful own → NamesLawful shared → Unnamed own k → Named shared k a e → NameAnswer own shared k (InShared a e)
-  in_neither : NamesLawful own → NamesLawful shared → Unnamed own k → Unnamed shared k → NameAnswer own shared k Nowhere
+pub data NameAnswer (own shared : List ℕ) (k : ℕ) : Option NamePlace → Type 0 where
+  on_refusal : {d : FileDeclined} → FilesSay own shared (Err d) → NameAnswer own shared k None
+  in_own : {a e : ℕ} → NamesLawful own → NamesLawful shared → Named own k a e → NameAnswer own shared k (Some (stretch Own a e))
+  in_shared : {a e : ℕ} → NamesLawful own → NamesLawful shared → Unnamed own k → Named shared k a e → NameAnswer own shared k (Some (stretch Shared a e))
+  in_neither : NamesLawful own → NamesLawful shared → Unnamed own k → Unnamed shared k → NameAnswer own shared k None
 
 -- the bytes l at w are handed back for the key k, where the first bytes of the two files are at p and q: each is a block of memory, and how far into it. They
 -- are the stretch itself and no copy; an empty one is the own file's front
 pub data HandsBack (own shared : List ℕ) (p q : ℕ × ℕ) (k : ℕ) (l : List ℕ) (w : ℕ × ℕ) : Type 0 where
-  of_own : {a e : ℕ} → NameAnswer own shared k (InOwn a e) → l ≡ part a e own → w ≡ (p.0, a + p.1) → HandsBack own shared p q k l w
-  of_shared : {a e : ℕ} → NameAnswer own shared k (InShared a e) → l ≡ part a e shared → w ≡ (q.0, a + q.1) → HandsBack own shared p q k l w
-  of_none : NameAnswer own shared k Nowhere → l ≡ [] → w ≡ p → HandsBack own shared p q k l w
+  of_own : {a e : ℕ} → NameAnswer own shared k (Some (stretch Own a e)) → l ≡ part a e own → w ≡ (p.0, a + p.1) → HandsBack own shared p q k l w
+  of_shared : {a e : ℕ} → NameAnswer own shared k (Some (stretch Shared a e)) → l ≡ part a e shared → w ≡ (q.0, a + q.1) → HandsBack own shared p q k l w
+  of_none : NameAnswer own shared k None → l ≡ [] → w ≡ p → HandsBack own shared p q k l w

@@ -10,7 +10,8 @@ use Rattle.rules.specs.Numbers.{over}
 use Rattle.rules.specs.Records.{next_at}
 use Rattle.rules.proofs.Numbers.{appended-over, over-front}
 use Rattle.names_rules.specs.Names.{key_at, name_no, check_from, checked, offsets_from, offsets, IndexOf, Indexes}
-use Rattle.names_rules.specs.declared.FileCheck.TheVariants.{Good, Bad}
+use Rattle.std.specs.Prelude.{Ok, Err}
+use Rattle.rules.specs.Refusals.{declined}
 use Rattle.names_rules.proofs.Offsets.{offsets_most}
 use Rattle.names_rules.proofs.Walking.{NameFits, fit, check_end, check_bad, check_on, check_passed, offsets_end, offsets_on, from_front, lawful_front}
 
@@ -25,10 +26,10 @@ pub checking_first : (s : List ℕ) → length s ≤ 32768 → Checking s 0 0
 checking_first s h = record { within = omega arith; fuel = length s; enough = omega arith; whole = from_front s h }
 
 module _ {s : List ℕ} {at low : ℕ} (x : Checking s at low) where
-  pub checking_end : length s ≤ at → Good ≡ checked s
+  pub checking_end : length s ≤ at → Ok tt ≡ checked s
   checking_end h = sym (x.whole ∙ check_end s at low x.fuel h)
 
-  pub checking_lawful : at < length s → checked s ≡ Good → NameFits s at low
+  pub checking_lawful : at < length s → checked s ≡ Ok tt → NameFits s at low
   checking_lawful l g =
       let e : x.fuel ≡ suc (x.fuel - 1) = omega (arith, x.enough) in
       fit s at low (check_passed s at low (x.fuel - 1) l (sym (ap (λ (f : ℕ). check_from f s at low) e) ∙ sym x.whole ∙ g))
@@ -37,7 +38,7 @@ module _ {s : List ℕ} {at low : ℕ} (x : Checking s at low) where
     whole_here : checked s ≡ check_from (suc (x.fuel - 1)) s at low
     whole_here = let e : x.fuel ≡ suc (x.fuel - 1) = omega (arith, x.enough) in x.whole ∙ ap (λ (f : ℕ). check_from f s at low) e
 
-    pub checking_bad : 0 < n → Bad n at ≡ checked s
+    pub checking_bad : 0 < n → Err (declined n at) ≡ checked s
     checking_bad h = rw is (sym (whole_here ∙ check_bad s at low (x.fuel - 1) l (omega arith)))
 
     module _ (h : n ≤ 0) where
@@ -63,12 +64,12 @@ pub record Indexing (s o b : List ℕ) (n at : ℕ) : Type 0 where
   pub fuel : ℕ
   pub enough : length s ≤ fuel + at
   pub low : ℕ
-  pub lawful : check_from fuel s at low ≡ Good
+  pub lawful : check_from fuel s at low ≡ Ok tt
   pub put : Forth o 0 (offsets s) b n (offsets_from fuel s at)
   pub few : length (offsets s) ≤ 3640
   pub fits : Room o 0 (length o) (offsets s)
 
-pub indexing_first : (s o : List ℕ) → checked s ≡ Good → 3640 ≤ length o → Indexing s o o 0 0
+pub indexing_first : (s o : List ℕ) → checked s ≡ Ok tt → 3640 ≤ length o → Indexing s o o 0 0
 unfolding offsets
 indexing_first s o g h =
     record {
@@ -96,7 +97,7 @@ module _ {s o b : List ℕ} {n at : ℕ} (x : Indexing s o b n at) where
     one_more : x.fuel ≡ suc (x.fuel - 1)
     one_more = omega (arith, x.enough)
 
-    lawful_here : check_from (suc (x.fuel - 1)) s at x.low ≡ Good
+    lawful_here : check_from (suc (x.fuel - 1)) s at x.low ≡ Ok tt
     lawful_here = sym (ap (λ (f : ℕ). check_from f s at x.low) one_more) ∙ x.lawful
 
     passed : name_no s at x.low ≡ 0
@@ -138,5 +139,5 @@ module _ {s o b : List ℕ} {n : ℕ} (x : Indexes s o b n) where
   pub index_front : n ≡ length (take n b)
   index_front = sym (length-take-le n b index_within)
 
-  pub index_of : checked s ≡ Good → IndexOf s (take n b)
+  pub index_of : checked s ≡ Ok tt → IndexOf s (take n b)
   index_of g = record { lawful = g; is = rw (x.count, x.is) (over-front (offsets s) o) }

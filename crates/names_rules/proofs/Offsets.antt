@@ -11,7 +11,7 @@ use borrow.Author.Tests.{eqb-true, eqb-false, eq-eqb, ne_eqb}
 use Rattle.base.proofs.Tests.{ifso, split, pick_on, pick_off}
 use Rattle.rules.specs.Records.{next_at}
 use Rattle.names_rules.specs.Names.{key_at, check_from, checked, offsets_from, offsets, with_key, record_with}
-use Rattle.names_rules.specs.declared.FileCheck.TheVariants.{Good}
+use Rattle.std.specs.Prelude.{Ok}
 use Rattle.names_rules.proofs.Walking.{NameFits, fit, check_on, check_passed, offsets_end, offsets_on, lawful_short, lawful_front}
 
 -- ── the walk past a lawful file's records ──
@@ -20,7 +20,7 @@ use Rattle.names_rules.proofs.Walking.{NameFits, fit, check_on, check_passed, of
 -- and of the offsets from there on
 pub walked : (s : List ℕ) (P : ℕ → ℕ → List ℕ → Type 0) → ((at low : ℕ) → at ≤ length s → P at low [])
     → ((at low : ℕ) (l : List ℕ) → at < length s → NameFits s at low → P (next_at s at) (key_at s at + 1) l → P at low (at ∷ l)) → (f at low : ℕ) → at ≤ length s
-    → check_from f s at low ≡ Good → P at low (offsets_from f s at)
+    → check_from f s at low ≡ Ok tt → P at low (offsets_from f s at)
 unfolding offsets_from
 walked s P end on zero at low w g = end at low w
 walked s P end on (suc f) at low w g =
@@ -52,7 +52,7 @@ ascending_more s at low l x y = record { fits = here; ascend = there }
     there zero (suc j) a b = let z = y.fits j (omega arith) in omega (arith, z.ascends)
     there (suc i) (suc j) a b = y.ascend i j (omega arith) (omega arith)
 
-module _ (s : List ℕ) (g : checked s ≡ Good) where
+module _ (s : List ℕ) (g : checked s ≡ Ok tt) where
   -- "length (7 to 46)": a record has 9 bytes or more, so there are 3,640 at most
   pub offsets_most : length (offsets s) ≤ 3640
   unfolding offsets
@@ -118,6 +118,6 @@ module _ (s : List ℕ) (key : ℕ) where
       record { number = suc r.number; there = omega (arith, r.there); is = e ∙ r.is; has = r.has })
 
 -- a record that was found lies within its file, with its name
-pub found_in : (s : List ℕ) (key : ℕ) → checked s ≡ Good → {a : ℕ} → a ≡ record_with s key → a < length s → NameFits s a 0
+pub found_in : (s : List ℕ) (key : ℕ) → checked s ≡ Ok tt → {a : ℕ} → a ≡ record_with s key → a < length s → NameFits s a 0
 unfolding record_with
 found_in s key g {a} q l = let r = key-found s key (offsets s) (rw q at l) in subst (λ (x : ℕ). NameFits s x 0) (sym (q ∙ r.is)) (offset_fits s g r.number r.there)

@@ -11,38 +11,36 @@ use borrow.Author.Tests.{lt-ltb, le-ltb}
 use Rattle.base.proofs.Tests.{split, pick_on, pick_off}
 use Rattle.rules.specs.Numbers.{part}
 use Rattle.rules.specs.Records.{len_at, next_at}
-use Rattle.names_rules.specs.Names.{checked, record_with, refusal_of, refusal, place_in, unless_refused, place_of, bytes_at, PlaceWithin}
-use Rattle.names_rules.specs.declared.FileCheck.{FileCheck}
-use Rattle.names_rules.specs.declared.FileCheck.TheVariants.{Good, Bad}
-use Rattle.names_rules.specs.declared.Refusal.{Refusal}
-use Rattle.names_rules.specs.declared.Refusal.TheVariants.{Accepted, OwnRefused, SharedRefused}
+use Rattle.std.specs.Prelude.{Option, None, Some, Ok, Err}
+use Rattle.rules.specs.Refusals.{Declined}
+use Rattle.names_rules.specs.Names.{FileCheck, checked, record_with, FileDeclined, file_declined, FilesCheck, refusal_of, refusal, stretch, place_in, unless_refused, place_of, bytes_at, PlaceWithin}
+use Rattle.names_rules.specs.declared.NamesFile.TheVariants.{Own, Shared}
 use Rattle.names_rules.specs.declared.NamePlace.{NamePlace}
-use Rattle.names_rules.specs.declared.NamePlace.TheVariants.{Nowhere, InOwn, InShared}
 use Rattle.names_rules.proofs.Walking.{NameFits}
 use Rattle.names_rules.proofs.Offsets.{found_in}
 
 -- two files are accepted where both are lawful, and only there
-both_good : (x y : FileCheck) → refusal_of x y ≡ Accepted → (x ≡ Good) × (y ≡ Good)
+both_good : (x y : FileCheck) → refusal_of x y ≡ Ok tt → (x ≡ Ok tt) × (y ≡ Ok tt)
 unfolding refusal_of
-both_good Good Good h = (refl, refl)
-both_good Good (Bad n p) h = let z : ◌≡◌ {A = ℕ} 0 1 = cc in absurd (omega arith)
-both_good (Bad n p) y h = let z : ◌≡◌ {A = ℕ} 0 1 = cc in absurd (omega arith)
+both_good (Ok x) (Ok y) h = (refl, refl)
+both_good (Ok x) (Err d) h = let z : ◌≡◌ {A = ℕ} 0 1 = cc in absurd (omega arith)
+both_good (Err d) y h = let z : ◌≡◌ {A = ℕ} 0 1 = cc in absurd (omega arith)
 
-pub both_lawful : (own shared : List ℕ) → refusal own shared ≡ Accepted → (checked own ≡ Good) × (checked shared ≡ Good)
+pub both_lawful : (own shared : List ℕ) → refusal own shared ≡ Ok tt → (checked own ≡ Ok tt) × (checked shared ≡ Ok tt)
 both_lawful own shared h = both_good (checked own) (checked shared) h
 
 -- what checking both comes to, own file first
 module _ (own shared : List ℕ) {x : FileCheck} (p : x ≡ checked own) where
-  pub own_refused : {n o : ℕ} → x ≡ Bad n o → OwnRefused n o ≡ refusal own shared
+  pub own_refused : {d : Declined} → x ≡ Err d → Err (file_declined Own d.no d.place) ≡ refusal own shared
   unfolding refusal_of
   own_refused e = rw (← p, e)
 
-  module _ (g : x ≡ Good) {y : FileCheck} (q : y ≡ checked shared) where
-    pub shared_refused : {n o : ℕ} → y ≡ Bad n o → SharedRefused n o ≡ refusal own shared
+  module _ (g : x ≡ Ok tt) {y : FileCheck} (q : y ≡ checked shared) where
+    pub shared_refused : {d : Declined} → y ≡ Err d → Err (file_declined Shared d.no d.place) ≡ refusal own shared
     unfolding refusal_of
     shared_refused e = rw (← p, ← q, g, e)
 
-    pub accepted : y ≡ Good → Accepted ≡ refusal own shared
+    pub accepted : y ≡ Ok tt → Ok tt ≡ refusal own shared
     unfolding refusal_of
     accepted e = rw (← p, ← q, g, e)
 
@@ -51,7 +49,7 @@ part_most s {a} f = omega (arith, f.most, length-take (next_at s a - (a + 8)) (d
 
 -- the place of a key's name in two lawful files
 module _ (own shared : List ℕ) (key : ℕ) {a : ℕ} (p : a ≡ record_with own key) where
-  pub place-own : a < length own → {len : ℕ} → len ≡ len_at own a → InOwn (a + 8) (a + 2 + len) ≡ place_in own shared key
+  pub place-own : a < length own → {len : ℕ} → len ≡ len_at own a → Some (stretch Own (a + 8) (a + 2 + len)) ≡ place_in own shared key
   unfolding place_in
   place-own l q = rw (q, p) (sym (pick_on _ _ _ (lt-ltb _ _ (rw p at l))))
 
@@ -59,16 +57,16 @@ module _ (own shared : List ℕ) (key : ℕ) {a : ℕ} (p : a ≡ record_with ow
     not_own : ltb (record_with own key) (length own) ≡ false
     not_own = le-ltb _ _ (rw p at n)
 
-    pub place-shared : b < length shared → {len : ℕ} → len ≡ len_at shared b → InShared (b + 8) (b + 2 + len) ≡ place_in own shared key
+    pub place-shared : b < length shared → {len : ℕ} → len ≡ len_at shared b → Some (stretch Shared (b + 8) (b + 2 + len)) ≡ place_in own shared key
     unfolding place_in
     place-shared l e = rw (e, q) (sym (pick_off _ _ _ not_own ∙ pick_on _ _ _ (lt-ltb _ _ (rw q at l))))
 
-    pub place_none : length shared ≤ b → Nowhere ≡ place_in own shared key
+    pub place_none : length shared ≤ b → None ≡ place_in own shared key
     unfolding place_in
     place_none l = sym (pick_off _ _ _ not_own ∙ pick_off _ _ _ (le-ltb _ _ (rw q at l)))
 
 -- .. it lies within its file
-module _ (own shared : List ℕ) (key : ℕ) (g : checked own ≡ Good) (h : checked shared ≡ Good) where
+module _ (own shared : List ℕ) (key : ℕ) (g : checked own ≡ Ok tt) (h : checked shared ≡ Ok tt) where
   pub place_within : PlaceWithin own shared (place_in own shared key)
   unfolding PlaceWithin
   place_within =
@@ -100,20 +98,16 @@ module _ (own shared : List ℕ) (key : ℕ) (g : checked own ≡ Good) (h : che
       (split (record_with shared key) (length shared)))
       (split (record_with own key) (length own))
     where
-      short : NamePlace → Type 0
+      short : Option NamePlace → Type 0
       short x = length (bytes_at own shared x) ≤ 40
 
 -- .. in any two files
-module _ (own shared : List ℕ) (key : ℕ) {r : Refusal} (p : r ≡ refusal own shared) where
-  pub nowhere_own : {n o : ℕ} → r ≡ OwnRefused n o → Nowhere ≡ place_of own shared key
+module _ (own shared : List ℕ) (key : ℕ) {r : FilesCheck} (p : r ≡ refusal own shared) where
+  pub nowhere : {d : FileDeclined} → r ≡ Err d → None ≡ place_of own shared key
   unfolding unless_refused
-  nowhere_own e = rw (← p, e)
+  nowhere e = rw (← p, e)
 
-  pub nowhere_shared : {n o : ℕ} → r ≡ SharedRefused n o → Nowhere ≡ place_of own shared key
-  unfolding unless_refused
-  nowhere_shared e = rw (← p, e)
-
-  pub in_lawful : r ≡ Accepted → place_in own shared key ≡ place_of own shared key
+  pub in_lawful : r ≡ Ok tt → place_in own shared key ≡ place_of own shared key
   unfolding unless_refused
   in_lawful e = rw (← p, e)
 
@@ -121,7 +115,6 @@ pub any_within : (own shared : List ℕ) (key : ℕ) → PlaceWithin own shared 
 unfolding PlaceWithin
 any_within own shared key = go (refusal own shared) refl
   where
-    go : (r : Refusal) → r ≡ refusal own shared → PlaceWithin own shared (place_of own shared key)
-    go Accepted p = subst (PlaceWithin own shared) (in_lawful own shared key p refl) (let g = both_lawful own shared (sym p) in place_within own shared key g.0 g.1)
-    go (OwnRefused n o) p = subst (PlaceWithin own shared) (nowhere_own own shared key p refl) tt
-    go (SharedRefused n o) p = subst (PlaceWithin own shared) (nowhere_shared own shared key p refl) tt
+    go : (r : FilesCheck) → r ≡ refusal own shared → PlaceWithin own shared (place_of own shared key)
+    go (Ok x) p = subst (PlaceWithin own shared) (in_lawful own shared key p refl) (let g = both_lawful own shared (sym p) in place_within own shared key g.0 g.1)
+    go (Err d) p = subst (PlaceWithin own shared) (nowhere own shared key p refl) tt

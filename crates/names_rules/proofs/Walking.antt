@@ -12,8 +12,9 @@ use Rattle.base.specs.Base.{◌or◌, some, row, first_fit}
 use Rattle.base.proofs.Tests.{split, neither_left, neither_right, not-false, pick_on, pick_off}
 use Rattle.base.proofs.Rows.{fit_past, fit_here, fit_none, fit_unfit}
 use Rattle.rules.specs.Records.{len_at, kind_at, next_at}
-use Rattle.names_rules.specs.Names.{key_at, is_odd, name_rows, name_no, check_from, checked, offsets_from}
-use Rattle.names_rules.specs.declared.FileCheck.TheVariants.{Good, Bad}
+use Rattle.names_rules.specs.Names.{key_at, is_odd, name_rows, name_no, FileCheck, check_from, checked, offsets_from}
+use Rattle.std.specs.Prelude.{Ok, Err}
+use Rattle.rules.specs.Refusals.{declined}
 
 -- a record that no row refuses
 pub record NameFits (s : List ℕ) (at low : ℕ) : Type 0 where
@@ -81,13 +82,13 @@ module _ (s : List ℕ) (at low : ℕ) where
 -- ── the walk ──
 
 module _ (s : List ℕ) (at low : ℕ) where
-  pub check_end : (f : ℕ) → length s ≤ at → check_from f s at low ≡ Good
+  pub check_end : (f : ℕ) → length s ≤ at → check_from f s at low ≡ Ok tt
   unfolding check_from
   check_end zero h = refl
   check_end (suc f) h = pick_off _ _ _ (le-ltb _ _ h)
 
   module _ (f : ℕ) (l : at < length s) where
-    pub check_bad : 0 < name_no s at low → check_from (suc f) s at low ≡ Bad (name_no s at low) at
+    pub check_bad : 0 < name_no s at low → check_from (suc f) s at low ≡ Err (declined (name_no s at low) at)
     unfolding check_from
     check_bad h = pick_on _ _ _ (lt-ltb _ _ l) ∙ pick_on _ _ _ (lt-ltb _ _ h)
 
@@ -96,11 +97,11 @@ module _ (s : List ℕ) (at low : ℕ) where
     check_on h = pick_on _ _ _ (lt-ltb _ _ l) ∙ pick_off _ _ _ (le-ltb 0 (name_no s at low) (omega arith))
 
     -- a record of a lawful file fits
-    pub check_passed : check_from (suc f) s at low ≡ Good → name_no s at low ≡ 0
+    pub check_passed : check_from (suc f) s at low ≡ Ok tt → name_no s at low ≡ 0
     check_passed g =
         ⊎_elim
         (λ h.
-        let w : Bad (name_no s at low) at ≡ Good = sym (check_bad h) ∙ g in
+        let w : ◌≡◌ {A = FileCheck} (Err (declined (name_no s at low) at)) (Ok tt) = sym (check_bad h) ∙ g in
         let z : ◌≡◌ {A = ℕ} 0 1 = cc in
         absurd (omega arith))
         (λ h. omega arith) (split 0 (name_no s at low))
@@ -118,7 +119,7 @@ module _ (s : List ℕ) (at : ℕ) where
 -- ── the whole file ──
 
 module _ (s : List ℕ) where
-  pub too_long : 32768 < length s → checked s ≡ Bad 2 32768
+  pub too_long : 32768 < length s → checked s ≡ Err (declined 2 32768)
   unfolding checked
   too_long h = pick_on _ _ _ (lt-ltb _ _ h)
 
@@ -126,14 +127,14 @@ module _ (s : List ℕ) where
   unfolding checked
   from_front h = pick_off _ _ _ (le-ltb _ _ h)
 
-  pub lawful_short : checked s ≡ Good → length s ≤ 32768
+  pub lawful_short : checked s ≡ Ok tt → length s ≤ 32768
   lawful_short g =
       ⊎_elim
       (λ h.
-      let w : Bad 2 32768 ≡ Good = sym (too_long h) ∙ g in
+      let w : ◌≡◌ {A = FileCheck} (Err (declined 2 32768)) (Ok tt) = sym (too_long h) ∙ g in
       let z : ◌≡◌ {A = ℕ} 0 1 = cc in
       absurd (omega arith))
       (λ h. h) (split 32768 (length s))
 
-  pub lawful_front : checked s ≡ Good → check_from (length s) s 0 0 ≡ Good
+  pub lawful_front : checked s ≡ Ok tt → check_from (length s) s 0 0 ≡ Ok tt
   lawful_front g = sym (from_front (lawful_short g)) ∙ g

@@ -1,14 +1,11 @@
 -- Cases of names files, computed: each refusal with its place, each two neighbours in the order of checks broken at once, limits, and look-ups. The
 -- statements are in proofs/.
-use Rattle.std.specs.Prelude.{ℕ, ◌+◌, List, [], ◌∷◌, ◌++◌, length, replicate}
+use Rattle.std.specs.Prelude.{ℕ, ◌+◌, List, [], ◌∷◌, ◌++◌, length, replicate, Option, None, Some, Ok, Err}
 use Rattle.rules.specs.Traces.{raw}
-use Rattle.names_rules.specs.Names.{checked, refusal, place_of, bytes_at}
-use Rattle.names_rules.specs.declared.FileCheck.{FileCheck}
-use Rattle.names_rules.specs.declared.FileCheck.TheVariants.{Good, Bad}
-use Rattle.names_rules.specs.declared.Refusal.{Refusal}
-use Rattle.names_rules.specs.declared.Refusal.TheVariants.{Accepted, OwnRefused, SharedRefused}
+use Rattle.rules.specs.Refusals.{declined}
+use Rattle.names_rules.specs.Names.{FileCheck, FilesCheck, checked, file_declined, refusal, stretch, place_of, bytes_at}
+use Rattle.names_rules.specs.declared.NamesFile.TheVariants.{Own, Shared}
 use Rattle.names_rules.specs.declared.NamePlace.{NamePlace}
-use Rattle.names_rules.specs.declared.NamePlace.TheVariants.{Nowhere, InOwn, InShared}
 
 -- the record of a key and its name
 abbrev n : ℕ → List ℕ → List ℕ
@@ -27,6 +24,12 @@ long k = replicate k 126
 pub record File : Type 0 where
   pub bytes : List ℕ
   pub check : FileCheck
+
+abbrev Good : FileCheck
+Good = Ok tt
+
+abbrev Bad : ℕ → ℕ → FileCheck
+Bad n p = Err (declined n p)
 
 abbrev file : List ℕ → FileCheck → File
 file b c = record { bytes = b; check = c }
@@ -71,11 +74,11 @@ pub record Lookup : Type 0 where
   pub own : List ℕ
   pub shared : List ℕ
   pub key : ℕ
-  pub place : NamePlace
+  pub place : Option NamePlace
   pub name : List ℕ
-  pub says : Refusal
+  pub says : FilesCheck
 
-abbrev look : List ℕ → List ℕ → ℕ → NamePlace → List ℕ → Refusal → Lookup
+abbrev look : List ℕ → List ℕ → ℕ → Option NamePlace → List ℕ → FilesCheck → Lookup
 look o s k p b r = record { own = o; shared = s; key = k; place = p; name = b; says = r }
 
 -- two records; others, of which one has a key of theirs; three records
@@ -88,29 +91,35 @@ other = n 7 (68 ∷ []) ++ n 9 (69 ∷ [])
 abbrev pub three : List ℕ
 three = n 2 A ++ n 4 (66 ∷ 67 ∷ []) ++ n 8 (68 ∷ [])
 
+abbrev in_own : ℕ → ℕ → Option NamePlace
+in_own a e = Some (stretch Own a e)
+
+abbrev in_shared : ℕ → ℕ → Option NamePlace
+in_shared a e = Some (stretch Shared a e)
+
 abbrev pub lookups : List Lookup
 lookups =
-    look [] [] 3 Nowhere [] Accepted
-    ∷ look two other 3 (InOwn 8 9) A Accepted
+    look [] [] 3 None [] (Ok tt)
+    ∷ look two other 3 (in_own 8 9) A (Ok tt)
     -- own hides shared
-    ∷ look two other 7 (InOwn 17 19) (66 ∷ 67 ∷ []) Accepted
-    ∷ look [] other 7 (InShared 8 9) (68 ∷ []) Accepted
-    ∷ look two other 9 (InShared 17 18) (69 ∷ []) Accepted
-    ∷ look two other 8 Nowhere [] Accepted
+    ∷ look two other 7 (in_own 17 19) (66 ∷ 67 ∷ []) (Ok tt)
+    ∷ look [] other 7 (in_shared 8 9) (68 ∷ []) (Ok tt)
+    ∷ look two other 9 (in_shared 17 18) (69 ∷ []) (Ok tt)
+    ∷ look two other 8 None [] (Ok tt)
     -- of three records the first, the middle and the last; before them, between them, behind them; the same in the shared file
-    ∷ look three [] 2 (InOwn 8 9) A Accepted
-    ∷ look three [] 4 (InOwn 17 19) (66 ∷ 67 ∷ []) Accepted
-    ∷ look three [] 8 (InOwn 27 28) (68 ∷ []) Accepted
-    ∷ look three [] 1 Nowhere [] Accepted
-    ∷ look three [] 3 Nowhere [] Accepted
-    ∷ look three [] 5 Nowhere [] Accepted
-    ∷ look three [] 9 Nowhere [] Accepted
-    ∷ look two three 4 (InShared 17 19) (66 ∷ 67 ∷ []) Accepted
-    ∷ look two three 8 (InShared 27 28) (68 ∷ []) Accepted
+    ∷ look three [] 2 (in_own 8 9) A (Ok tt)
+    ∷ look three [] 4 (in_own 17 19) (66 ∷ 67 ∷ []) (Ok tt)
+    ∷ look three [] 8 (in_own 27 28) (68 ∷ []) (Ok tt)
+    ∷ look three [] 1 None [] (Ok tt)
+    ∷ look three [] 3 None [] (Ok tt)
+    ∷ look three [] 5 None [] (Ok tt)
+    ∷ look three [] 9 None [] (Ok tt)
+    ∷ look two three 4 (in_shared 17 19) (66 ∷ 67 ∷ []) (Ok tt)
+    ∷ look two three 8 (in_shared 27 28) (68 ∷ []) (Ok tt)
     -- a refusal of either, and of both, own file first
-    ∷ look two (7 ∷ []) 3 Nowhere [] (SharedRefused 3 0)
-    ∷ look (n 3 A ++ n 3 A) other 7 Nowhere [] (OwnRefused 18 9)
-    ∷ look (n 3 A ++ n 3 A) (7 ∷ []) 3 Nowhere [] (OwnRefused 18 9)
+    ∷ look two (7 ∷ []) 3 None [] (Err (file_declined Shared 3 0))
+    ∷ look (n 3 A ++ n 3 A) other 7 None [] (Err (file_declined Own 18 9))
+    ∷ look (n 3 A ++ n 3 A) (7 ∷ []) 3 None [] (Err (file_declined Own 18 9))
     ∷ []
 
 abbrev pub look_found : Lookup → Lookup

@@ -1,25 +1,26 @@
 // The answers about names files that code and definitions share. specs/ says what they mean; nothing here computes.
 #![tactic(auto)]
 
-// What comes of checking a names file: it is lawful; or it is refused, with the refusal's number and place.
-#[derive(Clone, Copy)]
-pub enum FileCheck {
-    Good,
-    Bad(u8, usize),
+use rules::Refusal;
+
+// Which of two names files: the own one, or the shared one.
+#[derive(Clone, Copy, Debug, PartialEq, Eq)]
+pub enum NamesFile {
+    Own,
+    Shared,
 }
 
-// Of two names files, the own and the shared one: both are lawful; or the first that is not, with the refusal's number and place.
-#[derive(Clone, Copy)]
-pub enum Refusal {
-    Accepted,
-    OwnRefused(u8, usize),
-    SharedRefused(u8, usize),
+// The refusal of one of two names files.
+#[derive(Clone, Copy, Debug, PartialEq, Eq)]
+pub struct FileRefusal {
+    pub file: NamesFile,
+    pub refusal: Refusal,
 }
 
-// Where a name is: nowhere; in the own file or in the shared one, from its first byte to before the byte behind it.
-#[derive(Clone, Copy)]
-pub enum NamePlace {
-    Nowhere,
-    InOwn(usize, usize),
-    InShared(usize, usize),
+// Where a name is: in which file, from its first byte to before the byte behind it.
+#[derive(Clone, Copy, Debug, PartialEq, Eq)]
+pub struct NamePlace {
+    pub file: NamesFile,
+    pub from: usize,
+    pub to: usize,
 }

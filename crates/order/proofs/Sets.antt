@@ -3,7 +3,7 @@ use Prim.Native.Nat.{ℕ, ◌+◌, ◌-◌, ◌*◌, ◌/◌, ◌%◌, ◌^◌, 
 use mathlib.Core.Path.{◌≡◌, sym, ap, ◌∙◌}
 use mathlib.Core.Bool.{Bool, true, false, not}
 use mathlib.Core.List.{List, [], ◌∷◌}
-use mathlib.Core.Logic.{◌⊎◌, ⊎_elim}
+use mathlib.Core.Logic.{⊎_elim}
 use native.Mathlib.Omega.{arith}
 use lib.Bits.{bit_or, or_lt}
 use lib.Dec.{eqb, ltb}
@@ -12,8 +12,8 @@ use borrow.Author.Tests.{eq-eqb, ne_eqb, lt-ltb, le-ltb}
 use Rattle.base.specs.Base.{◌and◌, ◌or◌, some}
 use Rattle.base.proofs.Tests.{known, ifso, clash, is_false, not-true, not-false, both, and_left, and_right, and_on, and_no_left, and_no_right, or_cases, or_left, or_right, or_on, or_off, pick_on, pick_off, and-true, same-eqb, same_test, split, below_more}
 use Rattle.base.proofs.Searches.{some_at, some_of_lem, some_same, none-at}
-use Rattle.bits.specs.Bits.{test_bit, lacks, bit_of, row_of}
-use Rattle.bits.proofs.Words.{test_bit-zero, test_bit_or, test_bit_one, word_one}
+use Rattle.bits.specs.Bits.{test_bit, lacks, bit_of, row_of, Alone}
+use Rattle.bits.proofs.Words.{test_bit-zero, test_bit_or, word_one}
 use Rattle.bits.proofs.Smallest.{row_in_low, row_in_high}
 use Rattle.order.specs.declared.Words.{Words}
 use Rattle.order.specs.Sets.{words, in_words, is_left, Plus, Given, Gathered}
@@ -37,21 +37,14 @@ in_none x =
 
 -- ── a set that gets a number, word by word ──
 
-module _ (b u a : ℕ) where
-  -- bit j stands for it
-  pub given_bit : (j : ℕ) → b + j ≡ a → j < 64 → Given b u a (bit_or u ((1 * 2 ^ j) % 2 ^ 64))
-  given_bit j e h =
-      record {
-        is =
-            λ k m.
-            test_bit_or u ((1 * 2 ^ j) % 2 ^ 64) k
-            ∙ ap (λ (t : Bool). test_bit u k or t) (test_bit_one j k h ∙ same-eqb k j (b + k) a (λ q. omega (arith, e)) (λ q. omega (arith, e)));
-      }
-
-  -- it is a number of the other word
-  pub given_not : (a < b) ⊎ (b + 64 ≤ a) → Given b u a u
-  given_not d =
-      record { is = λ k m. sym (or_off (test_bit u k) _ (ne_eqb (b + k) a (λ e. ⊎_elim (λ l. omega arith) (λ l. omega arith) d))) }
+pub given_own : {a half r : ℕ} (u : ℕ) → Alone a half r → Given (64 * half) u a (bit_or u r)
+given_own {a} {half} {r} u l =
+    record {
+      is =
+          λ k m.
+          test_bit_or u r k
+          ∙ ap (λ (t : Bool). test_bit u k or t) (l.is k m ∙ same-eqb a (64 * half + k) (64 * half + k) a (λ q. omega arith) (λ q. omega arith));
+    }
 
 pub plus_words : (w : Words) (a : ℕ) (v : Words) → Given 0 w.lo a v.lo → Given 64 w.hi a v.hi → Plus w a v
 plus_words w a v p q =
@@ -157,12 +150,12 @@ module _ (f : List ℕ) (p : Words) (a : ℕ) where
       (or_cases _ _ s))
 
   -- both words are tested, the second where the first is within
-  pub follows_not : {b : Bool} → b ≡ not (some 0 64 (lacks (get_or f (2 * a) 0) p.lo)) → not b ≡ true → false ≡ not (some 0 128 (waits f p a))
-  follows_not e q = ap not (sym (waits-words ∙ or_left _ _ (not-false _ (sym e ∙ not-true _ q))))
+  pub follows_not : {b : Bool} → b ≡ not (some 0 64 (lacks (get_or f (2 * a) 0) p.lo)) → b ≡ false → b ≡ not (some 0 128 (waits f p a))
+  follows_not e q = q ∙ ap not (sym (waits-words ∙ or_left _ _ (not-false _ (sym e ∙ q))))
 
-  pub follows_is : {b r : Bool} → b ≡ not (some 0 64 (lacks (get_or f (2 * a) 0) p.lo)) → not b ≡ false → r ≡ not (some 0 64 (lacks (get_or f (2 * a + 1) 0) p.hi))
+  pub follows_is : {b r : Bool} → b ≡ not (some 0 64 (lacks (get_or f (2 * a) 0) p.lo)) → b ≡ true → r ≡ not (some 0 64 (lacks (get_or f (2 * a + 1) 0) p.hi))
       → r ≡ not (some 0 128 (waits f p a))
-  follows_is e q h = h ∙ ap not (sym (waits-words ∙ or_on _ _ (not-true _ (sym e ∙ not-false _ q))))
+  follows_is e q h = h ∙ ap not (sym (waits-words ∙ or_on _ _ (not-true _ (sym e ∙ q))))
 
 -- ── a set within a set ──
 
@@ -177,9 +170,9 @@ module _ (m p : Words) where
   unfolding waits is_left row_of
   left_words = some_same _ _ 128 0 (λ i a l. ap (λ (b : Bool). b and not (in_words p i)) (row-set m i l))
 
-  pub within_not : {b : Bool} → b ≡ not (some 0 64 (lacks m.lo p.lo)) → not b ≡ true → false ≡ not (some 0 128 (is_left m p))
+  pub within_not : {b : Bool} → b ≡ not (some 0 64 (lacks m.lo p.lo)) → b ≡ false → b ≡ not (some 0 128 (is_left m p))
   within_not e q = follows_not (m.lo ∷ m.hi ∷ []) p 0 e q ∙ ap not left_words
 
-  pub within_is : {b r : Bool} → b ≡ not (some 0 64 (lacks m.lo p.lo)) → not b ≡ false → r ≡ not (some 0 64 (lacks m.hi p.hi))
+  pub within_is : {b r : Bool} → b ≡ not (some 0 64 (lacks m.lo p.lo)) → b ≡ true → r ≡ not (some 0 64 (lacks m.hi p.hi))
       → r ≡ not (some 0 128 (is_left m p))
   within_is e q h = follows_is (m.lo ∷ m.hi ∷ []) p 0 e q h ∙ ap not left_words

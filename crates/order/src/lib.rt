@@ -1,7 +1,7 @@
 // The order: each next place has the smallest number not yet placed whose forced predecessors all are; the rest is ordered by the same rule.
 #![tactic(auto)]
 
-ghost use Rattle.std.specs.Prelude.{◌≡◌, [], not, ◌+◌, ◌≤◌, ◌<◌, length, take};
+ghost use Rattle.std.specs.Prelude.{◌≡◌, [], not, ◌+◌, ◌*◌, ◌≤◌, ◌<◌, length, take};
 ghost use Rattle.base.specs.Base.{some, first};
 ghost use Rattle.base.proofs.Fill.{Appended};
 ghost use Rattle.theory.specs.Order.{rest};
@@ -23,21 +23,11 @@ pub fn none() -> Words
     Words { lo: 0, hi: 0 }
 }
 
-// Within this crate a set is two plain words, `mlo` and `mhi` for the members, `plo` and `phi` for those placed. A struct would be handed over by the address of a local, which the recursion could then not leave behind: with plain words it is a jump, in one frame.
-
-// The low word with a in it, if a is one of its numbers.
-fn low_with(lo: u64, a: usize) -> u64
-    ensures { Given 0 lo a result }
+// The word u, of the 64 numbers from 64 * half on, with a in it, if a is one of them.
+fn word_with(u: u64, a: usize, half: usize) -> u64
+    ensures { Given (64 * half) u a result }
 {
-    if a < 64 { lo | (1u64 << a) } else { lo }
-}
-
-// The high word with a in it, if a is one of its numbers.
-fn high_with(hi: u64, a: usize) -> u64
-    requires { a < 128 }
-    ensures { Given 64 hi a result }
-{
-    if a < 64 { hi } else { hi | (1u64 << (a - 64)) }
+    u | bits::own_bit(a, half)
 }
 
 // The set w with a in it.
@@ -46,8 +36,8 @@ pub fn with(w: Words, a: usize) -> Words
     ensures { Plus w a result }
 {
     Words {
-        lo: low_with(w.lo, a),
-        hi: high_with(w.hi, a),
+        lo: word_with(w.lo, a, 0),
+        hi: word_with(w.hi, a, 1),
     }
 }
 
@@ -73,21 +63,18 @@ fn covers(u: u64, v: u64) -> bool
 pub fn within(m: Words, p: Words) -> bool
     ensures { result ≡ not (some 0 128 (is_left m p)) }
 {
-    if !covers(m.lo, p.lo) {
-        return false;
-    }
-    covers(m.hi, p.hi)
+    covers(m.lo, p.lo) && covers(m.hi, p.hi)
 }
+
+// Kept (5): from here on a set is two plain words, `mlo` and `mhi` for the members, `plo` and `phi` for those placed. A struct would be handed over by the
+// address of a local, which the recursion could then not leave behind: with plain words it is a jump, in one frame.
 
 // Whether no number of row a is missing among those placed.
 fn follows(f: &[u64; 256], plo: u64, phi: u64, a: usize) -> bool
     requires { a < 128 }
     ensures { result ≡ not (some 0 128 (waits f.now (words plo phi) a)) }
 {
-    if !covers(f[2 * a], plo) {
-        return false;
-    }
-    covers(f[2 * a + 1], phi)
+    covers(f[2 * a], plo) && covers(f[2 * a + 1], phi)
 }
 
 // The smallest of the numbers from `base` on, of which `left` has the bits, that is not kept back; 128 where each is.
@@ -124,6 +111,7 @@ fn next(f: &[u64; 256], n: usize, mlo: u64, mhi: u64, plo: u64, phi: u64) -> usi
 }
 
 // The rest of the order, from `at` on, after those placed. Answers where it ends.
+// Kept (6): the bytes before `at` are those placed, and the contract speaks of them.
 fn order(
     f: &[u64; 256],
     n: usize,
@@ -140,8 +128,8 @@ fn order(
     let a = next(f, n, mlo, mhi, plo, phi);
     if a < n {
         out[at] = a as u8;
-        let lo = low_with(plo, a);
-        let hi = high_with(phi, a);
+        let lo = word_with(plo, a, 0);
+        let hi = word_with(phi, a, 1);
         order(f, n, mlo, mhi, lo, hi, out, at + 1)
     } else {
         at

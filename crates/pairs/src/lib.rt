@@ -15,13 +15,7 @@ pub fn is_start(h: &[u64], a: usize, b: usize) -> bool
     requires { Settled h.now }
     ensures { result ≡ is_start (history_of h.now) a b }
 {
-    if a != 0 {
-        return false;
-    }
-    if b == 0 {
-        return false;
-    }
-    reads::is_committed(h, b)
+    a == 0 && 0 < b && reads::is_committed(h, b)
 }
 
 // "session (an earlier transaction before each later one of its session)"
@@ -29,34 +23,28 @@ pub fn is_session(h: &[u64], a: usize, b: usize) -> bool
     requires { Settled h.now }
     ensures { result ≡ is_session (history_of h.now) a b }
 {
-    if a == 0 {
-        return false;
-    }
-    if b <= a {
-        return false;
-    }
-    if !reads::is_committed(h, a) {
-        return false;
-    }
-    if !reads::is_committed(h, b) {
-        return false;
-    }
-    table::session_of(h, a) == table::session_of(h, b)
+    0 < a
+        && a < b
+        && reads::is_committed(h, a)
+        && reads::is_committed(h, b)
+        && table::session_of(h, a) == table::session_of(h, b)
 }
 
 // ── tables of pairs ──
+
+// Kept (5): the table, the bytes k and the bytes p are passed on as the public functions get them: a struct of them would be made there for that alone.
 
 // The last transaction before b that stands before it by session; 0, which stands before every other, where there is none.
 fn prior(h: &[u64], b: usize) -> usize
     requires { Settled h.now × (0 < b) }
     ensures { Below result (prior_of (history_of h.now) b) b }
 {
-    let mut a = b - 1;
-    while 0 < a {
+    // a runs down from b - 1. With `(1..b).rev()` the compiler would compare it with b at each step, which took half as long again.
+    for k in 1..b {
+        let a = b - k;
         if is_session(h, a, b) {
             return a;
         }
-        a -= 1;
     }
     0
 }
@@ -77,11 +65,8 @@ pub fn fill_priors(h: &[u64], p: &mut [u8; 128])
     requires { Settled h.now × Blank p.old }
     ensures { Priors (history_of h.now) p.new }
 {
-    let n = table::txs(h);
-    let mut b = 1;
-    while b <= n {
+    for b in 1..=table::txs(h) {
         p[b] = prior_of(h, b) as u8;
-        b += 1;
     }
 }
 
@@ -110,11 +95,8 @@ fn mark_orders(h: &[u64], p: &[u8; 128], t: &mut [u64])
     requires { Settled h.now × Priors (history_of h.now) p.now × Holds t.old nothing }
     ensures { Holds t.new (orders_below (history_of h.now) (size (history_of h.now))) }
 {
-    let n = table::txs(h);
-    let mut b = 1;
-    while b <= n {
+    for b in 1..=table::txs(h) {
         mark_order(h, p, t, b);
-        b += 1;
     }
 }
 
@@ -133,11 +115,8 @@ fn mark_reads(h: &[u64], k: &[u8], t: &mut [u64])
     requires { Ready h.now k.now × (length t.old ≡ 256) }
     ensures { Holds t.new (either (bit_of t.old) (read_bits (history_of h.now))) }
 {
-    let n = table::ops(h);
-    let mut i = 1;
-    while i <= n {
+    for i in 1..=table::ops(h) {
         mark_read(h, k, t, i);
-        i += 1;
     }
 }
 

@@ -10,8 +10,11 @@ use Rattle.rules.specs.Numbers.{over}
 use Rattle.rules.specs.History.{History}
 use Rattle.rules.specs.Reading.{read}
 use Rattle.rules.specs.Outcome.{findings, finding_list, pairs, pair_list, order, declining, rejecting, accepting, Outcome, outcome, reported, is_accepted, judged_read}
-use Rattle.rules.specs.declared.Answer.{Answer}
-use Rattle.rules.specs.declared.Answer.TheVariants.{Refused, Rejected, Accepted}
+use Rattle.rules.specs.Outcome.{Answer}
+use Rattle.std.specs.Prelude.{Ok, Err}
+use Rattle.rules.specs.Refusals.{cause_no}
+use Rattle.rules.specs.declared.Refusal.{Refusal}
+use Rattle.rules.specs.declared.Ruling.TheVariants.{Rejected, Accepted}
 use Rattle.rules.proofs.Outcome.{verdict_no, judged_accepted, judged_rejected, acceptance-fits, rejection-fits}
 use Rattle.rules.proofs.Lists.{findings-long, pairs-long}
 use Rattle.demand1.specs.Lawful.{LawfulHistory}
@@ -78,15 +81,15 @@ module _ (h : History) (level : ℕ) where
 -- ── so each answer says what it is ──
 
 module _ {h : History} (ok : LawfulHistory h) {level : ℕ} {r : Answer} {F P O : List ℕ} where
-  pub told_refused : {n at : ℕ} → r ≡ Refused n at → OnReading h level new_findings new_pairs new_order F P O r → ⊥
+  pub told_refused : {d : Refusal} → r ≡ Err d → OnReading h level new_findings new_pairs new_order F P O r → ⊥
   unfolding reported
-  told_refused {n} {at} a x = of (comes h level ok) (rw a at (x.is 0))
+  told_refused {d} a x = of (comes h level ok) (rw a at (x.is 0))
     where
-      of : {x : Outcome} → Comes h level x → outcome (declining n at) F P O ≡ x → ⊥
+      of : {x : Outcome} → Comes h level x → outcome (declining (cause_no d.cause) d.place) F P O ≡ x → ⊥
       of (comes_accepted t) x = omega (arith, one_verdict x)
       of (comes_rejected t) x = omega (arith, one_verdict x)
 
-  pub told_accepted : {n : ℕ} → r ≡ Accepted n → OnReading h level new_findings new_pairs new_order F P O r → AcceptedBy h level n O
+  pub told_accepted : {n : ℕ} → r ≡ Ok (Accepted n) → OnReading h level new_findings new_pairs new_order F P O r → AcceptedBy h level n O
   unfolding reported
   told_accepted {n} a x = of (comes h level ok) (rw a at (x.is 0))
     where
@@ -95,7 +98,7 @@ module _ {h : History} (ok : LawfulHistory h) {level : ℕ} {r : Answer} {F P O 
           record { accepted = t; long = ap (λ (o : Outcome). o.report.order) x; shown = ap (λ (o : Outcome). o.order) x }
       of (comes_rejected t) x = absurd (omega (arith, one_verdict x))
 
-  pub told_rejected : {n m : ℕ} → r ≡ Rejected n m → OnReading h level new_findings new_pairs new_order F P O r → RejectedBy h level n m F P
+  pub told_rejected : {n m : ℕ} → r ≡ Ok (Rejected n m) → OnReading h level new_findings new_pairs new_order F P O r → RejectedBy h level n m F P
   unfolding reported
   told_rejected {n} {m} a x = of (comes h level ok) (rw a at (x.is 0))
     where

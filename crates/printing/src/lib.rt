@@ -8,37 +8,36 @@ ghost use Rattle.show.specs.Laid.{Put, Short};
 ghost use Rattle.printing.specs.Printing.{Written, Taken, blocks_text, rejected_text};
 
 use entries::Lines;
-use rules::Answer;
-use trace::Out;
+use rules::Ruling;
 
 // The text of a trace's answer, as far as the buffer reaches. Answers how long it is. The trace is read once for all levels.
 pub fn put_answer(trace: &[u8], out: &mut [u8]) -> usize
     ensures { Written trace.now out.old out.new result }
 {
-    // The words of a history's table, and a byte for each number that an operation can have.
-    let mut h = [0u64; 2306];
+    // a byte for each number that an operation can have
+    let mut h = [0u64; table::WORDS];
     let mut k = [0u8; 1025];
-    let read = forcing::prepare(trace, &mut h, &mut k);
-    match read {
-        Out::Bad(no, place) => show::put_refused(out, 0, no as usize, place),
-        Out::Good(_) => put_blocks(&h, &k, out),
+    match forcing::prepare(trace, &mut h, &mut k) {
+        Err(refusal) => show::put_refusal(out, 0, refusal),
+        Ok(_) => put_blocks(&h, &k, out),
     }
 }
 
 // .. whole, as the front of a lent buffer that no text is longer than: what a program prints. Of the bytes behind it nothing can be said, since a buffer
 // whose part is handed back has no exit; no program looks at them.
+#[tactic(auto, using(crate::proofs::Promise::answer_whole))]
 pub fn answer_text<'a>(trace: &[u8], text: &'a mut [u8; 1048576]) -> &'a [u8]
     ensures { (result.now ≡ answer_text trace.now) × (result.ref_ptr ≡ text.entry.ref_ptr) }
 {
     let end = put_answer(trace, text);
-    let filled: &'a [u8; 1048576] = text;
-    let bytes: &'a [u8] = filled;
-    &bytes[..end]
+    show::front(text, end)
 }
 
 // ── the blocks ──
 
 // The blocks of the three levels, each at the end of the one before.
+// Kept (5): `h` and `k` travel together, as `forcing::prepare` and `judging::judge_history`, which are public, take them.
+#[tactic(auto, using(show::proofs::Laws::parts))]
 fn put_blocks(h: &[u64], k: &[u8], out: &mut [u8]) -> usize
     requires { Taken h.now k.now × Short 0 (blocks_text (history_of h.now)) }
     ensures { Put out.old 0 out.new result (blocks_text (history_of h.now)) }
@@ -58,16 +57,20 @@ fn put_block(h: &[u64], k: &[u8], level: u8, out: &mut [u8], at: usize) -> usize
     let mut pairs = [0u8; 65024];
     let mut order = [0u8; 128];
     let answer = judging::judge_history(h, k, level, &mut findings, &mut pairs, &mut order);
-    match answer {
-        // Never given: the trace was read, and the buffers are long enough.
-        Answer::Refused(_, _) => at,
-        Answer::Rejected(reads, listed) => put_rejected(
+    // it is never refused: the trace was read, and the buffers are long enough
+    let Ok(ruling) = answer else {
+        return at;
+    };
+    match ruling {
+        Ruling::Rejected(reads, listed) => put_rejected(
             level, reads, listed, &findings, &pairs, out, at,
         ),
-        Answer::Accepted(n) => show::put_accepted(out, at, level, &order[..n]),
+        Ruling::Accepted(n) => show::put_accepted(out, at, level, &order[..n]),
     }
 }
 
+// Kept (6): a count stands beside each list, since `entries::put_entries`, which is public, takes both.
+#[tactic(auto, using(show::proofs::Laws::parts), unfolding(entries::specs::Entries::width, crate::specs::Printing::rejected_text))]
 fn put_rejected(
     level: u8,
     reads: usize,

@@ -8,7 +8,6 @@ ghost use Rattle.rules.specs.Numbers.{bytes};
 ghost use Rattle.rules.specs.Traces.{record_of};
 ghost use Rattle.writing.specs.Steps.{field_bytes, step_bytes};
 ghost use Rattle.rules.specs.Records.{fields_from};
-ghost use Rattle.rules.specs.declared.Event.TheVariants.{Other};
 ghost use Rattle.writing.specs.Writing.{item_of};
 ghost use Rattle.writing.specs.Forms.{mark, item_with, item_in, form_bytes};
 ghost use Rattle.putting.specs.Putting.{lead_of};
@@ -22,15 +21,15 @@ pub fn put_number(out: &mut [u8], at: usize, width: usize, n: u64) -> usize
     ensures { Appended out.old at out.new result (bytes width n) }
 {
     let end = at + width;
-    let mut to = at;
     let mut left = n;
-    while to < end {
+    for to in at..end {
         out[to] = (left % 256) as u8;
-        left = left / 256;
-        to += 1;
+        left /= 256;
     }
-    to
+    end
 }
+
+// Kept (6): the buffer and a place in it go in, and the next place comes out, in each function: `Appended` says it of the public ones.
 
 // A key and a value.
 fn put_pair(out: &mut [u8], at: usize, key: u64, value: u64) -> usize
@@ -43,27 +42,22 @@ fn put_pair(out: &mut [u8], at: usize, key: u64, value: u64) -> usize
 
 // ── a record ──
 
-// Its kind's number. What enters nothing is, in edition 2, the record that says the edition.
-fn other_kind(second: bool) -> u64
-    ensures { result ≡ (item_in second (mark 0 Other)).kind }
-{
-    if second {
-        return 16;
-    }
-    0
-}
+// Kept (7): `second` says the edition, as the definitions have it (`item_in`): it chooses numbers as well as what is put.
 
+// Its kind's number. What enters nothing is, in edition 2, the record that says the edition.
+#[tactic(auto, unfolding(writing::specs::Writing::item_of, writing::specs::Forms::item_with))]
 fn kind_of(second: bool, event: Event) -> u64
     ensures { result ≡ (item_in second (mark 0 event)).kind }
 {
     match event {
         Event::Open(_) => 1,
-        Event::Read(_, _) => 2,
-        Event::Write(_, _) => 3,
+        Event::Read(..) => 2,
+        Event::Write(..) => 3,
         Event::Close(_) => 4,
         Event::End(_) => 5,
         Event::Note => 6,
-        Event::Other => other_kind(second),
+        Event::Other if second => 16,
+        Event::Other => 0,
     }
 }
 
@@ -72,28 +66,25 @@ fn kind_of(second: bool, event: Event) -> u64
 fn session_length(second: bool) -> u64
     ensures { (result ≡ fields_from second) × (result ≤ 2) }
 {
-    if second {
-        return 2;
-    }
-    0
+    if second { 2 } else { 0 }
 }
 
+#[tactic(auto, unfolding(writing::specs::Writing::item_of, writing::specs::Forms::item_with, rules::specs::Numbers::bytes))]
 fn payload_length(second: bool, event: Event) -> u64
     ensures { (result ≡ length (item_in second (mark 0 event)).payload) × (result ≤ 14) }
 {
     let more = session_length(second);
     match event {
-        Event::Open(_) => 2,
-        Event::Read(_, _) => 12 + more,
-        Event::Write(_, _) => 12 + more,
+        Event::Open(_) | Event::End(_) => 2,
+        Event::Read(..) | Event::Write(..) => 12 + more,
         Event::Close(_) => 1 + more,
-        Event::End(_) => 2,
         Event::Note => 0,
         Event::Other => more,
     }
 }
 
 // The payload in edition 1.
+#[tactic(auto, unfolding(writing::specs::Writing::item_of, rules::specs::Numbers::bytes))]
 fn put_first(out: &mut [u8], at: usize, event: Event) -> usize
     requires { at + length (item_of event).payload ≤ length out.old }
     ensures { Appended out.old at out.new result (item_of event).payload }
@@ -104,24 +95,25 @@ fn put_first(out: &mut [u8], at: usize, event: Event) -> usize
         Event::Write(key, value) => put_pair(out, at, key, value),
         Event::Close(status) => put_number(out, at, 1, status as u64),
         Event::End(txs) => put_number(out, at, 2, txs as u64),
-        Event::Note => at,
-        Event::Other => at,
+        Event::Note | Event::Other => at,
     }
 }
 
 // What stands before it in edition 2: the session of a read, a write and a close; where nothing else stands, the number of the edition.
+#[tactic(auto, unfolding(crate::specs::Putting::lead_of, rules::specs::Numbers::bytes))]
 fn put_lead(out: &mut [u8], at: usize, session: u16, event: Event) -> usize
     requires { at + length (lead_of session event) ≤ length out.old }
     ensures { Appended out.old at out.new result (lead_of session event) }
 {
     match event {
-        Event::Open(_) => at,
-        Event::Read(_, _) => put_number(out, at, 2, session as u64),
-        Event::Write(_, _) => put_number(out, at, 2, session as u64),
-        Event::Close(_) => put_number(out, at, 2, session as u64),
-        Event::End(_) => at,
-        Event::Note => at,
+        Event::Read(..) | Event::Write(..) | Event::Close(_) => put_number(
+            out,
+            at,
+            2,
+            session as u64,
+        ),
         Event::Other => put_number(out, at, 2, 2),
+        Event::Open(_) | Event::End(_) | Event::Note => at,
     }
 }
 
@@ -139,9 +131,10 @@ fn put_payload(out: &mut [u8], at: usize, second: bool, session: u16, event: Eve
     ensures { Appended out.old at out.new result (item_in second (mark session event)).payload }
 {
     if second {
-        return put_second(out, at, session, event);
+        put_second(out, at, session, event)
+    } else {
+        put_first(out, at, event)
     }
-    put_first(out, at, event)
 }
 
 // "A record is a 2-byte length, a 2-byte kind, a 4-byte serial and a payload"; "The length counts everything after itself." In edition 2 or 1, of a
@@ -176,6 +169,7 @@ fn put_fields(out: &mut [u8], at: usize, kind: u64, second: u16, key: u64, value
 }
 
 // A step; for an event that is none, nothing.
+#[tactic(auto, unfolding(writing::specs::Steps::step_bytes))]
 pub fn put_step(out: &mut [u8], at: usize, event: Event) -> usize
     requires { at + length (step_bytes event) ≤ length out.old }
     ensures { Appended out.old at out.new result (step_bytes event) }
@@ -185,29 +179,24 @@ pub fn put_step(out: &mut [u8], at: usize, event: Event) -> usize
         Event::Read(key, value) => put_fields(out, at, 2, 0, key as u64, value),
         Event::Write(key, value) => put_fields(out, at, 3, 0, key, value),
         Event::Close(status) => put_fields(out, at, 4, status, 0, 0),
-        Event::End(_) => at,
-        Event::Note => at,
-        Event::Other => at,
+        Event::End(_) | Event::Note | Event::Other => at,
     }
 }
 
 // ── in any form ──
 
 // How many bytes an event has.
+#[tactic(auto, unfolding(writing::specs::Steps::step_bytes, writing::specs::Steps::field_bytes, rules::specs::Numbers::bytes))]
 fn step_length(event: Event) -> usize
     ensures { result ≡ length (step_bytes event) }
 {
     match event {
-        Event::Open(_) => 16,
-        Event::Read(_, _) => 16,
-        Event::Write(_, _) => 16,
-        Event::Close(_) => 16,
-        Event::End(_) => 0,
-        Event::Note => 0,
-        Event::Other => 0,
+        Event::Open(_) | Event::Read(..) | Event::Write(..) | Event::Close(_) => 16,
+        Event::End(_) | Event::Note | Event::Other => 0,
     }
 }
 
+#[tactic(auto, unfolding(writing::specs::Forms::form_bytes))]
 pub fn event_length(form: Form, event: Event) -> usize
     ensures { result ≡ length (form_bytes form 0 (mark 0 event)) }
 {
@@ -219,6 +208,7 @@ pub fn event_length(form: Form, event: Event) -> usize
 }
 
 // An event of a transaction of this session; as a record it has this serial.
+#[tactic(auto, unfolding(writing::specs::Forms::form_bytes))]
 pub fn put_event(
     out: &mut [u8],
     at: usize,

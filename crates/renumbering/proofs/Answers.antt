@@ -11,7 +11,7 @@ use Rattle.theory.proofs.Ascending.{entry_place}
 use Rattle.rules.specs.Numbers.{over}
 use Rattle.rules.specs.History.{History}
 use Rattle.rules.specs.Outcome.{rejects, Report, rejecting, reported, Outcome}
-use Rattle.rules.specs.declared.Answer.{Answer}
+use Rattle.rules.specs.Outcome.{Answer}
 use Rattle.rules.proofs.Numbers.{over-at, over-le, over-behind}
 use Rattle.rules.proofs.Outcome.{reported_one, ReportIs, says_declined, says_rejected, says_accepted, says}
 use Rattle.demand1.specs.Lawful.{LawfulHistory}

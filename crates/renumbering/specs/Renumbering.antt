@@ -5,7 +5,7 @@ use Rattle.theory.specs.Entries.{Number}
 use Rattle.rules.specs.Numbers.{le}
 use Rattle.rules.specs.History.{History, op, op_count}
 use Rattle.rules.specs.Outcome.{rejects, rejecting, reported}
-use Rattle.rules.specs.declared.Answer.{Answer}
+use Rattle.rules.specs.Outcome.{Answer}
 use Rattle.demand1.specs.Lawful.{IsOp}
 use Rattle.demand2.specs.Kinds.{HasKind}
 use Rattle.demand3.specs.Writes.{WriteNumber}

@@ -4,13 +4,14 @@ use mathlib.Core.Path.{◌≡◌, refl, ap, sym, ◌∙◌}
 use mathlib.Core.Bool.{Bool, false≢true}
 use mathlib.Core.List.{List}
 use lib.ListN.{length, take}
+use Rattle.std.specs.Prelude.{Ok, Err}
+use Rattle.rules.specs.Refusals.{cause_no}
+use Rattle.rules.specs.declared.Refusal.{Refusal}
 use Rattle.rules.specs.Records.{serial_at, is_second}
 use Rattle.rules.specs.Reading.{Reading, refused, read, reading}
 use Rattle.rules.specs.History.{History}
 use Rattle.demand1.proofs.Readings.{has_record, has_read}
-use Rattle.writing.specs.declared.Filled.{Filled}
-use Rattle.writing.specs.declared.Filled.TheVariants.{Refused, Length}
-use Rattle.writing.specs.Filling.{refusing, answering, said, Fill, fill_of, into}
+use Rattle.writing.specs.Filling.{Filled, refusing, answering, said, Fill, fill_of, into}
 use Rattle.writing.specs.Writing.{written}
 use Rattle.writing.specs.Listing.{steps_read, stepped}
 use Rattle.writing.proofs.Within.{stepped_within}
@@ -47,13 +48,13 @@ module _ (r : Filled) (s x x₂ : List ℕ) (e : fill_of (said r) x₂ ≡ stepp
   steps_are : x₂ ≡ (stepped s x).buffer
   steps_are = ap (λ (y : Fill). y.buffer) e
 
-  pub handed_on : (m p : ℕ) → r ≡ Refused m p → (out : List ℕ) → Rewrote (Refused m p) s x x₂ out out
+  pub handed_on : {d : Refusal} → r ≡ Err d → (out : List ℕ) → Rewrote (Err d) s x x₂ out out
   unfolding said
-  handed_on m p q out =
-      let refuses : (stepped s x).answer ≡ refusing m p = ap (λ (y : Fill). y.answer) (sym e) ∙ ap said q in
+  handed_on {d} q out =
+      let refuses : (stepped s x).answer ≡ refusing (cause_no d.cause) d.place = ap (λ (y : Fill). y.answer) (sym e) ∙ ap said q in
       record { is = sym (again_refused s x out refuses); steps = steps_are }
 
-  module _ {n : ℕ} (q : r ≡ Length n) where
+  module _ {n : ℕ} (q : r ≡ Ok n) where
     listed : fill_of (answering n) x₂ ≡ stepped s x
     unfolding said
     listed = rw q at e

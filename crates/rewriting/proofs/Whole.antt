@@ -8,19 +8,20 @@ use lib.ListN.{length, take, drop, length-drop}
 use lib.Seq.{take_all}
 use Rattle.base.specs.Base.{joined}
 use Rattle.base.proofs.Tests.{ifso}
+use Rattle.std.specs.Prelude.{Err}
+use Rattle.rules.specs.Refusals.{refusal_at}
+use Rattle.rules.specs.declared.Cause.TheVariants.{TooFew}
 use Rattle.rules.specs.Numbers.{le, over}
 use Rattle.rules.specs.History.{History}
 use Rattle.rules.specs.Records.{is_second}
 use Rattle.rules.specs.Reading.{Reading, refused, read, reading}
 use Rattle.demand1.proofs.Lawful.{lawful_history}
 use Rattle.demand1.proofs.Readings.{has_read}
-use Rattle.writing.specs.Filling.{refusing, answering, said, Fill, fill_of, Gives}
+use Rattle.writing.specs.Filling.{refusing, answering, said, Fill, fill_of, Gives, Filled}
 use Rattle.writing.specs.Steps.{step_bytes}
 use Rattle.writing.specs.Writing.{written, written_given}
 use Rattle.writing.specs.Listing.{history_steps, stepped}
 use Rattle.writing.specs.Rewriting.{rewritten, rewritten_whole}
-use Rattle.writing.specs.declared.Filled.{Filled}
-use Rattle.writing.specs.declared.Filled.TheVariants.{Refused}
 use Rattle.writing.proofs.Filling.{into-fits}
 use Rattle.writing.proofs.Listing.{listed_refused, listed-second, listed-first}
 use Rattle.writing.proofs.Rewriting.{again_refused, again-steps, whole_refused, whole-second, whole-first, given_none, given_steps_lem}
@@ -53,7 +54,7 @@ gives_whole {r} s x x₂ out out₂ l w = record { is = w.is ∙ whole s x out l
 
 -- ── a serial and steps ──
 
-pub gives_none : (g out : List ℕ) → length g < 4 → Gives (Refused 3 0) out (written_given g out)
+pub gives_none : (g out : List ℕ) → length g < 4 → Gives (Err (refusal_at TooFew 0)) out (written_given g out)
 unfolding said
 gives_none g out l = record { is = sym (given_none g out l); within = omega arith }
 

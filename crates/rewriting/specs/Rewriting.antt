@@ -1,7 +1,6 @@
 -- What the call promises of its lent buffers.
 use Rattle.std.specs.Prelude.{ℕ, ◌≡◌, List}
-use Rattle.writing.specs.declared.Filled.{Filled}
-use Rattle.writing.specs.Filling.{said, fill_of}
+use Rattle.writing.specs.Filling.{Filled, said, fill_of}
 use Rattle.writing.specs.Listing.{stepped}
 use Rattle.writing.specs.Rewriting.{rewritten}
 

@@ -10,7 +10,7 @@ use Rattle.bits.specs.Bits.{test_bit, bit_of, Holds, row_of}
 use Rattle.pairs.specs.Pairs.{Ready, before, cell, across}
 use Rattle.keys.specs.Keys.{bucket_of, is_shared, wrote}
 use Rattle.vectors.specs.Vectors.{Small, named}
-use Rattle.rivals.specs.declared.Left.{Left}
+use Rattle.order.specs.declared.Words.{Words}
 
 -- the pairs that the search goes by: basic pairs at levels 1 and 2, what leads to what at level 3
 unfoldable pub pairs_for : History → ℕ → ℕ → ℕ → Bool
@@ -156,5 +156,5 @@ pub record Remains (h : History) (level t3 : ℕ) (m : ℕ → ℕ → Bool) (i 
   pub rest : (x y : ℕ) → x < 128 → y < 128 → bit_of v x y or rivals_among h level t3 i (row_of lo hi) x y ≡ m x y
 
 -- read i was done: it made u of the table v, and left r; the loop goes on at the operation before
-pub record Behind (h : History) (level t3 i lo hi : ℕ) (v : List ℕ) (r : Left) (u : List ℕ) : Type 0 where
+pub record Behind (h : History) (level t3 i lo hi : ℕ) (v : List ℕ) (r : Words) (u : List ℕ) : Type 0 where
   pub goes : (m : ℕ → ℕ → Bool) (j : ℕ) → Below j (prev_of h i) i → Remains h level t3 m i lo hi v → Remains h level t3 m j r.lo r.hi u

@@ -1,3 +1,5 @@
+pub mod Refusals
+pub mod Named
 pub mod Numbers
 pub mod Records
 pub mod Traces

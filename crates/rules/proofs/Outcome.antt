@@ -12,9 +12,10 @@ use Rattle.base.proofs.Tests.{clash, is_false, both, and_left, and_right, and_no
 use Rattle.rules.specs.Numbers.{over}
 use Rattle.rules.specs.History.{History}
 use Rattle.rules.specs.Reading.{Reading, refused, read, reading}
-use Rattle.rules.specs.Outcome.{findings, pairs, finding_list, pair_list, order, Verdict, declines, rejects, accepts, Report, declining, rejecting, accepting, reported, Outcome, outcome, is_empty, is_accepted, acceptance, rejection, judged_read, is_level, judged}
-use Rattle.rules.specs.declared.Answer.{Answer}
-use Rattle.rules.specs.declared.Answer.TheVariants.{Refused, Rejected, Accepted}
+use Rattle.rules.specs.Outcome.{findings, pairs, finding_list, pair_list, order, Verdict, declines, rejects, accepts, Report, declining, rejecting, accepting, Answer, reported, Outcome, outcome, is_empty, is_accepted, acceptance, rejection, judged_read, is_level, judged}
+use Rattle.rules.specs.declared.Ruling.TheVariants.{Rejected, Accepted}
+use Rattle.rules.proofs.Refusals.{refusal_one}
+use Rattle.std.specs.Prelude.{Ok, Err}
 
 -- ── answers and reports ──
 
@@ -31,15 +32,15 @@ same_verdict e = ap (λ (x : Report). verdict_no x.verdict) e
 -- what is reported says which answer it was
 pub reported_one : (r q : Answer) → reported r ≡ reported q → r ≡ q
 unfolding reported
-reported_one (Refused n p) (Refused m q) e = rw (ap (λ (x : Report). x.no) e, ap (λ (x : Report). x.place) e)
-reported_one (Refused n p) (Rejected f q) e = absurd (omega (arith, same_verdict e))
-reported_one (Refused n p) (Accepted m) e = absurd (omega (arith, same_verdict e))
-reported_one (Rejected f p) (Refused m q) e = absurd (omega (arith, same_verdict e))
-reported_one (Rejected f p) (Rejected g q) e = rw (ap (λ (x : Report). x.findings) e, ap (λ (x : Report). x.pairs) e)
-reported_one (Rejected f p) (Accepted m) e = absurd (omega (arith, same_verdict e))
-reported_one (Accepted n) (Refused m q) e = absurd (omega (arith, same_verdict e))
-reported_one (Accepted n) (Rejected f q) e = absurd (omega (arith, same_verdict e))
-reported_one (Accepted n) (Accepted m) e = rw (ap (λ (x : Report). x.order) e)
+reported_one (Err r) (Err q) e = ap Err (refusal_one (ap (λ (x : Report). x.no) e) (ap (λ (x : Report). x.place) e))
+reported_one (Err r) (Ok (Rejected f q)) e = absurd (omega (arith, same_verdict e))
+reported_one (Err r) (Ok (Accepted m)) e = absurd (omega (arith, same_verdict e))
+reported_one (Ok (Rejected f p)) (Err q) e = absurd (omega (arith, same_verdict e))
+reported_one (Ok (Rejected f p)) (Ok (Rejected g q)) e = rw (ap (λ (x : Report). x.findings) e, ap (λ (x : Report). x.pairs) e)
+reported_one (Ok (Rejected f p)) (Ok (Accepted m)) e = absurd (omega (arith, same_verdict e))
+reported_one (Ok (Accepted n)) (Err q) e = absurd (omega (arith, same_verdict e))
+reported_one (Ok (Accepted n)) (Ok (Rejected f q)) e = absurd (omega (arith, same_verdict e))
+reported_one (Ok (Accepted n)) (Ok (Accepted m)) e = rw (ap (λ (x : Report). x.order) e)
 
 -- a report is one of three
 pub data ReportIs : Report → Type 0 where
@@ -49,9 +50,9 @@ pub data ReportIs : Report → Type 0 where
 
 pub says : (r : Answer) → ReportIs (reported r)
 unfolding reported
-says (Refused n p) = says_declined
-says (Rejected f p) = says_rejected
-says (Accepted n) = says_accepted
+says (Err r) = says_declined
+says (Ok (Rejected f p)) = says_rejected
+says (Ok (Accepted n)) = says_accepted
 
 -- ── acceptance or not ──
 

@@ -1,5 +1,5 @@
 -- Document 01, "Lists and order", and rows 1 and 12 to 14 of "When the judge declines": the outcome of judging, for all bytes, levels and buffers.
-use Rattle.std.specs.Prelude.{ℕ, ◌+◌, ◌/◌, ◌%◌, Bool, true, false, List, [], ◌∷◌, length, ltb}
+use Rattle.std.specs.Prelude.{ℕ, ◌+◌, ◌/◌, ◌%◌, Bool, true, false, List, [], ◌∷◌, length, ltb, Result, Ok, Err}
 use Rattle.base.specs.Base.{◌and◌, pick, listed, those, joined}
 use Rattle.theory.specs.Leads.{is_listed}
 use Rattle.theory.specs.Order.{rest}
@@ -8,8 +8,10 @@ use Rattle.rules.specs.History.{History, op, op_count, size, origin_of, committe
 use Rattle.rules.specs.Reading.{Reading, refused, read, reading}
 use Rattle.rules.specs.Reads.{kind_of, is_finding}
 use Rattle.rules.specs.Levels.{forced, reasons}
-use Rattle.rules.specs.declared.Answer.{Answer}
-use Rattle.rules.specs.declared.Answer.TheVariants.{Refused, Rejected, Accepted}
+use Rattle.rules.specs.Refusals.{cause_no}
+use Rattle.rules.specs.declared.Refusal.{Refusal}
+use Rattle.rules.specs.declared.Ruling.{Ruling}
+use Rattle.rules.specs.declared.Ruling.TheVariants.{Rejected, Accepted}
 
 -- ── lists and order ──
 
@@ -72,11 +74,15 @@ rejecting f p = record { verdict = rejects; no = 0; place = 0; findings = f; pai
 abbrev pub accepting : ℕ → Report
 accepting n = record { verdict = accepts; no = 0; place = 0; findings = 0; pairs = 0; order = n }
 
+-- the judge's answer
+abbrev pub Answer : Type 0
+Answer = Result Ruling Refusal
+
 -- what each case of the answer says
 unfoldable pub reported : Answer → Report
-reported (Refused n p) = declining n p
-reported (Rejected f p) = rejecting f p
-reported (Accepted n) = accepting n
+reported (Err r) = declining (cause_no r.cause) r.place
+reported (Ok (Rejected f p)) = rejecting f p
+reported (Ok (Accepted n)) = accepting n
 
 -- the report, and what each of the three buffers then holds
 pub record Outcome : Type 0 where

@@ -7,10 +7,10 @@ ghost use Rattle.std.specs.Prelude.{◌≤◌, length};
 ghost use Rattle.writing.specs.Filling.{said};
 ghost use Rattle.moving.specs.Tally.{filled_of};
 
-use moving::Tallied;
+use moving::Output;
+use rules::Refusal;
 use std::io;
 use std::io::{Read, Write};
-use writing::Filled;
 
 fn main(rt: HostRuntime) -> io::Result<()> {
     answer_all(&mut rt.stdin(), &mut rt.stdout())
@@ -94,7 +94,7 @@ fn answer<W: Write>(output: &mut W, asked: u8, given: &[u8], out: &mut [u8]) -> 
 }
 
 // A trace, whose steps are answered.
-fn list_given(trace: &[u8], out: &mut [u8]) -> Filled
+fn list_given(trace: &[u8], out: &mut [u8]) -> Result<usize, Refusal>
     ensures { (said result).length ≤ length out.new }
 {
     lister::list_steps(trace, out)
@@ -103,35 +103,43 @@ fn list_given(trace: &[u8], out: &mut [u8]) -> Filled
 // ── what is printed ──
 
 // What was put into the buffer, or the line of a refusal.
-fn print_answer<W: Write>(output: &mut W, answer: Filled, out: &[u8]) -> io::Result<()>
+fn print_answer<W: Write>(
+    output: &mut W,
+    answer: Result<usize, Refusal>,
+    out: &[u8],
+) -> io::Result<()>
     requires { (said answer).length ≤ length out.now }
 {
     match answer {
-        Filled::Refused(no, place) => print_refusal(output, no, place),
-        Filled::Length(n) => print_front(output, out, n),
+        Err(refusal) => print_refusal(output, refusal),
+        Ok(n) => print_front(output, out, n),
     }
 }
 
 // .. and the number of notes, 0 with a refusal.
-fn print_tallied<W: Write>(output: &mut W, answer: Tallied, out: &[u8]) -> io::Result<()>
+fn print_tallied<W: Write>(
+    output: &mut W,
+    answer: Result<Output, Refusal>,
+    out: &[u8],
+) -> io::Result<()>
     requires { (said (filled_of answer)).length ≤ length out.now }
 {
     match answer {
-        Tallied::Refused(no, place) => {
-            print_refusal(output, no, place)?;
+        Err(refusal) => {
+            print_refusal(output, refusal)?;
             print_number(output, 0)
         }
-        Tallied::Length(n, notes) => {
-            print_front(output, out, n)?;
-            print_number(output, notes)
+        Ok(moved) => {
+            print_front(output, out, moved.length)?;
+            print_number(output, moved.notes)
         }
     }
 }
 
 // `refused NO PLACE`: two numbers of at most 20 digits. It has a buffer of its own: the one that was lent may have room for less.
-fn print_refusal<W: Write>(output: &mut W, no: u8, place: usize) -> io::Result<()> {
+fn print_refusal<W: Write>(output: &mut W, refusal: Refusal) -> io::Result<()> {
     let mut line = [0u8; 64];
-    let end = show::put_refused(&mut line, 0, no as usize, place);
+    let end = show::put_refusal(&mut line, 0, refusal);
     print_front(output, &line, end)
 }
 

@@ -10,6 +10,8 @@ use lib.Seq.{ext_get_or}
 use Rattle.base.proofs.Tests.{ifso, split}
 use Rattle.rules.specs.History.{History}
 use Rattle.rules.specs.declared.Event.{Event}
+use Rattle.std.specs.Prelude.{Result}
+use Rattle.rules.specs.declared.Cause.{Cause}
 use Rattle.steps.specs.declared.Next.{Next}
 use Rattle.steps.proofs.One.{took_one}
 use Rattle.sessions.specs.Open.{Kept, TookOf}
@@ -27,7 +29,7 @@ kept_one {a} {b} x y =
     (split i 128))
 
 -- of `take`: the answer, the table's words, and the bytes
-pub took_of_one : {r q : Next} {g k o p h b : List ℕ} {second : Bool} {n : ℕ} {e : Event} → TookOf r g o h b second n e → TookOf q k p h b second n e
+pub took_of_one : {r q : Result Next Cause} {g k o p h b : List ℕ} {second : Bool} {n : ℕ} {e : Event} → TookOf r g o h b second n e → TookOf q k p h b second n e
     → (r ≡ q) × (g ≡ k) × (o ≡ p)
 took_of_one {second = second} x y =
     let s = took_one x.took y.took in

@@ -19,6 +19,8 @@ use Rattle.rules.specs.declared.Event.{Event}
 use Rattle.rules.specs.declared.Event.TheVariants.{Open, Read, Write, Close, End, Note, Other}
 use Rattle.table.specs.Table.{history_of}
 use Rattle.steps.specs.Steps.{step_no, Took}
+use Rattle.std.specs.Prelude.{Result}
+use Rattle.rules.specs.declared.Cause.{Cause}
 use Rattle.steps.specs.declared.Next.{Next}
 use Rattle.sessions.specs.Open.{session_bucket, Kept, linked, unlinked, is_close, Placed, kept_by}
 use Rattle.sessions.proofs.Grown.{opened_bucket, closed_this}
@@ -73,7 +75,7 @@ module _ (o : List ℕ) (n t p : ℕ) (h : History) where
 
 -- ── a step was refused, or it was lawful and is entered ──
 
-module _ {r : Next} {g2 g : List ℕ} {t : ℕ} {e : Event} (x : Took r g2 g t e) where
+module _ {r : Result Next Cause} {g2 g : List ℕ} {t : ℕ} {e : Event} (x : Took r g2 g t e) where
   by-case : {P : Type 0} → (history_of g2 ≡ history_of g → P)
       → (history_of g2 ≡ entered (history_of g) t e → misplaced t e ≡ false → unlawful (history_of g) e ≡ false → P) → P
   unfolding step_no step_rows
@@ -120,7 +122,7 @@ module _ {o : List ℕ} (h : History) (t p : ℕ) (k : Kept o h) (few : tx_count
   kept-entered Note m u l w = kept_refused
   kept-entered Other m u l w = kept_refused
 
-pub kept-after : {r : Next} {g2 g o : List ℕ} {t : ℕ} {e : Event} (p : ℕ) → Took r g2 g t e → Kept o (history_of g) → tx_count (history_of g) ≤ 127
+pub kept-after : {r : Result Next Cause} {g2 g o : List ℕ} {t : ℕ} {e : Event} (p : ℕ) → Took r g2 g t e → Kept o (history_of g) → tx_count (history_of g) ≤ 127
     → t ≤ tx_count (history_of g) → (0 < t → is_open (history_of g) t ≡ true) → Placed true o (history_of g) e t p
     → Kept (kept_by o (tx_count (history_of g)) t p (history_of g2)) (history_of g2)
 kept-after {g = g} {t = t} {e = e} p x k few to i w =
@@ -149,9 +151,9 @@ same_txs h t (End n) l m = refl
 same_txs h t Note l m = refl
 same_txs h t Other l m = refl
 
-pub as_many : {r : Next} {g2 g : List ℕ} {t : ℕ} {e : Event} → Took r g2 g t e → 0 < t → tx_count (history_of g2) ≡ tx_count (history_of g)
+pub as_many : {r : Result Next Cause} {g2 g : List ℕ} {t : ℕ} {e : Event} → Took r g2 g t e → 0 < t → tx_count (history_of g2) ≡ tx_count (history_of g)
 as_many {g = g} {t = t} {e = e} x l =
     by-case x (λ q. ap (λ (h : History). tx_count h) q) (λ q m u. ap (λ (h : History). tx_count h) q ∙ same_txs (history_of g) t e l m)
 
-pub never_fewer : {r : Next} {g2 g : List ℕ} {t : ℕ} {e : Event} → Took r g2 g t e → tx_count (history_of g) ≤ tx_count (history_of g2)
+pub never_fewer : {r : Result Next Cause} {g2 g : List ℕ} {t : ℕ} {e : Event} → Took r g2 g t e → tx_count (history_of g) ≤ tx_count (history_of g2)
 never_fewer {g = g} {t = t} {e = e} x = by-case x (λ q. rw q (omega arith)) (λ q m u. rw q (txs_grow (history_of g) t e))

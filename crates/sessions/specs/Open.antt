@@ -12,6 +12,8 @@ use Rattle.rules.specs.declared.Event.{Event}
 use Rattle.rules.specs.declared.Event.TheVariants.{Open, Read, Write, Close, End, Note, Other}
 use Rattle.table.specs.Table.{history_of}
 use Rattle.steps.specs.Steps.{Took}
+use Rattle.std.specs.Prelude.{Result}
+use Rattle.rules.specs.declared.Cause.{Cause}
 use Rattle.steps.specs.declared.Next.{Next}
 
 -- the bucket that session n falls into: by both its bytes, so that sessions that count up in either of them fall into different ones
@@ -77,7 +79,7 @@ kept_by o n t p h =
     pick (eqb (tx_count h) n) (pick (eqb t 0 or is_open h t) o (unlinked o t p)) (linked o (tx_count h) (session_bucket h (tx_count h)))
 
 -- the answer r to the event e of session n's record, whose step made g2 of the table g, and o2 of the bytes o, which edition 1 leaves alone
-pub record TookOf (r : Next) (g2 o2 g o : List ℕ) (second : Bool) (n : ℕ) (e : Event) : Type 0 where
+pub record TookOf (r : Result Next Cause) (g2 o2 g o : List ℕ) (second : Bool) (n : ℕ) (e : Event) : Type 0 where
   pub took : Took r g2 g (met_in second (history_of g) n e) e
   pub beside : Beside second o2 (history_of g2)
   pub alone : second ≡ false → o2 ≡ o

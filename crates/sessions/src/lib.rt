@@ -9,7 +9,7 @@ ghost use Rattle.table.specs.Table.{history_of, Held, HasTx, Below};
 ghost use Rattle.steps.specs.Steps.{Takable};
 ghost use Rattle.sessions.specs.Open.{bucket_for, Kept, OnWay, linked, unlinked, Beside, is_close, Placed, kept_by, TookOf};
 
-use rules::Event;
+use rules::{Cause, Event};
 use steps::Next;
 
 // The bucket that a session falls into: the sum of its two bytes, modulo 128.
@@ -47,12 +47,10 @@ fn any_open(h: &[u64]) -> usize
     requires { Held h.now }
     ensures { Below result (any_open (history_of h.now)) (tx_count (history_of h.now) + 1) }
 {
-    let mut t = table::txs(h);
-    while 0 < t {
+    for t in (1..=table::txs(h)).rev() {
         if is_open(h, t) {
             return t;
         }
-        t -= 1;
     }
     0
 }
@@ -92,30 +90,16 @@ fn leave(o: &mut [u8], t: usize, p: usize)
 fn is_end(event: Event) -> bool
     ensures { result ≡ is_end event }
 {
-    match event {
-        Event::Open(_) => false,
-        Event::Read(_, _) => false,
-        Event::Write(_, _) => false,
-        Event::Close(_) => false,
-        Event::End(_) => true,
-        Event::Note => false,
-        Event::Other => false,
-    }
+    matches!(event, Event::End(_))
 }
 
 fn is_close(event: Event) -> bool
     ensures { result ≡ is_close event }
 {
-    match event {
-        Event::Open(_) => false,
-        Event::Read(_, _) => false,
-        Event::Write(_, _) => false,
-        Event::Close(_) => true,
-        Event::End(_) => false,
-        Event::Note => false,
-        Event::Other => false,
-    }
+    matches!(event, Event::Close(_))
 }
+
+// Kept (5): h and o travel together, but `take` writes both between the calls, so that a struct of references would be made anew for each: no plainer.
 
 // The open transaction that an event meets, 0 where there is none: in edition 1 the open one, in edition 2 that of its record's session, and for an
 // end any.
@@ -137,12 +121,8 @@ fn place(event: Event, t: usize, second: bool, h: &[u64], o: &[u8]) -> usize
     requires { Held h.now × Beside second o.now (history_of h.now) × (t < tx_count (history_of h.now) + 1) × (second ≡ true → 0 < t → is_open (history_of h.now) t ≡ true) }
     ensures { Placed second o.now (history_of h.now) event t result }
 {
-    if second {
-        if 0 < t {
-            if is_close(event) {
-                return place_of(o, h, t);
-            }
-        }
+    if second && 0 < t && is_close(event) {
+        return place_of(o, h, t);
     }
     0
 }
@@ -167,7 +147,13 @@ fn keep(n: usize, t: usize, p: usize, h: &[u64], o: &mut [u8])
 }
 
 // The step of any event, where `session` is its record's, in edition 2. The bytes keep who is open behind it. One call of the step serves both editions.
-pub fn take(event: Event, session: u16, second: bool, h: &mut [u64], o: &mut [u8]) -> Next
+pub fn take(
+    event: Event,
+    session: u16,
+    second: bool,
+    h: &mut [u64],
+    o: &mut [u8],
+) -> Result<Next, Cause>
     requires { Held h.old × Beside second o.old (history_of h.old) × Takable (history_of h.old) event }
     ensures { TookOf result h.new o.new h.old o.old second session event }
 {

@@ -19,48 +19,40 @@ use Rattle.rules.proofs.Origin.{source_is, source_none}
 use Rattle.rules.proofs.Committed.{unanswered_iff, takes_iff, vouches_iff, committed_iff, committed_below}
 use Rattle.table.specs.Table.{history_of, marked, of_tx, last_below, last_of, prev_of, Held, HasTx, HasOp, Below}
 use Rattle.table.proofs.Chain.{OnChain, chain_last, chain_prev}
-use Rattle.settling.specs.Settling.{TxPassing, Admitted, Remarked, Marks, Further, TakenUp, Gains, Gain, LookedAt, Ends, Settles}
+use Rattle.settling.specs.Settling.{TxPassing, Admitted, Remarked, Marks, Further, TakenUp, Gains, LookedAt, Ends, Settles}
 use Rattle.settling.proofs.Queues.{queue_few, queue_more, remarked_none, remarked_then, word_whole, MarkedAs, marked_as}
 
 -- ── whom operation i makes count ──
 
-module _ {h : List ℕ} {i : ℕ} where
-  gain_none : TakenUp h i → Gain h i 0
-  gain_none t = record { none = λ z. t; some = λ z. absurd (omega arith) }
-
-  pub gain_write : (op (history_of h) i).is_write ≡ true → Gain h i 0
-  gain_write e = gain_none (λ u t a. absurd (clash e ((takes_iff _ _ u i).0 t).is_read))
+module _ (h : List ℕ) (i : ℕ) where
+  pub gain_write : (op (history_of h) i).is_write ≡ true → TakenUp h i
+  gain_write e = λ u t a. absurd (clash e ((takes_iff _ _ u i).0 t).is_read)
 
   -- w is the write whose value it reads
   module _ {w : ℕ} (e : w ≡ origin_of (history_of h) i) where
-    pub gain_unwritten : w ≡ 0 → Gain h i 0
+    pub gain_unwritten : w ≡ 0 → TakenUp h i
     gain_unwritten z =
-        gain_none
-        (λ u t a. let q : u ≡ 0 = sym ((takes_iff _ _ u i).0 t).of_writer ∙ source_none _ i (sym e ∙ z) in
-        absurd (omega (arith, (unanswered_iff (history_of h) 0).0 (rw q at a), status_0 (history_of h))))
+        λ u t a.
+        let q : u ≡ 0 = sym ((takes_iff _ _ u i).0 t).of_writer ∙ source_none _ i (sym e ∙ z) in
+        absurd (omega (arith, (unanswered_iff (history_of h) 0).0 (rw q at a), status_0 (history_of h)))
 
     module _ {u : ℕ} (f : u ≡ (op (history_of h) w).tx) where
-      gain_old : (is_unanswered (history_of h) u ≡ true → marked h u ≡ true) → Gain h i 0
-      gain_old m = gain_none (λ y t a. let q : y ≡ u = sym ((takes_iff _ _ y i).0 t).of_writer ∙ sym (source_is _ i w e) ∙ sym f in rw q (m (rw q at a)))
+      gain_old : (is_unanswered (history_of h) u ≡ true → marked h u ≡ true) → TakenUp h i
+      gain_old m = λ y t a. let q : y ≡ u = sym ((takes_iff _ _ y i).0 t).of_writer ∙ sym (source_is _ i w e) ∙ sym f in rw q (m (rw q at a))
 
-      pub gain_answered : ((tx (history_of h) u).status ≡ 2 → ⊥) → Gain h i 0
+      pub gain_answered : ((tx (history_of h) u).status ≡ 2 → ⊥) → TakenUp h i
       gain_answered d = gain_old (λ a. absurd (d ((unanswered_iff (history_of h) u).0 a)))
 
-      pub gain_marked : marked h u ≡ true → Gain h i 0
+      pub gain_marked : marked h u ≡ true → TakenUp h i
       gain_marked m = gain_old (λ a. m)
 
-      pub gain_new : (op (history_of h) i).is_write ≡ false → HasTx h u → (tx (history_of h) u).status ≡ 2 → marked h u ≡ false → Gain h i u
+      pub gain_new : (op (history_of h) i).is_write ≡ false → HasTx h u → (tx (history_of h) u).status ≡ 2 → marked h u ≡ false → Gains h i u
       gain_new r p s m =
           record {
-            none = λ z. absurd (omega (arith, p.from));
-            some =
-                λ z.
-                record {
-                  there = p;
-                  unanswered = (unanswered_iff (history_of h) u).1 s;
-                  takes = (takes_iff _ _ u i).1 (record { is_read = r; in_reader = refl; of_writer = sym (source_is _ i w e) ∙ sym f });
-                  new = m;
-                };
+            there = p;
+            unanswered = (unanswered_iff (history_of h) u).1 s;
+            takes = (takes_iff _ _ u i).1 (record { is_read = r; in_reader = refl; of_writer = sym (source_is _ i w e) ∙ sym f });
+            new = m;
           }
 
 -- .. the transaction of a write is there

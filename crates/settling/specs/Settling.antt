@@ -92,11 +92,6 @@ pub record Gains (h : List ℕ) (i r : ℕ) : Type 0 where
   pub takes : takes_from (history_of h) (op (history_of h) i).tx r i ≡ true
   pub new : marked h r ≡ false
 
--- .. or r is 0, and nobody is gained by operation i
-pub record Gain (h : List ℕ) (i r : ℕ) : Type 0 where
-  pub none : r ≡ 0 → TakenUp h i
-  pub some : 0 < r → Gains h i r
-
 -- every transaction that counts by t is marked
 abbrev pub LookedAt : List ℕ → ℕ → Type 0
 LookedAt h t = (u : ℕ) → vouches (history_of h) t u ≡ true → marked h u ≡ true

@@ -5,8 +5,7 @@ use Rattle.rules.specs.History.{History}
 use Rattle.rules.specs.Records.{is_second}
 use Rattle.demand1.specs.Rows.{serial, ReadInto, HasHistory}
 use Rattle.demands.specs.Demands.{Demands}
-use Rattle.writing.specs.Filling.{refusing, answering, said}
-use Rattle.writing.specs.declared.Filled.{Filled}
+use Rattle.writing.specs.Filling.{refusing, answering, said, Filled}
 use Rattle.written.specs.Fills.{FilledWith}
 use Rattle.renumbering.specs.Renumbering.{AnswersAlike}
 use Rattle.moving.specs.Renumbering.{new_number}

@@ -4,32 +4,31 @@
 
 ghost use Rattle.std.specs.Prelude.{◌≡◌, true, false, ◌≤◌, length, take};
 ghost use Rattle.rules.specs.Outcome.{reported, outcome, judged};
-ghost use Rattle.writing.specs.Filling.{said, Gives};
+ghost use Rattle.writing.specs.Filling.{Gives};
 ghost use Rattle.moving.specs.Moving.{moved_to};
 ghost use Rattle.moved.specs.Moved.{Moves, MovesToSecond};
 ghost use Rattle.shelf.specs.Shelf.{CameBack, MovedAndJudged};
 ghost use Rattle.shelf.specs.Printed.{MovedPrinted, NotesPrinted};
 
-use moving::Tallied;
-use rules::Answer;
-use writing::Filled;
+use moving::Output;
+use rules::{Refusal, Ruling};
 
 // What comes out is a trace of edition 1 that is judged alike; a refusal is given only on its row.
-pub fn promised_1(trace: &[u8], out: &mut [u8]) -> Filled
+pub fn promised_1(trace: &[u8], out: &mut [u8]) -> Result<usize, Refusal>
     ensures { Moves false trace.now out.old result out.new }
 {
     mover::to_edition_1(trace, out)
 }
 
 // .. of edition 2, told with the number of notes that the trace had.
-pub fn promised_2(trace: &[u8], out: &mut [u8]) -> Tallied
+pub fn promised_2(trace: &[u8], out: &mut [u8]) -> Result<Output, Refusal>
     ensures { MovesToSecond trace.now out.old result out.new }
 {
     mover::to_edition_2(trace, out)
 }
 
 // The first n bytes, moved to edition 1.
-fn move_front(trace: &[u8], n: usize, out: &mut [u8]) -> Filled
+fn move_front(trace: &[u8], n: usize, out: &mut [u8]) -> Result<usize, Refusal>
     requires { n ≤ length trace.now }
     ensures { Gives result out.new (moved_to false (take n trace.now) out.old) }
 {
@@ -37,24 +36,21 @@ fn move_front(trace: &[u8], n: usize, out: &mut [u8]) -> Filled
 }
 
 // To edition 2 and back: a trace of edition 1 without notes comes out with its own bytes, any other of edition 1 without its notes.
-pub fn there_and_back(trace: &[u8], between: &mut [u8], out: &mut [u8]) -> Filled
+pub fn there_and_back(trace: &[u8], between: &mut [u8], out: &mut [u8]) -> Result<usize, Refusal>
     ensures { CameBack trace.now between.old out.old result between.new out.new }
 {
-    let there = mover::to_edition_2(trace, between);
-    match there {
-        Tallied::Refused(no, place) => Filled::Refused(no, place),
-        Tallied::Length(n, _) => move_front(between, n, out),
-    }
+    let there = mover::to_edition_2(trace, between)?;
+    move_front(between, there.length, out)
 }
 
 // ── moved, and judged before and after ──
 
 // The answer to a move, and the judge's answers to the trace and to what came out.
-#[derive(Clone, Copy)]
+#[derive(Clone, Copy, Debug, PartialEq, Eq)]
 pub struct MovedJudged {
-    pub moved: Filled,
-    pub before: Answer,
-    pub after: Answer,
+    pub moved: Result<usize, Refusal>,
+    pub before: Result<Ruling, Refusal>,
+    pub after: Result<Ruling, Refusal>,
 }
 
 // The trace is moved to edition 2 or 1 and judged at a level before and after: alike, as far as operation numbers let it. Where the move is refused, nothing came
@@ -75,33 +71,22 @@ pub fn moved_and_judged(
 {
     let moved = move_to(second, trace, out);
     let before = judging::judge(trace, level, findings, pairs, order);
-    let after = judge_front(out, length_of(moved), level, findings2, pairs2, order2);
+    let after = judge_front(out, moved.unwrap_or(0), level, findings2, pairs2, order2);
     MovedJudged {
-        moved: moved,
-        before: before,
-        after: after,
+        moved,
+        before,
+        after,
     }
 }
 
 // One of the two moves, without the number of notes.
-fn move_to(second: bool, trace: &[u8], out: &mut [u8]) -> Filled
+fn move_to(second: bool, trace: &[u8], out: &mut [u8]) -> Result<usize, Refusal>
     ensures { Gives result out.new (moved_to second trace.now out.old) }
 {
     if second {
-        let tallied = mover::to_edition_2(trace, out);
-        return mover::filled(tallied);
+        return mover::to_edition_2(trace, out).map(|output| output.length);
     }
     mover::to_edition_1(trace, out)
-}
-
-// The length that was answered, 0 with a refusal.
-fn length_of(filled: Filled) -> usize
-    ensures { result ≡ (said filled).length }
-{
-    match filled {
-        Filled::Refused(_, _) => 0,
-        Filled::Length(n) => n,
-    }
 }
 
 // The first n bytes, judged.
@@ -112,7 +97,7 @@ fn judge_front(
     findings: &mut [u8],
     pairs: &mut [u8],
     order: &mut [u8],
-) -> Answer
+) -> Result<Ruling, Refusal>
     requires { n ≤ length trace.now }
     ensures { outcome (reported result) findings.new pairs.new order.new ≡ judged (take n trace.now) level findings.old pairs.old order.old }
 {

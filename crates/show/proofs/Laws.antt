@@ -1,14 +1,12 @@
 -- Laws of putting a text into a buffer.
-use Prim.Native.Nat.{ℕ, suc, ◌+◌, ◌≤◌, ◌<◌}
+use Prim.Native.Nat.{ℕ, suc, ◌+◌, ◌≤◌}
 use mathlib.Core.Path.{◌≡◌, refl, ap, sym, ◌∙◌}
 use mathlib.Core.List.{List, [], ◌∷◌, ◌++◌}
 use native.Mathlib.Omega.{arith}
-use native.Mathlib.Numerals.{add-one}
-use lib.ListN.{length, get_or, set, take, drop, length-append, length-set}
-use lib.Seq.{drop-cons, drop-length, take-nil, set_out, set-append_seam, append_snoc}
+use lib.ListN.{length, set, take, length-append, length-set}
+use lib.Seq.{take-nil, set_out, set-append_seam, append_snoc}
 use Rattle.rules.specs.Numbers.{over}
 use Rattle.rules.proofs.Numbers.{over-whole}
-use Rattle.text.specs.Lines.{text, field, fields}
 use Rattle.show.specs.Laid.{laid, Put, Short}
 
 -- ── what is laid ──
@@ -73,14 +71,17 @@ module _ {o b : List ℕ} {at n : ℕ} {xs : List ℕ} (x : Put o at b n xs) whe
         is = y.is ∙ rw (x.is, x.end) (sym (laid_append o at xs ys));
       }
 
+-- that there is room for each part of a text
+pub ruleset parts = (first_short, then_short)
+
 -- ── at the front of a buffer that reaches so far, the part up to the text's end is just the text ──
 
 module _ {o b : List ℕ} {n : ℕ} {xs : List ℕ} (x : Put o 0 b n xs) (room : n ≤ length o) where
   pub front-is : take n b ≡ xs
   front-is = let e : n ≡ length xs = omega (arith, x.end) in rw (x.is, laid-over o xs, e) (over-whole xs o (omega arith))
 
-  pub front_long : n ≡ length (take n b)
-  front_long = omega (arith, x.end, ap length front-is)
+-- by a name that an attribute can have
+pub ruleset at_front = (front-is)
 
 -- ── a loop that puts xs into o and has made b of it: what is left to put, from `to` on, makes the whole ──
 
@@ -88,13 +89,7 @@ pub record Putting (o : List ℕ) (at : ℕ) (xs : List ℕ) (b : List ℕ) (to 
   pub end : to + length left ≡ at + length xs
   pub is : laid b to left ≡ laid o at xs
 
-pub putting_start : (o : List ℕ) (at : ℕ) (xs : List ℕ) → Putting o at xs o at xs
-putting_start o at xs = record { end = refl; is = refl }
-
 module _ {o : List ℕ} {at : ℕ} {xs : List ℕ} {b : List ℕ} {to : ℕ} {left : List ℕ} (p : Putting o at xs b to left) where
-  pub putting_length : length b ≡ length o
-  putting_length = sym (laid-length b to left) ∙ ap length p.is ∙ laid-length o at xs
-
   -- the next part
   module _ (ys zs : List ℕ) (e : left ≡ ys ++ zs) where
     pub putting_short : Short at xs → Short to ys
@@ -115,24 +110,6 @@ module _ {o : List ℕ} {at : ℕ} {xs : List ℕ} {b : List ℕ} {to : ℕ} {le
   pub putting_end : left ≡ [] → Put o at b to xs
   unfolding laid
   putting_end e = putting_last (record { end = omega (arith, ap length e); is = rw e })
-
--- ── what is left of a word, and of a line's numbers ──
-
--- the bytes from i on
-pub word_step : (l : List ℕ) (i : ℕ) → i < length l → drop i l ≡ (get_or l i 0 ∷ []) ++ drop (i + 1) l
-word_step l i h = rw (add-one i) (drop-cons l i 0 h)
-
-pub word_end : (l : List ℕ) {i : ℕ} → i ≤ length l → length l ≤ i → drop i l ≡ []
-word_end l {i} h g = let e : i ≡ length l = omega arith in rw e (drop-length l)
-
--- those of the numbers from i on
-pub fields-step : (l : List ℕ) (i : ℕ) → i < length l → fields (drop i l) ≡ field (get_or l i 0) ++ fields (drop (i + 1) l)
-unfolding fields
-fields-step l i h = ap fields (word_step l i h)
-
-pub fields_end : (l : List ℕ) {i : ℕ} → i ≤ length l → length l ≤ i → fields (drop i l) ≡ text "\n"
-unfolding fields
-fields_end l h g = ap fields (word_end l h g)
 
 -- ── one answer ──
 

@@ -1,15 +1,18 @@
 -- Lists of those that pass, place by place.
-use Prim.Native.Nat.{ℕ, ◌+◌, ◌-◌, ◌*◌, ◌<◌, ◌≤◌}
+use Prim.Native.Nat.{ℕ, zero, suc, ◌+◌, ◌-◌, ◌*◌, ◌<◌, ◌≤◌}
 use mathlib.Core.Path.{◌≡◌, refl, ap, sym, ◌∙◌}
 use mathlib.Core.Bool.{Bool, true, false}
 use mathlib.Core.List.{List, [], ◌∷◌}
 use native.Mathlib.Nat.{mul-add}
 use native.Mathlib.Omega.{arith}
-use lib.ListN.{length, length-append}
+use Rattle.std.proofs.lemmas.Grind.{get_or_after_one}
+use Rattle.std.proofs.lemmas.List.Sums.{count_by_more_no, count_by_more_yes}
+use lib.ListN.{length, get_or, take, drop, length-append, length-drop}
+use Rattle.std.specs.List.{count_by, slice_range}
 use Rattle.base.specs.Base.{pick, listed, those}
-use Rattle.base.proofs.Tests.{pick_on, pick_off, pick_of}
-use Rattle.base.proofs.Searches.{downward, listed-step, listed_end, listed_most}
-use Rattle.base.proofs.Fill.{Appended, appended-none, Sizing, size_step}
+use Rattle.base.proofs.Tests.{ifso, pick_on, pick_off, pick_of}
+use Rattle.base.proofs.Searches.{downward, listed-step, listed_end, listed_more, listed_most}
+use Rattle.base.proofs.Fill.{Appended, appended-none}
 use Rattle.sifting.specs.Lists.{entry_at}
 
 -- ── what is listed only where a test passes ──
@@ -48,11 +51,6 @@ entry_length p i = pick_of length (p i) (i ∷ []) []
 entry_most : (p : ℕ → Bool) (i : ℕ) → length (entry_at p i) ≤ 1
 entry_most p i = pick_most (p i) 1 (entry_length p i)
 
--- a count that has come to j goes on by w, which tells whether j passes
-pub count_on : (p : ℕ → Bool) (a e : ℕ) {j n w : ℕ} {r : Bool} → Sizing (entry_at p) a e j n → j < e → w ≡ pick r 1 0 → r ≡ p j
-    → Sizing (entry_at p) a e (j + 1) (n + w)
-count_on p a e {j} {n} {w} {r} s l q t = rw (q ∙ ap (λ (b : Bool). pick b 1 0) t ∙ sym (entry_length p j)) (size_step (entry_at p) a e s l)
-
 -- where each place of one list is w times as long as the same place of another, so is the whole
 pub times : {A B : Type 0} (w : ℕ) (f : ℕ → List A) (g : ℕ → List B) (e j : ℕ) → ((i : ℕ) → length (f i) ≡ w * length (g i))
     → length (listed j e f) ≡ w * length (listed j e g)
@@ -66,6 +64,25 @@ times w f g e j h =
 pub those_most : (p : ℕ → Bool) (a e : ℕ) → length (listed a e (entry_at p)) ≤ e - a
 those_most p a e = omega (arith, listed_most (entry_at p) 1 e a (λ i _ _. entry_most p i))
 
--- so a count that has come anywhere is at most that
-pub counting_most : (p : ℕ → Bool) {a e j n : ℕ} → Sizing (entry_at p) a e j n → n ≤ e - a
-counting_most p {a} {e} s = omega (arith, s.rest, those_most p a e)
+-- one number more
+pub count_more : (p : ℕ → Bool) (a i : ℕ) → a ≤ i → length (listed a (i + 1) (entry_at p)) ≡ length (listed a i (entry_at p)) + pick (p i) 1 0
+count_more p a i l =
+    ap length (listed_more (entry_at p) i a l) ∙ length-append (listed a i (entry_at p)) (entry_at p i)
+    ∙ ap (λ (m : ℕ). length (listed a i (entry_at p)) + m) (entry_length p i)
+
+-- the entries of k from 1 to n that pass q are as many as the numbers that pass p, where q tells p
+module _ (p q : ℕ → Bool) (k : List ℕ) where
+  counted_to : (n : ℕ) → n < length k → ((i : ℕ) → 1 ≤ i → i ≤ n → q (get_or k i 0) ≡ p i) → count_by q (take n (drop 1 k)) ≡ length (listed 1 (n + 1) (entry_at p))
+  counted_to zero l h = sym (ap length (listed_end (entry_at p) 1 1 (omega arith)))
+  counted_to (suc n) l h =
+      let e : suc n ≡ n + 1 = omega arith in
+      let within : n < length (drop 1 k) = omega (arith, length-drop 1 k) in
+      let here : q (get_or (drop 1 k) n 0) ≡ p (n + 1) = let f : 1 + n ≡ n + 1 = omega arith in rw (get_or_after_one k n 0, f) (h (n + 1) (omega arith) (omega arith)) in
+      let more = count_more p 1 (n + 1) (omega arith) in
+      let ih = counted_to n (omega arith) (λ i u v. h i u (omega arith)) in
+      rw e
+      (ifso (p (n + 1)) (λ t. count_by_more_yes q (drop 1 k) n 0 within (here ∙ t) ∙ omega (arith, ih, more, pick_on {X = ℕ} _ 1 0 t))
+      (λ t. count_by_more_no q (drop 1 k) n 0 within (here ∙ t) ∙ omega (arith, ih, more, pick_off {X = ℕ} _ 1 0 t)))
+
+  pub counted : (n : ℕ) → n < length k → ((i : ℕ) → 1 ≤ i → i ≤ n → q (get_or k i 0) ≡ p i) → count_by q (slice_range k 1 (n + 1)) ≡ length (listed 1 (n + 1) (entry_at p))
+  counted n l h = let e : n + 1 - 1 ≡ n = omega arith in rw e (counted_to n l h)

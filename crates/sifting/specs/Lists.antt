@@ -1,6 +1,6 @@
 -- The two lists of a rejection, place by place. Pairs are read off tables whose row b has the bits of what stands before b: f has the forced pairs,
 -- c what leads to what through them, l the listed pairs, r those of reads, v those of rivals.
-use Rattle.std.specs.Prelude.{ℕ, ◌+◌, ◌<◌, ◌≡◌, Bool, not, List, [], ◌∷◌, ltb, eqb, length}
+use Rattle.std.specs.Prelude.{ℕ, ◌+◌, ◌<◌, ◌≤◌, ◌≡◌, Bool, not, List, [], ◌∷◌, ltb, eqb, length}
 use Rattle.base.specs.Base.{◌and◌, ◌or◌, pick, listed, those}
 use Rattle.theory.specs.Leads.{is_listed}
 use Rattle.rules.specs.History.{History, size}
@@ -72,14 +72,13 @@ unfoldable pub all_for : (ℕ → ℕ → Bool) → (ℕ → ℕ → ℕ) → �
 all_for p g n = listed 0 n (row_for p g n)
 
 -- .. of the listed pairs with the judge's reasons
-abbrev pub pair_at : History → List ℕ → List ℕ → List ℕ → ℕ → ℕ → List ℕ
-pair_at h l r v = entry_for (is_in l) (reasons_in h r v)
-
-abbrev pub row_at : History → List ℕ → List ℕ → List ℕ → ℕ → List ℕ
-row_at h l r v = row_for (is_in l) (reasons_in h r v) (size h)
-
 abbrev pub pairs_in : History → List ℕ → List ℕ → List ℕ → List ℕ
 pairs_in h l r v = all_for (is_in l) (reasons_in h r v) (size h)
+
+-- s may be asked for every pair of numbers below n, and such a number fits a byte
+pub record AskableBelow {S : Type 0} (can_ask : S → ℕ → ℕ → Type 0) (s : S) (n : ℕ) : Type 0 where
+  pub few : n ≤ 256
+  pub pairs : (a b : ℕ) → a < n → b < n → can_ask s a b
 
 -- ── tables ──
 

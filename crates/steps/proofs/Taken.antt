@@ -7,6 +7,7 @@ use native.Mathlib.Omega.{arith}
 use lib.Dec.{ltb}
 use borrow.Author.Tests.{eqb-false, leb-false, lt-ltb}
 use Rattle.base.specs.Base.{pick, Row, row, first_fit}
+use Rattle.rules.proofs.Refusals.{cause-some}
 use Rattle.base.proofs.Rows.{fit_here, fit_past, fit_none, fit_unfit, fit_append, fit_behind, RowsCounted}
 use Rattle.rules.specs.History.{op_count, write_of}
 use Rattle.rules.specs.Reading.{misplaced, unlawful, excess, repeats, step_rows, entered}
@@ -15,32 +16,36 @@ use Rattle.rules.specs.declared.Event.TheVariants.{Write, Note, Other}
 use Rattle.table.specs.Table.{history_of, Held, Becomes}
 use Rattle.steps.specs.Steps.{put, goes, step_no, held_rows, Took}
 use Rattle.steps.specs.declared.Next.{Next}
-use Rattle.steps.specs.declared.Next.TheVariants.{Go, Count, Refuse}
+use Rattle.steps.specs.declared.Next.TheVariants.{Go, Count}
+use Rattle.std.specs.Prelude.{Result, Ok, Err}
+use Rattle.rules.specs.Refusals.{cause_no}
+use Rattle.rules.specs.declared.Cause.{Cause}
+use Rattle.rules.specs.declared.Cause.TheVariants.{Misplaced, Unlawful, Excess, Repeated}
 
 module _ (g : List ℕ) (t : ℕ) (e : Event) (h : Held g) where
-  -- the row with the number n refuses
-  refuses : {n : ℕ} → n ≡ first_fit (step_rows (history_of g) t e) → 0 < n → Took (Refuse n) g g t e
+  -- a row refuses
+  refuses : {c : Cause} → cause_no c ≡ first_fit (step_rows (history_of g) t e) → Took (Err c) g g t e
   unfolding step_no pick
-  refuses {n} q p =
-      let z : ltb 0 (first_fit (step_rows (history_of g) t e)) ≡ true = rw (← q) (lt-ltb _ _ p) in
+  refuses {c} q =
+      let z : ltb 0 (first_fit (step_rows (history_of g) t e)) ≡ true = rw (← q) (lt-ltb _ _ (cause-some c)) in
       record { is = rw z (rw q refl); words = rw z; history = rw z; held = h }
 
-  pub row_7 : misplaced t e ≡ true → Took (Refuse 7) g g t e
+  pub row_7 : misplaced t e ≡ true → Took (Err Misplaced) g g t e
   unfolding step_rows
-  row_7 a = refuses (fit_here _ _ _ a) (omega arith)
+  row_7 a = refuses (fit_here _ _ _ a)
 
-  pub row_8 : misplaced t e ≡ false → unlawful (history_of g) e ≡ true → Took (Refuse 8) g g t e
+  pub row_8 : misplaced t e ≡ false → unlawful (history_of g) e ≡ true → Took (Err Unlawful) g g t e
   unfolding step_rows
-  row_8 a b = refuses (fit_past _ _ _ a (fit_here _ _ _ b)) (omega arith)
+  row_8 a b = refuses (fit_past _ _ _ a (fit_here _ _ _ b))
 
-  pub row_9 : misplaced t e ≡ false → unlawful (history_of g) e ≡ false → excess (history_of g) e ≡ true → Took (Refuse 9) g g t e
+  pub row_9 : misplaced t e ≡ false → unlawful (history_of g) e ≡ false → excess (history_of g) e ≡ true → Took (Err Excess) g g t e
   unfolding step_rows
-  row_9 a b c = refuses (fit_past _ _ _ a (fit_past _ _ _ b (fit_here _ _ _ c))) (omega arith)
+  row_9 a b c = refuses (fit_past _ _ _ a (fit_past _ _ _ b (fit_here _ _ _ c)))
 
   pub row_10 : misplaced t e ≡ false → unlawful (history_of g) e ≡ false → excess (history_of g) e ≡ false → repeats (history_of g) e ≡ true
-      → Took (Refuse 10) g g t e
+      → Took (Err Repeated) g g t e
   unfolding step_rows
-  row_10 a b c d = refuses (fit_past _ _ _ a (fit_past _ _ _ b (fit_past _ _ _ c (fit_here _ _ _ d)))) (omega arith)
+  row_10 a b c d = refuses (fit_past _ _ _ a (fit_past _ _ _ b (fit_past _ _ _ c (fit_here _ _ _ d))))
 
 -- no row refuses
 module _ (g : List ℕ) (t : ℕ) (e : Event) (a : misplaced t e ≡ false) (b : unlawful (history_of g) e ≡ false) (c : excess (history_of g) e ≡ false)
@@ -49,22 +54,22 @@ module _ (g : List ℕ) (t : ℕ) (e : Event) (a : misplaced t e ≡ false) (b :
   unfolding step_rows
   none = fit_past _ _ _ a (fit_past _ _ _ b (fit_past _ _ _ c (fit_past _ _ _ d fit_none)))
 
-  pub enters : {r : Next} {g2 : List ℕ} → r ≡ goes e → Becomes g2 (put g t e) (entered (history_of g) t e) → Took r g2 g t e
+  pub enters : {r : Next} {g2 : List ℕ} → r ≡ goes e → Becomes g2 (put g t e) (entered (history_of g) t e) → Took (Ok r) g2 g t e
   unfolding step_no pick
   enters is x =
-      record { is = rw (← none) is; words = rw (← none) x.is; history = rw (← none) x.holds.is; held = x.holds.held }
+      record { is = rw (← none, is) refl; words = rw (← none) x.is; history = rw (← none) x.holds.is; held = x.holds.held }
 
   -- and there is nothing to enter
-  pub stays : {r : Next} → r ≡ goes e → Held g → g ≡ put g t e → history_of g ≡ entered (history_of g) t e → Took r g g t e
+  pub stays : {r : Next} → r ≡ goes e → Held g → g ≡ put g t e → history_of g ≡ entered (history_of g) t e → Took (Ok r) g g t e
   stays is h p x = enters is (record { is = p; holds = record { held = h; is = x } })
 
 -- a note "has no part in judging"
-pub idle_note : (g : List ℕ) (t : ℕ) → Held g → Took Count g g t Note
+pub idle_note : (g : List ℕ) (t : ℕ) → Held g → Took (Ok Count) g g t Note
 unfolding misplaced unlawful excess repeats goes put entered
 idle_note g t h = stays g t Note refl refl refl refl refl h refl refl
 
 -- a kind that is none of the six is refused by the framing, before any step
-pub idle_other : (g : List ℕ) (t : ℕ) → Held g → Took Go g g t Other
+pub idle_other : (g : List ℕ) (t : ℕ) → Held g → Took (Ok Go) g g t Other
 unfolding misplaced unlawful excess repeats goes put entered
 idle_other g t h = stays g t Other refl refl refl refl refl h refl refl
 
@@ -83,9 +88,9 @@ module _ (g : List ℕ) (t x v : ℕ) (h : Held g) where
   unfolding step_rows held_rows misplaced unlawful excess repeats
   rows_are = refl
 
-  pub write_refused : {n : ℕ} → n ≡ first_fit (held_rows (history_of g) t v) → 0 < n → Took (Refuse n) g g t (Write x v)
-  write_refused {n} q p =
-      refuses g t (Write x v) h (q ∙ sym (ap first_fit rows_are ∙ fit_append (held_rows (history_of g) t v) tenth (rw (← q) p))) p
+  pub write_refused : {c : Cause} → cause_no c ≡ first_fit (held_rows (history_of g) t v) → Took (Err c) g g t (Write x v)
+  write_refused {c} q =
+      refuses g t (Write x v) h (q ∙ sym (ap first_fit rows_are ∙ fit_append (held_rows (history_of g) t v) tenth (rw (← q) (cause-some c))))
 
   module _ (q : 0 ≡ first_fit (held_rows (history_of g) t v)) where
     write_no : {b : Bool} → ltb 0 (write_of (history_of g) x v) ≡ b → first_fit (step_rows (history_of g) t (Write x v)) ≡ pick b 10 0
@@ -96,9 +101,9 @@ module _ (g : List ℕ) (t x v : ℕ) (h : Held g) where
         one true = refl
         one false = refl
 
-    pub write_again : ltb 0 (write_of (history_of g) x v) ≡ true → Took (Refuse 10) g g t (Write x v)
+    pub write_again : ltb 0 (write_of (history_of g) x v) ≡ true → Took (Err Repeated) g g t (Write x v)
     unfolding pick
-    write_again e = refuses g t (Write x v) h (sym (write_no e)) (omega arith)
+    write_again e = refuses g t (Write x v) h (sym (write_no e))
 
     -- it may be entered
     pub write_room : (0 < t) × (op_count (history_of g) < 1024) × (0 < v)
@@ -112,8 +117,8 @@ module _ (g : List ℕ) (t x v : ℕ) (h : Held g) where
         (omega arith, leb-false 1024 (op_count (history_of g)) c.0, omega arith)
 
     pub write_enters : {r : Next} {g2 : List ℕ} → ltb 0 (write_of (history_of g) x v) ≡ false → r ≡ goes (Write x v)
-        → Becomes g2 (put g t (Write x v)) (entered (history_of g) t (Write x v)) → Took r g2 g t (Write x v)
+        → Becomes g2 (put g t (Write x v)) (entered (history_of g) t (Write x v)) → Took (Ok r) g2 g t (Write x v)
     unfolding step_no pick
     write_enters e is y =
         let n = write_no e in
-        record { is = rw n is; words = rw n y.is; history = rw n y.holds.is; held = y.holds.held }
+        record { is = rw (n, is) refl; words = rw n y.is; history = rw n y.holds.is; held = y.holds.held }

@@ -1,14 +1,16 @@
 -- What an event does to the table's words, and how the reading goes on behind it.
-use Rattle.std.specs.Prelude.{ℕ, ◌≤◌, ◌<◌, ◌≡◌, true, false, List, [], ◌∷◌, ltb, leb, eqb}
+use Rattle.std.specs.Prelude.{ℕ, ◌≤◌, ◌<◌, ◌≡◌, true, false, List, [], ◌∷◌, ltb, leb, eqb, Result, Ok, Err}
 use Rattle.base.specs.Base.{pick, Row, row, first_fit}
 use Rattle.rules.specs.History.{History, op_count, write_of, is_single}
 use Rattle.rules.specs.Records.{written_key}
 use Rattle.rules.specs.Reading.{step_rows, entered}
+use Rattle.rules.specs.Refusals.{numbered}
+use Rattle.rules.specs.declared.Cause.{Cause}
 use Rattle.rules.specs.declared.Event.{Event}
 use Rattle.rules.specs.declared.Event.TheVariants.{Open, Read, Write, Close, End, Note, Other}
 use Rattle.table.specs.Table.{history_of, Held, put_tx, close_tx, put_op}
 use Rattle.steps.specs.declared.Next.{Next}
-use Rattle.steps.specs.declared.Next.TheVariants.{Go, Count, List as Lists, Done, Refuse}
+use Rattle.steps.specs.declared.Next.TheVariants.{Go, Count, List as Lists, Done}
 
 -- what a lawful event writes into the table g, where t is the open transaction
 unfoldable pub put : List ℕ → ℕ → Event → List ℕ
@@ -44,8 +46,8 @@ pub record Takable (h : History) (e : Event) : Type 0 where
   pub new_place : (x v : ℕ) → e ≡ Write x v → 8589934592 ≤ x → 0 < v → write_of h x v ≡ 0
 
 -- the answer r to the event e, whose step made g2 of the table g: a refusal changes nothing
-pub record Took (r : Next) (g2 g : List ℕ) (t : ℕ) (e : Event) : Type 0 where
-  pub is : r ≡ pick (ltb 0 (step_no (history_of g) t e)) (Refuse (step_no (history_of g) t e)) (goes e)
+pub record Took (r : Result Next Cause) (g2 g : List ℕ) (t : ℕ) (e : Event) : Type 0 where
+  pub is : numbered r ≡ pick (ltb 0 (step_no (history_of g) t e)) (Err (step_no (history_of g) t e)) (Ok (goes e))
   pub words : g2 ≡ pick (ltb 0 (step_no (history_of g) t e)) g (put g t e)
   pub history : history_of g2 ≡ pick (ltb 0 (step_no (history_of g) t e)) (history_of g) (entered (history_of g) t e)
   pub held : Held g2

@@ -1,13 +1,15 @@
 -- What the stores make of the history.
-use Prim.Native.Nat.{ℕ, zero, suc, ◌+◌, ◌*◌, ◌/◌, ◌%◌, ◌≤◌, ◌<◌}
+use Prim.Native.Nat.{ℕ, zero, suc, ◌+◌, ◌-◌, ◌*◌, ◌/◌, ◌%◌, ◌≤◌, ◌<◌}
 use mathlib.Core.Path.{◌≡◌, refl, ap, sym, ◌∙◌}
 use mathlib.Core.Bool.{Bool, true, false}
 use mathlib.Core.List.{List, [], ◌∷◌, ◌++◌}
 use mathlib.Core.Logic.{⊎_elim}
 use native.Mathlib.Omega.{arith}
+use borrow.Author.Rules.{rules}
 use native.Mathlib.Decide.{ℕ_discrete}
-use native.Mathlib.Numerals.{add-one}
-use lib.ListN.{length, get_or, set, length-append, length-set}
+use lib.ListN.{length, get_or, set, replicate, length-append, length-set}
+use borrow.Rule.Slice.PartMut.{put_mid}
+use Rattle.std.proofs.lemmas.List.{places, ext_get_or}
 use lib.Seq.{get_or-set_same, get_or-set_other}
 use lib.Dec.{eqb}
 use borrow.Author.Tests.{eq-eqb, ne_eqb, eqb-true, eqb-false}
@@ -133,26 +135,35 @@ cleared-holds h r =
       links = λ i a b t. absurd (omega arith);
     })
 
--- a loop over the buckets that has come to b, and has made g of h
-pub record Clearing (h g : List ℕ) (b : ℕ) : Type 0 where
-  pub few : b ≤ 128
-  pub room : length g ≡ table_words
-  pub is : g ≡ no_heads b h
-
-pub clearing_start : (h : List ℕ) → length h ≡ table_words → Clearing (set h 0 0) (set h 0 0) 0
+no_heads_high : (n : ℕ) (h : List ℕ) (k : ℕ) → 2178 + n ≤ k → get_or (no_heads n h) k 0 ≡ get_or h k 0
 unfolding no_heads
-clearing_start h r = record { few = omega arith; room = length-set h 0 0 ∙ r; is = refl }
+no_heads_high zero h k l = refl
+no_heads_high (suc n) h k l = get_or-set_other (no_heads n h) (2178 + n) k 0 0 (λ q. omega arith) ∙ no_heads_high n h k (omega arith)
 
-pub clearing_more : {h g : List ℕ} {b : ℕ} → b < 128 → Clearing h g b → Clearing h (set g (2178 + b) 0) (b + 1)
-unfolding no_heads
-clearing_more {h} {g} {b} l x = record { few = omega arith; room = length-set g _ 0 ∙ x.room; is = rw (add-one b, x.is) }
+-- g is h but for n zeros from m on: h filled there at once
+filled : (m n : ℕ) (h g : List ℕ) → m + n ≤ length h → length g ≡ length h → ((k : ℕ) → k < m → get_or g k 0 ≡ get_or h k 0)
+    → ((b : ℕ) → b < n → get_or g (m + b) 0 ≡ 0) → ((k : ℕ) → m + n ≤ k → get_or g k 0 ≡ get_or h k 0) → put_mid m n h (replicate n 0) ≡ g
+filled m n h g r e low zeros high =
+    ext_get_or 0 _ _ (search (rules, places))
+    (λ k q.
+    ⊎_elim (λ (a : k < m). rw (low k a) (grind (arith, places)))
+    (λ (a : m ≤ k).
+    ⊎_elim (λ (b : k < m + n). let o : m + (k - m) ≡ k = omega arith in rw (rw o at (zeros (k - m) (omega arith))) (grind (arith, places)))
+    (λ (b : m + n ≤ k). rw (high k b) (grind (arith, places)))
+    (split k (m + n)))
+    (split k m))
 
-pub clearing_end : (h : List ℕ) {g : List ℕ} {b : ℕ} → length h ≡ table_words → 128 ≤ b → Clearing (set h 0 0) g b → Becomes g (cleared h) empty
+-- the buckets' words filled with zeros
+pub cleared_becomes : (h l : List ℕ) (n : ℕ) → length h ≡ table_words → n ≡ 128 → l ≡ replicate n 0 → Becomes (put_mid 2178 128 (set h 0 0) l) (cleared h) empty
 unfolding cleared
-clearing_end h {g} {b} r l x =
-    let n : b ≡ 128 = omega (arith, x.few) in
-    let e : g ≡ no_heads 128 (set h 0 0) = rw n at x.is in
-    record { is = e; holds = rw e (cleared-holds h r) }
+cleared_becomes h l n r m e =
+    let g = set h 0 0 in
+    let f : put_mid 2178 128 g l ≡ no_heads 128 g =
+    rw (rw m at e)
+    (filled 2178 128 g (no_heads 128 g) (omega (arith, length-set h 0 0)) (no_heads_length 128 g) (no_heads_low 128 g)
+    (λ b q. no_heads_at 128 g b q (omega (arith, length-set h 0 0))) (no_heads_high 128 g))
+    in
+    record { is = f; holds = rw f (cleared-holds h r) }
 
 -- ── a transaction opens ──
 

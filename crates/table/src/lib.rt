@@ -4,6 +4,9 @@ ghost use Rattle.std.specs.Prelude.{◌≡◌, ◌+◌, ◌<◌, length, true, f
 ghost use Rattle.rules.specs.History.{tx, op, tx_count, op_count, empty, opened, closed, with_op, writes_value, write_of, origin_of};
 ghost use Rattle.table.specs.Table.{table_words, history_of, marked, last_of, prev_of, bucket_of, head_of, link_of, Held, HasTx, HasOp, HasWrite, HasList, prev_list, Below, Becomes, cleared, put_tx, close_tx, mark_tx, put_words, put_op};
 
+// How many words a history's table has.
+pub const WORDS: usize = 2306;
+
 // The number of transactions; of operations.
 pub fn txs(h: &[u64]) -> usize
     requires { Held h.now }
@@ -34,6 +37,7 @@ pub fn status_of(h: &[u64], t: usize) -> u64
     h[t] % 4
 }
 
+// Kept (1): here and below 0 is the number of none, as the definitions have it, and the lists' bytes, so that what is found goes on as it is.
 // The number of t's last operation, 0 where it has none.
 pub fn last_op(h: &[u64], t: usize) -> usize
     requires { HasTx h.now t }
@@ -118,10 +122,7 @@ fn writes_value(h: &[u64], x: u64, v: u64, i: usize) -> bool
     requires { HasWrite h.now i }
     ensures { result ≡ writes_value (history_of h.now) x v i }
 {
-    if value_of(h, i) != v {
-        return false;
-    }
-    key_of(h, i) == x
+    value_of(h, i) == v && key_of(h, i) == x
 }
 
 // The number of the last write of v to x, 0 where no write has them: only the writes of one bucket are looked at, from its last one down.
@@ -174,11 +175,7 @@ pub fn clear(h: &mut [u64])
     ensures { Becomes h.new (cleared h.old) empty }
 {
     h[0] = 0;
-    let mut b = 0;
-    while b < 128 {
-        h[2178 + b] = 0;
-        b += 1;
-    }
+    h[2178..WORDS].fill(0);
 }
 
 // One transaction more, of session s, which is open.

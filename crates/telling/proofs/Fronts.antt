@@ -5,26 +5,25 @@ use mathlib.Core.List.{List, []}
 use native.Mathlib.Omega.{arith}
 use lib.ListN.{length, take, take-append-drop}
 use lib.Seq.{take_all, length-take-le}
+use Rattle.std.specs.Prelude.{Result, Ok, Err}
 use Rattle.rules.specs.Numbers.{over}
+use Rattle.rules.specs.Refusals.{cause_no}
+use Rattle.rules.specs.declared.Refusal.{Refusal}
 use Rattle.rules.proofs.Numbers.{over-front}
 use Rattle.show.specs.Laid.{Put}
 use Rattle.show.proofs.Laws.{laid-over}
 use Rattle.text.specs.Lines.{refused_line, notes_line}
 use Rattle.text.proofs.Lines.{refused_length, notes_length}
-use Rattle.trace.specs.declared.Out.{Out}
-use Rattle.trace.specs.declared.Out.TheVariants.{Good, Bad}
-use Rattle.writing.specs.declared.Filled.{Filled}
-use Rattle.writing.specs.declared.Filled.TheVariants.{Refused, Length}
-use Rattle.writing.specs.Filling.{said}
-use Rattle.telling.specs.Parts.{filled_text, out_text, Fronts}
+use Rattle.writing.specs.Filling.{Filled, said}
+use Rattle.telling.specs.Parts.{filled_text, read_text, Fronts}
 
 -- the part up to its end is just the text
 module _ {t o b : List ℕ} {n : ℕ} (x : Fronts t o b n) where
   pub front-is : take n b ≡ t
   front-is = rw (x.end, x.is) (over-front t o)
 
-  pub front_long : n ≡ length (take n b)
-  front_long = x.end ∙ sym (ap length front-is)
+-- by a name that an attribute can have
+pub ruleset at_front = (front-is)
 
 -- ── what was put, and what stood there ──
 
@@ -47,22 +46,22 @@ own_fronts o n l =
 -- ── the text of an answer a ──
 
 module _ {a : Filled} {o : List ℕ} where
-  pub refused_fronts : {n p m : ℕ} {b : List ℕ} → a ≡ Refused n p → n < 2 ^ 64 → p < 2 ^ 64 → 64 ≤ length o → Put o 0 b m (refused_line n p)
-      → Fronts (filled_text a o) o b m
+  pub refused_fronts : {d : Refusal} {n m : ℕ} {b : List ℕ} → a ≡ Err d → n ≡ cause_no d.cause → n < 2 ^ 64 → d.place < 2 ^ 64 → 64 ≤ length o
+      → Put o 0 b m (refused_line n d.place) → Fronts (filled_text a o) o b m
   unfolding filled_text
-  refused_fronts {n} {p} e s t room x = rw e (line_fronts x (refused_length n p s t) room)
+  refused_fronts {d} {n} e q s t room x = rw (e, ← q) (line_fronts x (refused_length n d.place s t) room)
 
-  pub length_fronts : {n : ℕ} → a ≡ Length n → (said a).length ≤ length o → Fronts (filled_text a o) o o n
+  pub length_fronts : {n : ℕ} → a ≡ Ok n → (said a).length ≤ length o → Fronts (filled_text a o) o o n
   unfolding filled_text said
   length_fronts {n} e l = rw e (own_fronts o n (rw e at l))
 
 -- ── of a reading q ──
 
-module _ {q : Out} {o : List ℕ} where
-  pub bad_fronts : {n p : ℕ} → q ≡ Bad n p → Fronts (out_text q) o o 0
-  unfolding out_text
+module _ {q : Result ℕ Refusal} {o : List ℕ} where
+  pub bad_fronts : {d : Refusal} → q ≡ Err d → Fronts (read_text q) o o 0
+  unfolding read_text
   bad_fronts e = rw e (none_fronts o)
 
-  pub good_fronts : {n m : ℕ} {b : List ℕ} → q ≡ Good n → n < 2 ^ 64 → 64 ≤ length o → Put o 0 b m (notes_line n) → Fronts (out_text q) o b m
-  unfolding out_text
+  pub good_fronts : {n m : ℕ} {b : List ℕ} → q ≡ Ok n → n < 2 ^ 64 → 64 ≤ length o → Put o 0 b m (notes_line n) → Fronts (read_text q) o b m
+  unfolding read_text
   good_fronts {n} e s room x = rw e (line_fronts x (notes_length n (omega arith)) room)

@@ -6,12 +6,14 @@ use mathlib.Core.List.{List}
 use mathlib.Core.Logic.{◌↔◌}
 use native.Mathlib.Omega.{arith}
 use lib.ListN.{length, take}
+use Rattle.std.specs.Prelude.{Ok, Err}
 use Rattle.rules.specs.Numbers.{bytes, over}
+use Rattle.rules.specs.Refusals.{cause_no, refusal_at}
+use Rattle.rules.proofs.Refusals.{cause_of}
 use Rattle.rules.proofs.Numbers.{bytes-length, over-front}
-use Rattle.writing.specs.declared.Filled.{Filled}
-use Rattle.writing.specs.declared.Filled.TheVariants.{Refused, Length}
-use Rattle.writing.specs.Filling.{Said, said, Work, refusal, content, Fill, fill_of, into}
+use Rattle.writing.specs.Filling.{Filled, Said, said, Work, refusal, content, Fill, fill_of, into}
 use Rattle.writing.proofs.Filling.{into_refused, into-fits}
+use Rattle.writing.proofs.Named.{WorkNamed}
 use Rattle.written.specs.Fills.{FilledWith, Fills}
 use Rattle.written.specs.Writes.{AllBytes}
 use Rattle.written.specs.Rewrites.{WholeDeclines}
@@ -34,8 +36,8 @@ module _ {D : ℕ → ℕ → Type 0} {P : List ℕ → Type 0} {o b : List ℕ}
   -- the text of the answer is printed
   filled_printed : (r : Filled) → Fills D P o r b → PrintedBy D P (filled_text r b)
   unfolding filled_text said
-  filled_printed (Refused n p) f = the_refusal ((f.refused n p).0 refl)
-  filled_printed (Length m) f =
+  filled_printed (Err r) f = the_refusal ((f.refused (cause_no r.cause) r.place).0 refl)
+  filled_printed (Ok m) f =
       let put = f.filled m refl in
       the_trace {b = take m b} (λ n p d. false≢true (ap (λ (a : Said). a.is_refused) ((f.refused n p).1 d))) (rw (put_front put) put.good)
 
@@ -54,16 +56,16 @@ abbrev room : List ℕ
 room = bytes 32768 0
 
 -- what work makes of it
-outcome : (w : Work) → Fits w → (r : Filled) × (b : List ℕ) × (fill_of (said r) b ≡ into w room)
+outcome : (w : Work) → Fits w → WorkNamed w → (r : Filled) × (b : List ℕ) × (fill_of (said r) b ≡ into w room)
 unfolding said
-outcome (refusal n p) f = (Refused n p, room, into_refused n p room)
-outcome (content l) f = (Length (length l), over l room, sym (into-fits l room (rw (bytes-length 32768 0) f)))
+outcome (refusal n p) f d = let r = refusal_at (cause_of n) p in (Err r, room, into_refused r room ∙ ap (λ (m : ℕ). into (refusal m p) room) d)
+outcome (content l) f d = (Ok (length l), over l room, sym (into-fits l room (rw (bytes-length 32768 0) f)))
 
 -- the text of a call is what is printed, and the only one, where the call keeps its promise with any buffer and P leaves one trace
 pub printed_iff : {fill : List ℕ → Fill} {t : List ℕ} → Does fill t → (D : ℕ → ℕ → ℕ → Type 0) {P : List ℕ → Type 0} → ((x y : List ℕ) → P x → P y → x ≡ y)
     → ((o : List ℕ) (r : Filled) (b : List ℕ) → fill_of (said r) b ≡ fill o → Fills (D (length o)) P o r b) → (x : List ℕ) → (t ≡ x) ↔ PrintedBy (D 32768) P x
 printed_iff {fill} {t} does D {P} one kept x =
-    let out = outcome does.work does.fits in
+    let out = outcome does.work does.fits does.named in
     let long = bytes-length 32768 0 in
     let f : Fills (D 32768) P room out.0 out.1 = rw long at (kept room out.0 out.1 (out.2 ∙ sym (does.puts room))) in
     let e : filled_text out.0 out.1 ≡ t = filled_text_lem out.0 out.1 room (omega (arith, long)) does.work does.fits out.2 ∙ does.text in

@@ -7,10 +7,9 @@
 ghost use Rattle.std.specs.Prelude.{true, false, ◌≡◌, ◌≤◌, length};
 ghost use Rattle.writing.specs.Filling.{said};
 ghost use Rattle.telling.specs.Telling.{given_text, rewritten_text, moved_text, notes_text};
-ghost use Rattle.telling.specs.Parts.{filled_text, out_text, Fronts};
+ghost use Rattle.telling.specs.Parts.{filled_text, read_text, Fronts};
 
-use trace::Out;
-use writing::Filled;
+use rules::Refusal;
 
 // A trace has no more bytes, so whatever comes out has room, a refusal's line too, and 16 is never given.
 pub const ROOM: usize = 32768;
@@ -37,6 +36,7 @@ pub fn rewritten_text<'a>(trace: &[u8], out: &'a mut [u8; ROOM]) -> &'a [u8]
 }
 
 // A trace, moved to edition 1; to edition 2.
+// Kept (2): the four functions are public, and no two share more than the call of `text_of`.
 pub fn edition_1_text<'a>(trace: &[u8], out: &'a mut [u8; ROOM]) -> &'a [u8]
     ensures { (result.now ≡ moved_text false trace.now) × (result.ref_ptr ≡ out.entry.ref_ptr) }
 {
@@ -47,28 +47,27 @@ pub fn edition_1_text<'a>(trace: &[u8], out: &'a mut [u8; ROOM]) -> &'a [u8]
 pub fn edition_2_text<'a>(trace: &[u8], out: &'a mut [u8; ROOM]) -> &'a [u8]
     ensures { (result.now ≡ moved_text true trace.now) × (result.ref_ptr ≡ out.entry.ref_ptr) }
 {
-    let answer = mover::filled(mover::to_edition_2(trace, out));
+    let answer = mover::to_edition_2(trace, out).map(|output| output.length);
     text_of(answer, out)
 }
 
 // What was put into the buffer, or the line of a refusal in its place.
-fn text_of<'a>(answer: Filled, out: &'a mut [u8; ROOM]) -> &'a [u8]
+#[tactic(auto, using(crate::proofs::Fronts::at_front))]
+fn text_of<'a>(answer: Result<usize, Refusal>, out: &'a mut [u8; ROOM]) -> &'a [u8]
     requires { (said answer).length ≤ length out.old }
     ensures { (result.now ≡ filled_text answer out.old) × (result.ref_ptr ≡ out.entry.ref_ptr) }
 {
     let end = put_text(answer, out);
-    let filled: &'a [u8; ROOM] = out;
-    let bytes: &'a [u8] = filled;
-    &bytes[..end]
+    show::front(out, end)
 }
 
-fn put_text(answer: Filled, out: &mut [u8]) -> usize
+fn put_text(answer: Result<usize, Refusal>, out: &mut [u8]) -> usize
     requires { ((said answer).length ≤ length out.old) × (64 ≤ length out.old) }
     ensures { Fronts (filled_text answer out.old) out.old out.new result }
 {
     match answer {
-        Filled::Refused(no, place) => show::put_refused(out, 0, no as usize, place),
-        Filled::Length(n) => n,
+        Err(refusal) => show::put_refusal(out, 0, refusal),
+        Ok(n) => n,
     }
 }
 
@@ -76,24 +75,22 @@ fn put_text(answer: Filled, out: &mut [u8]) -> usize
 
 // How many notes a trace has; nothing of one that is refused. It is read once more for that: a call hands back a part of one buffer, and the moved trace
 // and this line stand in two.
+#[tactic(auto, using(crate::proofs::Fronts::at_front, crate::proofs::Texts::notes_told))]
 pub fn notes_text<'a>(trace: &[u8], line: &'a mut [u8; LINE]) -> &'a [u8]
     ensures { (result.now ≡ notes_text trace.now) × (result.ref_ptr ≡ line.entry.ref_ptr) }
 {
-    // The words of a history's table.
-    let mut h = [0u64; 2306];
+    let mut h = [0u64; table::WORDS];
     let read = trace::read_trace(trace, &mut h);
     let end = put_notes(read, line);
-    let filled: &'a [u8; LINE] = line;
-    let bytes: &'a [u8] = filled;
-    &bytes[..end]
+    show::front(line, end)
 }
 
-fn put_notes(read: Out, line: &mut [u8]) -> usize
+fn put_notes(read: Result<usize, Refusal>, line: &mut [u8]) -> usize
     requires { 64 ≤ length line.old }
-    ensures { Fronts (out_text read) line.old line.new result }
+    ensures { Fronts (read_text read) line.old line.new result }
 {
     match read {
-        Out::Bad(_, _) => 0,
-        Out::Good(notes) => show::put_notes(line, 0, notes),
+        Err(_) => 0,
+        Ok(notes) => show::put_notes(line, 0, notes),
     }
 }

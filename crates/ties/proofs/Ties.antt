@@ -1,5 +1,5 @@
 -- What is marked are the dependencies.
-use Prim.Native.Nat.{ℕ, ◌+◌, ◌-◌, ◌<◌}
+use Prim.Native.Nat.{ℕ, ◌+◌, ◌-◌, ◌<◌, ◌≤◌}
 use mathlib.Core.Path.{◌≡◌, ap, sym, ◌∙◌}
 use mathlib.Core.Bool.{Bool, true, false, not}
 use mathlib.Core.List.{List}
@@ -15,9 +15,9 @@ use Rattle.rules.proofs.History.{op_0}
 use Rattle.bits.specs.Bits.{bit_of, Holds, nothing, either}
 use Rattle.bits.proofs.Tables.{holds_same, holds_self}
 use Rattle.pairs.specs.Pairs.{before, across}
-use Rattle.pairs.proofs.Marking.{cell-is, cell_has, Marking}
+use Rattle.pairs.proofs.Marking.{cell-is, cell_has, Marking, mark_up}
 use Rattle.appends_rules.specs.Appends.{is_list, key_of, append_of, appender_of, is_judged_list}
-use Rattle.appends_rules.specs.ListKinds.{last_element}
+use Rattle.appends_rules.specs.ListKinds.{element, last_element}
 use Rattle.appends_rules.specs.Dependencies.{joins, is_write_dep, tells, is_read_dep}
 use Rattle.appends_rules.proofs.Longest.{clean_judged}
 use Rattle.appends_rules.proofs.Neighbours.{next_to, write_dep_any}
@@ -71,6 +71,15 @@ module _ (h : History) (x : ℕ) (e : List ℕ) where
   pub next-none : length e ≡ 0 → (a b : ℕ) → next_ties h x e a b ≡ false
   unfolding next_ties across
   next-none z a b = some_end _ 0 (length e - 1) (omega arith)
+
+  -- a and b appended element q - 1 and element q
+  pub next_marked : {w : ℕ → ℕ → Bool} {t u : List ℕ} {a b q : ℕ} → 1 ≤ q → q < length e → a ≡ appender_of h x (element e (q - 1)) → b ≡ appender_of h x (element e q)
+      → Marking (next_tie h x e) w (q - 1) (length e - 1) t → Holds u (either (bit_of t) (tied a b)) → Marking (next_tie h x e) w q (length e - 1) u
+  unfolding next_tie
+  next_marked {t = t} {u} {a} {b} {q} l m ea eb z p =
+      let k : q - 1 + 1 ≡ q = omega arith in
+      let y : Holds u (either (bit_of t) (tied (appender_of h x (element e (q - 1))) (appender_of h x (element e (q - 1 + 1))))) = rw (k, ← ea, ← eb) p in
+      rw k at (mark_up (next_tie h x e) (q - 1) (omega arith) z y)
 
   pub last_empty : length e ≡ 0 → (t a b : ℕ) → last_tie h x e t a b ≡ false
   unfolding last_tie

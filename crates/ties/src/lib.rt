@@ -13,12 +13,15 @@ ghost use Rattle.elements.specs.Elements.{KeyedList};
 ghost use Rattle.grading.specs.Grades.{AllGraded};
 ghost use Rattle.ties.specs.Ties.{deps_of, tied, next_ties, last_tie, ties_of};
 
-// The transaction that appended element q of the list at p, which has n elements and is of the key x; 0 where none did.
-fn appender_at(s: &[u8], h: &[u64], p: usize, n: usize, x: u64, q: usize) -> usize
-    requires { KeyedList s.now h.now p n x × (q < n) }
-    ensures { Below result (appender_of (history_of h.now) x (element (values_at s.now p) q)) (tx_count (history_of h.now) + 1) }
+use grading::Spot;
+
+// The transaction that appended element q of the list e; 0 where none did.
+// Kept (5): here and below `s` and `h` go on to public functions that take the two; a struct of them would be taken apart at each call.
+fn appender_at(s: &[u8], h: &[u64], e: Spot, q: usize) -> usize
+    requires { KeyedList s.now h.now e.at e.number e.key × (q < e.number) }
+    ensures { Below result (appender_of (history_of h.now) e.key (element (values_at s.now e.at) q)) (tx_count (history_of h.now) + 1) }
 {
-    let w = elements::append_at(s, h, p, n, x, q);
+    let w = elements::append_at(s, h, e.at, e.number, e.key, q);
     if w == 0 {
         return 0;
     }
@@ -36,36 +39,35 @@ fn set_tie(t: &mut [u64], a: usize, b: usize)
 }
 
 // "between the different transactions of neighbouring elements"
-fn mark_next(s: &[u8], h: &[u64], t: &mut [u64], p: usize, n: usize, x: u64)
-    requires { KeyedList s.now h.now p n x × (length t.old ≡ 256) }
-    ensures { Holds t.new (either (bit_of t.old) (next_ties (history_of h.now) x (values_at s.now p))) }
+fn mark_next(s: &[u8], h: &[u64], t: &mut [u64], e: Spot)
+    requires { KeyedList s.now h.now e.at e.number e.key × (length t.old ≡ 256) }
+    ensures { Holds t.new (either (bit_of t.old) (next_ties (history_of h.now) e.key (values_at s.now e.at))) }
 {
-    if n == 0 {
+    if e.number == 0 {
         return;
     }
-    let mut a = appender_at(s, h, p, n, x, 0);
-    let mut q = 0;
-    while q < n - 1 {
-        let b = appender_at(s, h, p, n, x, q + 1);
+    let mut a = appender_at(s, h, e, 0);
+    for q in 1..e.number {
+        let b = appender_at(s, h, e, q);
         set_tie(t, a, b);
         a = b;
-        q += 1;
     }
 }
 
 // "the last element of each clean list gives a read dependency .. from its transaction to a different reader", b.
-fn mark_last(s: &[u8], h: &[u64], t: &mut [u64], p: usize, n: usize, x: u64, b: usize)
-    requires { KeyedList s.now h.now p n x × (length t.old ≡ 256) × (b < 128) }
-    ensures { Holds t.new (either (bit_of t.old) (last_tie (history_of h.now) x (values_at s.now p) b)) }
+fn mark_last(s: &[u8], h: &[u64], t: &mut [u64], e: Spot, b: usize)
+    requires { KeyedList s.now h.now e.at e.number e.key × (length t.old ≡ 256) × (b < 128) }
+    ensures { Holds t.new (either (bit_of t.old) (last_tie (history_of h.now) e.key (values_at s.now e.at) b)) }
 {
-    if n == 0 {
+    if e.number == 0 {
         return;
     }
-    let a = appender_at(s, h, p, n, x, n - 1);
+    let a = appender_at(s, h, e, e.number - 1);
     set_tie(t, a, b);
 }
 
 // What operation i gives, if it is a clean list read.
+// Kept (7): `reads` is the public call's; each step as a closure would need the table before and after in a contract of its own, which is no plainer.
 fn mark_at(s: &[u8], h: &[u64], k: &[u16], reads: bool, t: &mut [u64], i: usize)
     requires { AllGraded s.now h.now k.now × HasOp h.now i × (length t.old ≡ 256) }
     ensures { Holds t.new (either (bit_of t.old) (ties_of reads (history_of h.now) (lists_in s.now (history_of h.now)) i)) }
@@ -75,10 +77,10 @@ fn mark_at(s: &[u8], h: &[u64], k: &[u16], reads: bool, t: &mut [u64], i: usize)
     }
     let e = grading::spot_of(s, h, i);
     if reads {
-        mark_last(s, h, t, e.at, e.number, e.key, table::tx_of(h, i));
-        return;
+        mark_last(s, h, t, e, table::tx_of(h, i));
+    } else {
+        mark_next(s, h, t, e);
     }
-    mark_next(s, h, t, e.at, e.number, e.key);
 }
 
 // Row b gets the bits of the transactions that are before b by a read dependency, or by a write dependency.
@@ -87,10 +89,7 @@ pub fn fill_ties(s: &[u8], h: &[u64], k: &[u16], reads: bool, t: &mut [u64])
     ensures { Holds t.new (before (deps_of reads (history_of h.now) (lists_in s.now (history_of h.now)))) }
 {
     bits::clear(t);
-    let n = table::ops(h);
-    let mut i = 1;
-    while i <= n {
+    for i in 1..=table::ops(h) {
         mark_at(s, h, k, reads, t, i);
-        i += 1;
     }
 }

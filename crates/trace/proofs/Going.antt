@@ -18,15 +18,17 @@ use Rattle.mixing.specs.Mixing.{mixes_at, Indexed}
 use Rattle.mixing.proofs.Laws.{indexed_ops, indexed_with, mixes_with, singles_with}
 use Rattle.sessions.specs.Open.{Beside}
 use Rattle.sessions.proofs.Kept.{kept-none}
-use Rattle.trace.specs.declared.Out.{Out}
-use Rattle.trace.specs.declared.Out.TheVariants.{Bad}
+use Rattle.std.specs.Prelude.{Result, Ok, Err}
+use Rattle.rules.specs.Refusals.{refusal_at, Declined, declined, told}
+use Rattle.rules.specs.declared.Cause.TheVariants.{Mixed, TooLong}
+use Rattle.rules.specs.declared.Refusal.{Refusal}
 use Rattle.trace.specs.declared.Way.TheVariants as W
 use Rattle.trace.specs.declared.Turn.{Turn}
-use Rattle.trace.specs.declared.Turn.TheVariants.{More, Stop}
+use Rattle.trace.specs.declared.Turn.TheVariants.{More, Over}
 use Rattle.trace.specs.Turns.{state_at, no_at, met_at, is_of_lists, finish, put_at, entered_at, Turned}
 use Rattle.trace.specs.Trace.{answered, record_from, recorded, TraceRead, Standing, Walks, WalkEnds, Passed, Come, WayIs, AnyMore, no_more, one_more, Mixes, BeforeLists, EndsLists}
 use Rattle.trace.proofs.Rows.{refused_plain, refused_mixed}
-use Rattle.trace.proofs.Turning.{fit_at, Onward, Refused, Ended, more_says, stop_says}
+use Rattle.trace.proofs.Turning.{fit_at, Onward, Refused, Ended, more_says, stop_says, over, over_one}
 use Rattle.trace.proofs.Places.{ahead_none, ahead_entered}
 
 -- ── one record of the definitions ──
@@ -123,7 +125,7 @@ one_note n E.Other = omega arith
 
 -- behind the end record
 module _ (s : List ℕ) (at serial notes : ℕ) (h : History) where
-  end_answer : is_end (event_at s at) ≡ true → finish s (next_at s at) notes ≡ answered (finished s (after s (state_at at serial h notes)))
+  end_answer : is_end (event_at s at) ≡ true → finish s (next_at s at) notes ≡ over (answered (finished s (after s (state_at at serial h notes))))
   unfolding finish finished after answered pick
   end_answer u = ifso (ltb (next_at s at) (length s)) (λ t. rw t) (λ t. rw (t, end_notes notes (event_at s at) u))
 
@@ -173,7 +175,7 @@ module _ {s : List ℕ} {at serial notes : ℕ} {g : List ℕ} {behind follow co
       ∙ along (record_from f s) p.after_is p.follow_is p.history p.count_is p.words ∙ w.words f (omega (arith, p.farther)))
 
   -- it mixes: 17
-  pub mixed_here : mixes (history_of g) (event_at s at) ≡ true → WalkEnds s at serial notes g (Bad 17 at) g2
+  pub mixed_here : mixes (history_of g) (event_at s at) ≡ true → WalkEnds s at serial notes g (Err (refusal_at Mixed at)) g2
   unfolding answered
   mixed_here m =
       record {
@@ -188,8 +190,8 @@ module _ {s : List ℕ} {at serial notes : ℕ} {g : List ℕ} {behind follow co
 
 -- ── a turn ──
 
-module _ {s : List ℕ} {at serial notes : ℕ} {g g2 : List ℕ} (y : Standing s at notes g) {r : Turn} (t : Turned r g2 g s at serial notes) where
-  refused_here : {o : Out} → Refused s at serial (history_of g) o → WalkEnds s at serial notes g o g2
+module _ {s : List ℕ} {at serial notes : ℕ} {g g2 : List ℕ} (y : Standing s at notes g) {r : Result Turn Refusal} (t : Turned r g2 g s at serial notes) where
+  refused_here : {o : Result ℕ Refusal} → Refused s at serial (history_of g) (told o) → WalkEnds s at serial notes g o g2
   unfolding answered put_at pick
   refused_here x =
       let l = ltb-true 0 (no_at s at serial (history_of g)) x.refuses in
@@ -204,7 +206,7 @@ module _ {s : List ℕ} {at serial notes : ℕ} {g g2 : List ℕ} (y : Standing 
         reads = rw w y.ahead.reads;
       }
 
-  ended_here : {o : Out} → Ended s at serial notes (history_of g) o → WalkEnds s at serial notes g o g2
+  ended_here : {o : Result ℕ Refusal} → Ended s at serial notes (history_of g) (told o) → WalkEnds s at serial notes g o g2
   unfolding put_at entered_at pick
   ended_here x =
       let z : no_at s at serial (history_of g) ≡ 0 = omega (arith, ltb-false 0 (no_at s at serial (history_of g)) x.passes) in
@@ -214,21 +216,21 @@ module _ {s : List ℕ} {at serial notes : ℕ} {g g2 : List ℕ} (y : Standing 
         comes = finished s (after s (state_at at serial (history_of g) notes));
         walks = by_fuel y.within (λ f e. walk_end f s g at serial (history_of g) notes z m x.ends)
             (λ f e. record_stop f s g at serial (history_of g) notes z (or_left _ _ x.ends) ∙ sym w);
-        is = x.is ∙ end_answer s at serial notes (history_of g) x.ends;
+        is = over_one _ _ (x.is ∙ end_answer s at serial notes (history_of g) x.ends);
         held = t.held;
         history = λ h n q. (rw x.passes at t.history) ∙ end_history s at serial notes (history_of g) q;
         reads = rw (t.history, x.passes) (end_reads (history_of g) (met_at s at (history_of g)) (event_at s at) x.ends y.ahead.reads);
       }
 
   -- the reading is over
-  pub turn-stops : {o : Out} → r ≡ Stop o → WalkEnds s at serial notes g o g2
+  pub turn-stops : {o : Result ℕ Refusal} → told r ≡ over (told o) → WalkEnds s at serial notes g o g2
   turn-stops q = ⊎_elim refused_here ended_here (stop_says s at serial notes (history_of g) (sym t.is ∙ q))
 
   -- it goes on
-  pub turn_lists : {behind follow count : ℕ} {lists : Bool} → r ≡ More behind follow count lists → Onward s at serial notes (history_of g) behind follow count lists
-  turn_lists q = more_says s at serial notes (history_of g) (sym t.is ∙ q)
+  pub turn_lists : {behind follow count : ℕ} {lists : Bool} → r ≡ Ok (More behind follow count lists) → Onward s at serial notes (history_of g) behind follow count lists
+  turn_lists q = more_says s at serial notes (history_of g) (sym t.is ∙ ap told q)
 
-  pub turn_passes : {behind follow count : ℕ} {lists : Bool} → Sound at (event_at s at) → r ≡ More behind follow count lists → Passed s at serial notes g behind follow count g2
+  pub turn_passes : {behind follow count : ℕ} {lists : Bool} → Sound at (event_at s at) → r ≡ Ok (More behind follow count lists) → Passed s at serial notes g behind follow count g2
   unfolding put_at entered_at pick
   turn_passes {behind} {follow} {count} v q =
       let x = turn_lists q in
@@ -256,7 +258,7 @@ module _ {s : List ℕ} {at serial notes : ℕ} {g g2 : List ℕ} (y : Standing 
       }
 
 -- an answer from a later state on is one from an earlier
-pub ends-back : {s : List ℕ} {at serial notes : ℕ} {g : List ℕ} {from expected counted : ℕ} {g₀ : List ℕ} {o : Out} {g2 : List ℕ}
+pub ends-back : {s : List ℕ} {at serial notes : ℕ} {g : List ℕ} {from expected counted : ℕ} {g₀ : List ℕ} {o : Result ℕ Refusal} {g2 : List ℕ}
     → ((r : Reading) (g3 : List ℕ) → Walks s at serial notes g r g3 → Walks s from expected counted g₀ r g3) → WalkEnds s at serial notes g o g2
     → WalkEnds s from expected counted g₀ o g2
 ends-back back x = record { comes = x.comes; walks = back _ _ x.walks; is = x.is; held = x.held; history = x.history; reads = x.reads }
@@ -286,15 +288,18 @@ pub going_first : {s : List ℕ} {at serial notes : ℕ} {g : List ℕ} {each : 
 going_first y f = record { standing = y; back = λ r g3 w. w; one = λ e. (refl, refl); singles = f }
 
 module _ {s : List ℕ} {from expected counted : ℕ} {g₀ : List ℕ} {each : Bool} {at serial notes : ℕ} {g : List ℕ} (y : Going s from expected counted g₀ each at serial notes g)
-    {r : Turn} {g2 : List ℕ} (t : Turned r g2 g s at serial notes) where
-  pub going_over : {o : Out} → r ≡ Stop o → WayIs s from expected counted g₀ each g2 (W.Over o)
-  going_over q = ends-back y.back (turn-stops y.standing t q)
+    {r : Result Turn Refusal} {g2 : List ℕ} (t : Turned r g2 g s at serial notes) where
+  pub going_over : {n : ℕ} → r ≡ Ok (Over n) → WayIs s from expected counted g₀ each g2 (Ok (W.Over n))
+  going_over {n} q = ends-back y.back (turn-stops y.standing t {o = Ok n} (ap told q))
 
-  module _ {behind follow count : ℕ} {lists : Bool} (q : r ≡ More behind follow count lists) where
+  pub going_refused : {d : Refusal} → r ≡ Err d → WayIs s from expected counted g₀ each g2 (Err d)
+  going_refused {d} q = ends-back y.back (turn-stops y.standing t {o = Err d} (ap told q))
+
+  module _ {behind follow count : ℕ} {lists : Bool} (q : r ≡ Ok (More behind follow count lists)) where
     here : Passed s at serial notes g behind follow count g2
     here = turn_passes y.standing t (t.sound _ _ _ _ q) q
 
-    pub going_behind : {b : Bool} → b ≡ (each or lists) → b ≡ true → WayIs s from expected counted g₀ each g2 (W.Behind at behind follow count)
+    pub going_behind : {b : Bool} → b ≡ (each or lists) → b ≡ true → WayIs s from expected counted g₀ each g2 (Ok (W.Behind at behind follow count))
     going_behind e u =
         record {
           expected = serial;
@@ -348,7 +353,7 @@ module _ {s : List ℕ} {first after follow count : ℕ} {g : List ℕ} where
   first-mixes e x = e ∙ rw x.passed.history (list_mixes (history_of x.table) x.singles _ (event_at s first) x.of_lists)
 
   pub lists_mixed : {b : Bool} → b ≡ some 1 (op_count (history_of g) + 1) (mixes_at (history_of g)) → b ≡ true
-      → EndsLists s first after follow count g (Bad 17 first) g
+      → EndsLists s first after follow count g (Err (refusal_at Mixed first)) g
   lists_mixed e t x = mixed_here x.passed (sym (first-mixes e x) ∙ t)
 
   pub listing-first : {b : Bool} → b ≡ some 1 (op_count (history_of g) + 1) (mixes_at (history_of g)) → b ≡ false → BeforeLists s first after follow count g
@@ -379,10 +384,10 @@ mixed_event h t E.Other m = m.none refl
 
 module _ {s : List ℕ} {first after follow count : ℕ} {g₀ : List ℕ} {at serial notes : ℕ} {g : List ℕ} (y : Listing s first after follow count g₀ at serial notes g)
     {g2 : List ℕ} where
-  pub listing-over : {o : Out} → WayIs s at serial notes g true g2 (W.Over o) → EndsLists s first after follow count g₀ o g2
+  pub listing-over : {o : Result ℕ Refusal} → WalkEnds s at serial notes g o g2 → EndsLists s first after follow count g₀ o g2
   listing-over z x = ends-back (y.back x) z
 
-  module _ {place behind next notes2 : ℕ} (z : WayIs s at serial notes g true g2 (W.Behind place behind next notes2)) where
+  module _ {place behind next notes2 : ℕ} (z : WayIs s at serial notes g true g2 (Ok (W.Behind place behind next notes2))) where
     come : Come s at serial notes g true place behind next notes2 g2
     come = z
 
@@ -399,19 +404,19 @@ module _ {s : List ℕ} {first after follow count : ℕ} {g₀ : List ℕ} {at s
     listing_held = come.passed.standing.held
 
     module _ {b : Bool} {k : List ℕ} {n : ℕ} (e : n ≡ op_count (history_of g)) (m : Mixes b k (history_of g2) n) where
-      told : b ≡ mixes (history_of come.table) (event_at s place)
-      told =
+      tells : b ≡ mixes (history_of come.table) (event_at s place)
+      tells =
           mixed_event (history_of g) (met_at s place (history_of g)) (event_at s place) (rw (e, grown) at m)
           ∙ ap (λ (l : List ℕ). mixes (history_of l) (event_at s place)) (sym (come.one refl).0)
 
-      pub listing_mixed : b ≡ true → EndsLists s first after follow count g₀ (Bad 17 place) g2
-      listing_mixed t x = ends-back (λ r g3 w. y.back x r g3 (come.back r g3 w)) (mixed_here come.passed (sym told ∙ t))
+      pub listing_mixed : b ≡ true → EndsLists s first after follow count g₀ (Err (refusal_at Mixed place)) g2
+      listing_mixed t x = ends-back (λ r g3 w. y.back x r g3 (come.back r g3 w)) (mixed_here come.passed (sym tells ∙ t))
 
       pub listing_on : b ≡ false → Listing s first after follow count g₀ behind next notes2 g2
       listing_on t =
           record {
             standing = come.passed.standing;
-            back = λ x r g3 w. y.back x r g3 (come.back r g3 (on_behind come.passed (sym told ∙ t) r g3 w));
+            back = λ x r g3 w. y.back x r g3 (come.back r g3 (on_behind come.passed (sym tells ∙ t) r g3 w));
           }
 
 -- ── the whole trace ──
@@ -425,7 +430,7 @@ pub beside_first : (second : Bool) {g : List ℕ} → HoldsHistory g empty → B
 beside_first second b = record { room = length-replicate {A = ℕ} 256 0; kept = λ t. kept-none _ (ap (λ (h : History). tx_count h) b.is) }
 
 -- row 2
-pub too_long : (s g₀ g : List ℕ) → Becomes g (cleared g₀) empty → 32768 < length s → TraceRead (Bad 2 32768) g g₀ s
+pub too_long : (s g₀ g : List ℕ) → Becomes g (cleared g₀) empty → 32768 < length s → TraceRead (Err (refusal_at TooLong 32768)) g g₀ s
 unfolding reading recorded answered pick
 too_long s g₀ g b l =
     let t = lt-ltb _ _ l in
@@ -438,7 +443,7 @@ too_long s g₀ g b l =
     }
 
 -- the records
-pub whole-ends : (s g₀ g : List ℕ) → Becomes g (cleared g₀) empty → length s ≤ 32768 → {o : Out} {g2 : List ℕ} → WalkEnds s 0 0 0 g o g2 → TraceRead o g2 g₀ s
+pub whole-ends : (s g₀ g : List ℕ) → Becomes g (cleared g₀) empty → length s ≤ 32768 → {o : Result ℕ Refusal} {g2 : List ℕ} → WalkEnds s 0 0 0 g o g2 → TraceRead o g2 g₀ s
 unfolding reading recorded pick
 whole-ends s g₀ g b l {o} {g2} x =
     let t = le-ltb _ _ l in
@@ -452,13 +457,13 @@ whole-ends s g₀ g b l {o} {g2} x =
     }
 
 -- up to the first append or list read, from there on
-pub whole-first : {s g : List ℕ} {first after follow count : ℕ} {g2 : List ℕ} → WayIs s 0 0 0 g false g2 (W.Behind first after follow count)
+pub whole-first : {s g : List ℕ} {first after follow count : ℕ} {g2 : List ℕ} → WayIs s 0 0 0 g false g2 (Ok (W.Behind first after follow count))
     → BeforeLists s first after follow count g2
 whole-first z =
     let l = z.lists refl in
     record { expected = z.expected; counted = z.counted; table = z.table; passed = z.passed; of_lists = l.0; singles = l.1 }
 
-pub whole_lists : {s g : List ℕ} {first after follow count : ℕ} {g2 : List ℕ} (z : WayIs s 0 0 0 g false g2 (W.Behind first after follow count)) {o : Out} {g3 : List ℕ}
+pub whole_lists : {s g : List ℕ} {first after follow count : ℕ} {g2 : List ℕ} (z : WayIs s 0 0 0 g false g2 (Ok (W.Behind first after follow count))) {o : Result ℕ Refusal} {g3 : List ℕ}
     → EndsLists s first after follow count g2 o g3 → WalkEnds s 0 0 0 g o g3
 unfolding whole-first
 whole_lists z f = ends-back z.back (f (whole-first z))

@@ -1,5 +1,5 @@
 -- The whole trace: the answer to it, and what the table then has in it.
-use Rattle.std.specs.Prelude.{◌≡◌, ℕ, zero, suc, ◌+◌, ◌<◌, ◌≤◌, Bool, true, false, List, length, nat_lt}
+use Rattle.std.specs.Prelude.{◌≡◌, ℕ, zero, suc, ◌+◌, ◌<◌, ◌≤◌, Bool, true, false, List, length, nat_lt, Result, Ok, Err}
 use Rattle.base.specs.Base.{◌or◌, pick}
 use Rattle.rules.specs.History.{History, op, op_count}
 use Rattle.rules.specs.Records.{next_at, next_serial, event_at, Sound}
@@ -11,13 +11,13 @@ use Rattle.mixing.specs.Mixing.{mixes_at, Indexed}
 use Rattle.trace.specs.Turns.{state_at, met_at, no_at, is_of_lists}
 use Rattle.trace.specs.declared.Way.{Way}
 use Rattle.trace.specs.declared.Way.TheVariants as W
-use Rattle.trace.specs.declared.Out.{Out}
-use Rattle.trace.specs.declared.Out.TheVariants.{Good, Bad}
+use Rattle.rules.specs.Refusals.{Declined, declined, told}
+use Rattle.rules.specs.declared.Refusal.{Refusal}
 
--- a reading as an answer
-unfoldable pub answered : Reading → Out
-answered (refused n p) = Bad n p
-answered (read h notes) = Good notes
+-- a reading as an answer: its number of notes, or the refusal
+unfoldable pub answered : Reading → Result ℕ Declined
+answered (refused n p) = Err (declined n p)
+answered (read h notes) = Ok notes
 
 -- the number of the first row, 3 to 10, that refuses the record that a state has come to
 abbrev pub plain_no : List ℕ → State → ℕ
@@ -36,8 +36,8 @@ unfoldable pub recorded : List ℕ → List ℕ → List ℕ
 recorded s g = pick (nat_lt 32768 (length s)) (cleared g) (record_from (length s + 1) s begin (cleared g))
 
 -- the answer r to the trace s, of which the table g was made out of g₀
-pub record TraceRead (r : Out) (g g₀ s : List ℕ) : Type 0 where
-  pub is : r ≡ answered (reading s)
+pub record TraceRead (r : Result ℕ Refusal) (g g₀ s : List ℕ) : Type 0 where
+  pub is : told r ≡ answered (reading s)
   pub words : g ≡ recorded s g₀
   pub held : Held g
   -- where the trace was read, the table holds its history
@@ -65,10 +65,10 @@ pub record Walks (s : List ℕ) (at serial notes : ℕ) (g : List ℕ) (r : Read
   pub words : (f : ℕ) → length s < f + at → record_from f s (state_at at serial (history_of g) notes) g ≡ g2
 
 -- .. and the answer is o
-pub record WalkEnds (s : List ℕ) (at serial notes : ℕ) (g : List ℕ) (o : Out) (g2 : List ℕ) : Type 0 where
+pub record WalkEnds (s : List ℕ) (at serial notes : ℕ) (g : List ℕ) (o : Result ℕ Refusal) (g2 : List ℕ) : Type 0 where
   pub comes : Reading
   pub walks : Walks s at serial notes g comes g2
-  pub is : o ≡ answered comes
+  pub is : told o ≡ answered comes
   pub held : Held g2
   pub history : (h : History) (n : ℕ) → comes ≡ read h n → history_of g2 ≡ h
   pub reads : ReadsSingle (history_of g2)
@@ -98,9 +98,10 @@ pub record Come (s : List ℕ) (at serial notes : ℕ) (g : List ℕ) (each : Bo
   pub lists : each ≡ false → (is_of_lists (event_at s first) ≡ true) × Singles (history_of table)
 
 -- what each case of the answer says
-abbrev pub WayIs : List ℕ → ℕ → ℕ → ℕ → List ℕ → Bool → List ℕ → Way → Type 0
-WayIs s at serial notes g each g2 (W.Over o) = WalkEnds s at serial notes g o g2
-WayIs s at serial notes g each g2 (W.Behind first after follow count) = Come s at serial notes g each first after follow count g2
+abbrev pub WayIs : List ℕ → ℕ → ℕ → ℕ → List ℕ → Bool → List ℕ → Result Way Refusal → Type 0
+WayIs s at serial notes g each g2 (Err r) = WalkEnds s at serial notes g (Err r) g2
+WayIs s at serial notes g each g2 (Ok (W.Over n)) = WalkEnds s at serial notes g (Ok n) g2
+WayIs s at serial notes g each g2 (Ok (W.Behind first after follow count)) = Come s at serial notes g each first after follow count g2
 
 -- ── row 17 behind a record, with the index k ──
 
@@ -125,6 +126,6 @@ pub record BeforeLists (s : List ℕ) (first after follow count : ℕ) (g2 : Lis
   pub singles : Singles (history_of table)
 
 -- .. from which on the reading is answered with o, and the table becomes g3
-abbrev pub EndsLists : List ℕ → ℕ → ℕ → ℕ → ℕ → List ℕ → Out → List ℕ → Type 0
+abbrev pub EndsLists : List ℕ → ℕ → ℕ → ℕ → ℕ → List ℕ → Result ℕ Refusal → List ℕ → Type 0
 EndsLists s first after follow count g2 o g3 =
     (x : BeforeLists s first after follow count g2) → WalkEnds s first x.expected x.counted x.table o g3

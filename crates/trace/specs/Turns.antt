@@ -1,5 +1,5 @@
 -- One record: what the loop keeps, and how it goes on.
-use Rattle.std.specs.Prelude.{◌≡◌, ℕ, Bool, not, List, ◌++◌, length, nat_lt}
+use Rattle.std.specs.Prelude.{◌≡◌, ℕ, Bool, not, List, ◌++◌, length, nat_lt, Result, Ok, Err}
 use Rattle.base.specs.Base.{pick, first_fit}
 use Rattle.rules.specs.History.{History, is_single}
 use Rattle.rules.specs.Records.{next_at, next_serial, is_second, session_at, event_at, written_key, Sound, frame_rows}
@@ -7,10 +7,10 @@ use Rattle.rules.specs.Reading.{State, step_rows, entered, is_end, notes_behind,
 use Rattle.rules.specs.declared.Event.{Event}
 use Rattle.table.specs.Table.{history_of, Held}
 use Rattle.steps.specs.Steps.{put}
-use Rattle.trace.specs.declared.Out.{Out}
-use Rattle.trace.specs.declared.Out.TheVariants.{Good, Bad}
+use Rattle.rules.specs.Refusals.{Declined, declined, told}
+use Rattle.rules.specs.declared.Refusal.{Refusal}
 use Rattle.trace.specs.declared.Turn.{Turn}
-use Rattle.trace.specs.declared.Turn.TheVariants.{More, Stop}
+use Rattle.trace.specs.declared.Turn.TheVariants.{More, Over}
 
 -- what is known before the record at `at`
 abbrev pub state_at : ℕ → ℕ → History → ℕ → State
@@ -29,15 +29,15 @@ unfoldable pub is_of_lists : Event → Bool
 is_of_lists e = not (is_single (written_key e))
 
 -- the reading is over behind the end record, and the next byte would be the one at `at`
-unfoldable pub finish : List ℕ → ℕ → ℕ → Out
-finish s at notes = pick (nat_lt at (length s)) (Bad 11 at) (Good notes)
+unfoldable pub finish : List ℕ → ℕ → ℕ → Result Turn Declined
+finish s at notes = pick (nat_lt at (length s)) (Err (declined 11 at)) (Ok (Over notes))
 
 -- where there were so many notes before it
-unfoldable pub turn : List ℕ → ℕ → ℕ → ℕ → History → Turn
+unfoldable pub turn : List ℕ → ℕ → ℕ → ℕ → History → Result Turn Declined
 turn s at serial notes h =
-    pick (nat_lt 0 (no_at s at serial h)) (Stop (Bad (no_at s at serial h) at))
-    (pick (is_end (event_at s at)) (Stop (finish s (next_at s at) notes))
-    (More (next_at s at) (next_serial s at) (notes_behind notes (event_at s at)) (is_of_lists (event_at s at))))
+    pick (nat_lt 0 (no_at s at serial h)) (Err (declined (no_at s at serial h) at))
+    (pick (is_end (event_at s at)) (finish s (next_at s at) notes)
+    (Ok (More (next_at s at) (next_serial s at) (notes_behind notes (event_at s at)) (is_of_lists (event_at s at)))))
 
 -- what it makes of the table g, and of the history in it
 unfoldable pub put_at : List ℕ → ℕ → ℕ → List ℕ → List ℕ
@@ -47,10 +47,10 @@ unfoldable pub entered_at : List ℕ → ℕ → ℕ → History → History
 entered_at s at serial h = pick (nat_lt 0 (no_at s at serial h)) h (entered h (met_at s at h) (event_at s at))
 
 -- the answer r to the record at `at`, which made g2 of the table g
-pub record Turned (r : Turn) (g2 g s : List ℕ) (at serial notes : ℕ) : Type 0 where
-  pub is : r ≡ turn s at serial notes (history_of g)
+pub record Turned (r : Result Turn Refusal) (g2 g s : List ℕ) (at serial notes : ℕ) : Type 0 where
+  pub is : told r ≡ turn s at serial notes (history_of g)
   pub words : g2 ≡ put_at s at serial g
   pub history : history_of g2 ≡ entered_at s at serial (history_of g)
   pub held : Held g2
   -- where it goes on, the event is sound
-  pub sound : (after follow count : ℕ) (lists : Bool) → r ≡ More after follow count lists → Sound at (event_at s at)
+  pub sound : (after follow count : ℕ) (lists : Bool) → r ≡ Ok (More after follow count lists) → Sound at (event_at s at)

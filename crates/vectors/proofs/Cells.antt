@@ -1,5 +1,5 @@
 -- A table's cells: what a store does to them.
-use Prim.Native.Nat.{ℕ, ◌+◌, ◌*◌, ◌<◌}
+use Prim.Native.Nat.{ℕ, ◌+◌, ◌*◌, ◌<◌, max}
 use mathlib.Core.Path.{◌≡◌, sym, ◌∙◌}
 use mathlib.Core.Bool.{true, false}
 use mathlib.Core.List.{List}
@@ -9,10 +9,15 @@ use lib.Dec.{eqb}
 use lib.ListN.{length, set, length-set}
 use lib.Seq.{get_or-set_same, get_or-set_other}
 use borrow.Author.Tests.{eqb-true, eqb-false}
-use Rattle.base.proofs.Tests.{known, pick_on, pick_off}
+use Rattle.base.proofs.Tests.{known, split, pick_on, pick_off}
 use Rattle.vectors_rules.specs.Latest.{greater}
-use Rattle.vectors_rules.proofs.Greatest.{greater_left}
+use Rattle.vectors_rules.proofs.Greatest.{greater_left, greater_right}
 use Rattle.vectors.specs.Vectors.{slot, Changed, noted_row}
+
+-- the greater of two, as the machine finds it
+pub max_is : (a b : ℕ) → max a b ≡ greater a b
+max_is a b =
+    ⊎_elim (λ l. let e = greater_right a b (omega arith) in omega arith) (λ l. let e = greater_left a b l in omega arith) (split a b)
 
 -- ── one store ──
 

@@ -1,10 +1,12 @@
 -- The rows filled in a sequence.
-use Prim.Native.Nat.{ℕ, ◌+◌, ◌<◌}
+use Prim.Native.Nat.{ℕ, ◌+◌, ◌<◌, ◌≤◌}
 use mathlib.Core.Path.{◌≡◌, sym, ◌∙◌}
 use mathlib.Core.List.{List}
 use mathlib.Core.Logic.{⊎_elim}
 use native.Mathlib.Omega.{arith}
-use lib.ListN.{get_or}
+use lib.ListN.{length, get_or, take}
+use lib.Seq.{length-take-le}
+use Rattle.std.proofs.Common.{get_or-take}
 use Rattle.base.proofs.Tests.{split}
 use Rattle.vectors.specs.Vectors.{Columns, RowPrepared, Finished, Sequence, AllFilled, Zeros}
 
@@ -37,4 +39,36 @@ module _ {f c o : List ℕ} {k : ℕ} (w : Sequence f o k) where
             record { is = λ s hs. rw (h.others (get_or o j 0) s (w.below j (omega arith)) hs (λ e. w.once j i b l e)) ((g.done j b).is s hs) })
             (λ b. let e : j ≡ i = omega arith in rw e h.row) (split j i);
         left = λ x s hx hs d. h.others x s hx hs (λ e. d i (omega arith) (sym e)) ∙ g.left x s hx hs (λ j m. d j (omega arith));
+      }
+
+-- ── the first k of o, as a list of their own ──
+
+module _ (o : List ℕ) (k : ℕ) (room : k ≤ length o) where
+  front : length (take k o) ≡ k
+  front = length-take-le k o room
+
+  byte : (i : ℕ) → i < k → get_or (take k o) i 0 ≡ get_or o i 0
+  byte i l = get_or-take k o i 0 l
+
+  pub sequence_front : {f : List ℕ} → Sequence f o k → Sequence f (take k o) (length (take k o))
+  sequence_front w =
+      rw front
+      (record {
+        few = w.few;
+        below = λ i l. rw (byte i l) (w.below i l);
+        once = λ i j a b e. w.once i j a b (sym (byte i (omega arith)) ∙ e ∙ byte j b);
+        after =
+            λ i q l hq b.
+            let r = w.after i q l hq (rw (byte i l) at b) in
+            (r.0, r.1, byte r.0 (omega arith) ∙ r.2);
+        start = w.start;
+      })
+
+  pub filled_front : {f c v : List ℕ} → AllFilled f c (take k o) (length (take k o)) v → AllFilled f c o k v
+  filled_front {f} {c} {v} g =
+      let h : AllFilled f c (take k o) k v = rw front at g in
+      record {
+        room = h.room;
+        done = λ i l. rw (byte i l) at (h.done i l);
+        left = λ x s hx hs d. h.left x s hx hs (λ i l e. d i l (sym (byte i l) ∙ e));
       }

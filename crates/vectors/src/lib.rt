@@ -3,31 +3,22 @@
 
 ghost use Rattle.std.specs.Prelude.{◌≡◌, ◌<◌, ◌≤◌, length};
 ghost use Rattle.order.specs.declared.Words.{Words};
-ghost use Rattle.vectors_rules.specs.Latest.{greater};
 ghost use Rattle.vectors.specs.Vectors.{Columns, Changed, NarrowRow, merged_block, merged_row, noted_row, Sources, RowGathered, RowPrepared, Finished, Sequence, AllFilled, Zeros, VectorsGiven, VectorsMade, Small, Joined};
 
 use order::Words;
 
 // ── one row ──
 
-// The greater of two.
-fn most(a: u8, b: u8) -> u8
-    ensures { result ≡ greater a b }
-{
-    if a < b { b } else { a }
-}
+// Kept (5): v, f, c and width are passed on as the public function gets them: v is written, and each step below reads fewer of the others.
 
 // Sixteen columns of row t, from 16 * j on, get what row p has there. A length that is fixed: the compiler makes it one comparison.
 fn merge_block(v: &mut [u8; 16384], t: usize, p: usize, j: usize)
     requires { (length v.old ≡ 16384) × (t < 128) × (p < 128) × (j < 8) }
     ensures { Changed v.old t (merged_block v.old t p j) v.new }
 {
-    let mut s = 0;
-    while s < 16 {
+    for s in 0..16 {
         let i = 128 * t + 16 * j + s;
-        let x = most(v[i], v[128 * p + 16 * j + s]);
-        v[i] = x;
-        s += 1;
+        v[i] = v[i].max(v[128 * p + 16 * j + s]);
     }
 }
 
@@ -36,10 +27,8 @@ fn merge_row(v: &mut [u8; 16384], t: usize, p: usize, width: usize)
     requires { (length v.old ≡ 16384) × (t < 128) × (p < 128) × (width ≤ 128) × NarrowRow v.old p width }
     ensures { Changed v.old t (merged_row v.old t p) v.new }
 {
-    let mut j = 0;
-    while 16 * j < width {
+    for j in 0..width.div_ceil(16) {
         merge_block(v, t, p, j);
-        j += 1;
     }
 }
 
@@ -49,8 +38,7 @@ fn note(v: &mut [u8; 16384], t: usize, s: usize, x: usize)
     ensures { Changed v.old t (noted_row v.old t s x) v.new }
 {
     let i = 128 * t + s;
-    let y = most(v[i], x as u8);
-    v[i] = y;
+    v[i] = v[i].max(x as u8);
 }
 
 // Row t gets what those before t know. From the greatest down, and without those that stand before one that was taken, since that one knows what they do:
@@ -81,16 +69,13 @@ fn take_row(v: &mut [u8; 16384], f: &[u64; 256], c: &[u8; 128], t: usize, width:
 
 // ── all rows ──
 
-// The rows of the first k of o, in this order.
-fn fill(v: &mut [u8; 16384], f: &[u64; 256], c: &[u8; 128], o: &[u8; 128], k: usize, width: usize)
-    requires { Zeros v.old × Columns c.now width × Sequence f.now o.now k }
-    ensures { AllFilled f.now c.now o.now k v.new }
+// The rows of o, in this order.
+fn fill(v: &mut [u8; 16384], f: &[u64; 256], c: &[u8; 128], o: &[u8], width: usize)
+    requires { Zeros v.old × Columns c.now width × Sequence f.now o.now (length o.now) }
+    ensures { AllFilled f.now c.now o.now (length o.now) v.new }
 {
-    let mut i = 0;
-    while i < k {
-        let t = o[i] as usize;
-        take_row(v, f, c, t, width);
-        i += 1;
+    for t in o {
+        take_row(v, f, c, *t as usize, width);
     }
 }
 
@@ -113,7 +98,7 @@ pub fn fill_vectors(
     if k != m {
         return false;
     }
-    fill(v, f, c, &o, k, width);
+    fill(v, f, c, &o[..k], width);
     true
 }
 
@@ -126,12 +111,10 @@ pub fn known(f: &[u64], v: &[u8], t: usize, width: usize) -> Words
 {
     let mut lo = 0;
     let mut hi = 0;
-    let mut s = 1;
-    while s < width {
+    for s in 1..width {
         let x = v[128 * t + s] as usize;
-        lo = lo | f[2 * x];
-        hi = hi | f[2 * x + 1];
-        s += 1;
+        lo |= f[2 * x];
+        hi |= f[2 * x + 1];
     }
-    Words { lo: lo, hi: hi }
+    Words { lo, hi }
 }

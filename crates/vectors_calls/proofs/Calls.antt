@@ -4,6 +4,7 @@ use mathlib.Core.Path.{◌≡◌, refl, sym, ap, ◌∙◌}
 use mathlib.Core.Bool.{Bool, true}
 use mathlib.Core.List.{List}
 use mathlib.Core.Logic.{◌↔◌}
+use native.Mathlib.Omega.{arith}
 use lib.Dec.{ltb}
 use borrow.Author.Tests.{ltb-true, lt-ltb}
 use Rattle.base.specs.Base.{◌and◌}
@@ -12,6 +13,7 @@ use Rattle.rules.specs.History.{History, committed}
 use Rattle.rules.specs.Reading.{Reading, refused, read, reading}
 use Rattle.rules.specs.Levels.{leads}
 use Rattle.demand1.specs.Lawful.{LawfulHistory}
+use Rattle.demand1.specs.Rows.{Refuses}
 use Rattle.demand1.proofs.Lawful.{lawful_history}
 use Rattle.demand1.proofs.Readings.{refuses_iff, has_read, read_has}
 use Rattle.demand2.specs.Axiom.{Member}
@@ -22,11 +24,13 @@ use Rattle.vectors_rules.specs.Vectors.{session_no, vector_of, basic_cycle}
 use Rattle.vectors_rules.proofs.Greatest.{greatest_one}
 use Rattle.vectors_laws.specs.Vectors.{NoBasicCycle}
 use Rattle.vectors_laws.proofs.Vectors.{own_vectors_are, no_cycle_iff}
+use Rattle.std.specs.Prelude.{Option, None, Some, Ok, Err}
+use Rattle.rules.specs.Refusals.{cause_no, told}
+use Rattle.rules.specs.declared.Refusal.{Refusal}
+use Rattle.rules.proofs.Refusals.{declined_one, told_one}
 use Rattle.vectors_calls.specs.declared.LedBy.{LedBy}
-use Rattle.vectors_calls.specs.declared.LedBy.TheVariants as S
-use Rattle.vectors_calls.specs.declared.Entry.{Entry}
-use Rattle.vectors_calls.specs.declared.Entry.TheVariants as E
-use Rattle.vectors_calls.specs.Calls.{SaysLeads, on_refusal, by_vectors, by_table, EntryOf, TellsLatest, on_cycle, on_latest}
+use Rattle.vectors_calls.specs.declared.LedBy.TheVariants.{ByVectors, ByTable}
+use Rattle.vectors_calls.specs.Calls.{LedAnswer, EntryAnswer, SaysLeads, on_refusal, by_vectors, by_table, EntryOf, TellsLatest, on_cycle, on_latest}
 use Rattle.vectors_calls.specs.Answers.{said_of, said_read, entry_of, told_of, told_read}
 
 -- ── of a history ──
@@ -68,73 +72,87 @@ module _ {h : History} (ok : LawfulHistory h) where
 -- ── of a trace ──
 
 module _ (s : List ℕ) where
+  refuses : (d : Refusal) → reading s ≡ refused (cause_no d.cause) d.place → Refuses s (cause_no d.cause) d.place
+  refuses d = (refuses_iff s (cause_no d.cause) d.place).0
+
   module _ (a b : ℕ) where
     -- what is computed is said
-    pub says_refused : {n p : ℕ} → reading s ≡ refused n p → SaysLeads s a b (S.Refused n p)
-    says_refused {n} {p} e = on_refusal ((refuses_iff s n p).0 e)
+    pub says_refused : {d : Refusal} → reading s ≡ refused (cause_no d.cause) d.place → SaysLeads s a b (Err d)
+    says_refused {d} e = on_refusal (refuses d e)
 
-    pub says_read : {h : History} {notes : ℕ} {r : LedBy} → reading s ≡ read h notes → r ≡ said_of h a b → SaysLeads s a b r
+    pub says_read : {h : History} {notes : ℕ} {r : LedBy} → reading s ≡ read h notes → r ≡ said_of h a b → SaysLeads s a b (Ok r)
     unfolding said_of
     says_read {h} e i =
         let x = has_read e in
         let ok = lawful_history x in
         rw i
         (ifso (basic_cycle h)
-        (λ t. rw (pick_on _ (S.ByTable (leads h a b)) (S.ByVectors (leads h a b)) t) (by_table x (from_cycle ok t) (basic_way_iff ok a b)))
-        (λ t. rw (pick_off _ (S.ByTable (leads h a b)) (S.ByVectors (leads h a b)) t) (by_vectors x ((no_cycle_iff ok).0 t) (basic_way_iff ok a b))))
+        (λ t. rw (pick_on _ (ByTable (leads h a b)) (ByVectors (leads h a b)) t) (by_table x (from_cycle ok t) (basic_way_iff ok a b)))
+        (λ t. rw (pick_off _ (ByTable (leads h a b)) (ByVectors (leads h a b)) t) (by_vectors x ((no_cycle_iff ok).0 t) (basic_way_iff ok a b))))
 
-    says_reading : (q : Reading) → reading s ≡ q → SaysLeads s a b (said_read q a b)
+    -- .. whatever it is
+    says_told : (r : LedAnswer) → told r ≡ said_read (reading s) a b → SaysLeads s a b r
     unfolding said_read
-    says_reading (refused n p) e = says_refused e
-    says_reading (read h notes) e = says_read e refl
+    says_told r e = go (reading s) refl r e
+      where
+        go : (q : Reading) → reading s ≡ q → (r : LedAnswer) → told r ≡ said_read q a b → SaysLeads s a b r
+        go (refused n p) i (Err d) e = let z = declined_one e in says_refused (rw (z.0, z.1) i)
+        go (refused n p) i (Ok l) e = let z : ◌≡◌ {A = ℕ} 0 1 = cc in absurd (omega arith)
+        go (read h notes) i (Err d) e = let z : ◌≡◌ {A = ℕ} 0 1 = cc in absurd (omega arith)
+        go (read h notes) i (Ok l) e = let z : l ≡ said_of h a b = cc in says_read i z
 
     -- and nothing else is
-    says_is : {r : LedBy} → SaysLeads s a b r → r ≡ said_read (reading s) a b
+    says_is : {r : LedAnswer} → SaysLeads s a b r → told r ≡ said_read (reading s) a b
     unfolding said_read said_of
-    says_is (on_refusal {n} {p} x) = rw ((refuses_iff s n p).1 x) refl
+    says_is (on_refusal {d} x) = rw ((refuses_iff s (cause_no d.cause) d.place).1 x) refl
     says_is (by_vectors x f i) =
         let ok = lawful_history x in
-        rw (read_has x) (ap S.ByVectors (right ok a b i) ∙ sym (pick_off _ _ _ ((no_cycle_iff ok).1 f)))
+        rw (read_has x) (ap (λ w. Ok (ByVectors w)) (right ok a b i) ∙ ap Ok (sym (pick_off _ _ _ ((no_cycle_iff ok).1 f))))
     says_is (by_table x d i) =
         let ok = lawful_history x in
-        rw (read_has x) (ap S.ByTable (right ok a b i) ∙ sym (pick_on _ _ _ (to_cycle ok d)))
+        rw (read_has x) (ap (λ w. Ok (ByTable w)) (right ok a b i) ∙ ap Ok (sym (pick_on _ _ _ (to_cycle ok d))))
 
-    pub says_iff : (r : LedBy) → (r ≡ said_read (reading s) a b) ↔ SaysLeads s a b r
-    says_iff r = (λ e. rw e (says_reading (reading s) refl), says_is)
+    pub says_iff : (r : LedAnswer) → (told r ≡ said_read (reading s) a b) ↔ SaysLeads s a b r
+    says_iff r = (says_told r, says_is)
 
     -- so there is one such answer
-    pub says_one : {r q : LedBy} → SaysLeads s a b r → SaysLeads s a b q → r ≡ q
-    says_one x y = says_is x ∙ sym (says_is y)
+    pub says_one : {r q : LedAnswer} → SaysLeads s a b r → SaysLeads s a b q → r ≡ q
+    says_one {r} {q} x y = told_one r q (says_is x ∙ sym (says_is y))
 
   -- the same of an entry
   module _ (t a : ℕ) where
-    pub tells_refused : {n p : ℕ} → reading s ≡ refused n p → TellsLatest s t a (E.Refused n p)
-    tells_refused {n} {p} e = on_refusal ((refuses_iff s n p).0 e)
+    pub tells_refused : {d : Refusal} → reading s ≡ refused (cause_no d.cause) d.place → TellsLatest s t a (Err d)
+    tells_refused {d} e = on_refusal (refuses d e)
 
-    pub tells-read : {h : History} {notes : ℕ} {r : Entry} → reading s ≡ read h notes → r ≡ told_of h t a → TellsLatest s t a r
+    pub tells-read : {h : History} {notes : ℕ} {r : Option ℕ} → reading s ≡ read h notes → r ≡ told_of h t a → TellsLatest s t a (Ok r)
     unfolding told_of
     tells-read {h} e i =
         let x = has_read e in
         let ok = lawful_history x in
         rw i
-        (ifso (basic_cycle h) (λ c. rw (pick_on _ E.Cycle (E.Latest (entry_of h t a)) c) (on_cycle x (from_cycle ok c)))
-        (λ c. rw (pick_off _ E.Cycle (E.Latest (entry_of h t a)) c) (on_latest x ((no_cycle_iff ok).0 c) (entry-is ok t a))))
+        (ifso (basic_cycle h) (λ c. rw (pick_on _ None (Some (entry_of h t a)) c) (on_cycle x (from_cycle ok c)))
+        (λ c. rw (pick_off _ None (Some (entry_of h t a)) c) (on_latest x ((no_cycle_iff ok).0 c) (entry-is ok t a))))
 
-    tells-reading : (q : Reading) → reading s ≡ q → TellsLatest s t a (told_read q t a)
+    tells_told : (r : EntryAnswer) → told r ≡ told_read (reading s) t a → TellsLatest s t a r
     unfolding told_read
-    tells-reading (refused n p) e = tells_refused e
-    tells-reading (read h notes) e = tells-read e refl
+    tells_told r e = go (reading s) refl r e
+      where
+        go : (q : Reading) → reading s ≡ q → (r : EntryAnswer) → told r ≡ told_read q t a → TellsLatest s t a r
+        go (refused n p) i (Err d) e = let z = declined_one e in tells_refused (rw (z.0, z.1) i)
+        go (refused n p) i (Ok l) e = let z : ◌≡◌ {A = ℕ} 0 1 = cc in absurd (omega arith)
+        go (read h notes) i (Err d) e = let z : ◌≡◌ {A = ℕ} 0 1 = cc in absurd (omega arith)
+        go (read h notes) i (Ok l) e = let z : l ≡ told_of h t a = cc in tells-read i z
 
-    tells_is : {r : Entry} → TellsLatest s t a r → r ≡ told_read (reading s) t a
+    tells_is : {r : EntryAnswer} → TellsLatest s t a r → told r ≡ told_read (reading s) t a
     unfolding told_read told_of
-    tells_is (on_refusal {n} {p} x) = rw ((refuses_iff s n p).1 x) refl
-    tells_is (on_cycle x d) = rw (read_has x) (sym (pick_on _ _ _ (to_cycle (lawful_history x) d)))
+    tells_is (on_refusal {d} x) = rw ((refuses_iff s (cause_no d.cause) d.place).1 x) refl
+    tells_is (on_cycle x d) = rw (read_has x) (ap Ok (sym (pick_on _ _ _ (to_cycle (lawful_history x) d))))
     tells_is (on_latest x f e) =
         let ok = lawful_history x in
-        rw (read_has x) (ap E.Latest (entry_one ok e (entry-is ok t a)) ∙ sym (pick_off _ _ _ ((no_cycle_iff ok).1 f)))
+        rw (read_has x) (ap (λ n. Ok (Some n)) (entry_one ok e (entry-is ok t a)) ∙ ap Ok (sym (pick_off _ _ _ ((no_cycle_iff ok).1 f))))
 
-    pub tells_iff : (r : Entry) → (r ≡ told_read (reading s) t a) ↔ TellsLatest s t a r
-    tells_iff r = (λ e. rw e (tells-reading (reading s) refl), tells_is)
+    pub tells_iff : (r : EntryAnswer) → (told r ≡ told_read (reading s) t a) ↔ TellsLatest s t a r
+    tells_iff r = (tells_told r, tells_is)
 
-    pub tells_one : {r q : Entry} → TellsLatest s t a r → TellsLatest s t a q → r ≡ q
-    tells_one x y = tells_is x ∙ sym (tells_is y)
+    pub tells_one : {r q : EntryAnswer} → TellsLatest s t a r → TellsLatest s t a q → r ≡ q
+    tells_one {r} {q} x y = told_one r q (tells_is x ∙ sym (tells_is y))

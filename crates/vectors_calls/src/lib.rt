@@ -12,12 +12,13 @@ ghost use Rattle.causal.specs.Causal.{HoldsVectors, Known};
 ghost use Rattle.vectors_calls.specs.Calls.{SaysLeads, TellsLatest};
 ghost use Rattle.vectors_calls.specs.Answers.{said_of, entry_of, told_of};
 
-use trace::Out;
+use rules::Refusal;
 
 // ── the step of level 3 ──
 
 // s and x get what level 3 goes by, and p the prior transaction of each. Answers the number of the vectors' columns, 0 where the table is used: "with a cycle
 // the old table is used".
+// Kept (5): here and below p, s, x and the width go on one by one to public functions; a struct of them would be taken apart at each call.
 fn go_by(h: &[u64], k: &[u8], p: &mut [u8; 128], s: &mut [u64; 256], x: &mut [u8; 16384]) -> usize
     requires { Ready h.now k.now × Blank p.old × Zeros x.old }
     ensures { Priors (history_of h.now) p.new × Known (history_of h.now) s.new x.new result }
@@ -46,25 +47,18 @@ fn is_led(h: &[u64], s: &[u64; 256], x: &[u8; 16384], width: usize, a: usize, b:
     ensures { result ≡ leads (history_of h.now) a b }
 {
     let last = table::txs(h);
-    if last < a {
-        return false;
-    }
-    if last < b {
+    if last < a || last < b {
         return false;
     }
     if width == 0 {
         return bits::bit(s, b, a);
     }
-    if a == b {
-        return false;
-    }
-    names(s, x, width, a, b)
+    a != b && names(s, x, width, a, b)
 }
 
-// What is said of two transactions, and by which of the two; or the trace is refused, with the number of the row and the place.
-#[derive(Clone, Copy)]
+// What is said of two transactions, and by which of the two.
+#[derive(Clone, Copy, Debug, PartialEq, Eq)]
 pub enum LedBy {
-    Refused(u8, usize),
     ByVectors(bool),
     ByTable(bool),
 }
@@ -85,17 +79,14 @@ fn leads_in(h: &[u64], k: &[u8], a: usize, b: usize) -> LedBy
 }
 
 // Whether transaction a leads to b through basic pairs: read off b's vector "when basic pairs form no cycle", and else off the closed table.
-pub fn leads_to(trace: &[u8], a: usize, b: usize) -> LedBy
+pub fn leads_to(trace: &[u8], a: usize, b: usize) -> Result<LedBy, Refusal>
     ensures { SaysLeads trace.now a b result }
 {
-    // The words of a history's table, and a byte for each number that an operation can have.
-    let mut h = [0u64; 2306];
+    // a byte for each number that an operation can have
+    let mut h = [0u64; table::WORDS];
     let mut k = [0u8; 1025];
-    let read = forcing::prepare(trace, &mut h, &mut k);
-    match read {
-        Out::Bad(no, place) => LedBy::Refused(no, place),
-        Out::Good(_) => leads_in(&h, &k, a, b),
-    }
+    forcing::prepare(trace, &mut h, &mut k)?;
+    Ok(leads_in(&h, &k, a, b))
 }
 
 // ── what a vector has ──
@@ -106,26 +97,16 @@ fn entry_for(h: &[u64], p: &[u8; 128], x: &[u8; 16384], t: usize, a: usize) -> u
     ensures { result ≡ entry_of (history_of h.now) t a }
 {
     let last = table::txs(h);
-    if last < t {
-        return 0;
-    }
-    if last < a {
+    if last < t || last < a {
         return 0;
     }
     let mut c = [0u8; 128];
     columns::fill_columns(h, p, &mut c);
-    x[128 * t + c[a] as usize] as usize
+    usize::from(x[128 * t + usize::from(c[a])])
 }
 
-// What a transaction's vector has for a session; where basic pairs form a cycle no vectors are made.
-#[derive(Clone, Copy)]
-pub enum Entry {
-    Refused(u8, usize),
-    Cycle,
-    Latest(usize),
-}
-
-fn latest_in(h: &[u64], k: &[u8], t: usize, a: usize) -> Entry
+// What a transaction's vector has for a session; none where basic pairs form a cycle, so that no vectors are made.
+fn latest_in(h: &[u64], k: &[u8], t: usize, a: usize) -> Option<usize>
     requires { Ready h.now k.now }
     ensures { result ≡ told_of (history_of h.now) t a }
 {
@@ -134,22 +115,19 @@ fn latest_in(h: &[u64], k: &[u8], t: usize, a: usize) -> Entry
     let mut x = [0u8; 16384];
     let width = go_by(h, k, &mut p, &mut s, &mut x);
     if width == 0 {
-        return Entry::Cycle;
+        return None;
     }
-    Entry::Latest(entry_for(h, &p, &x, t, a))
+    Some(entry_for(h, &p, &x, t, a))
 }
 
 // "the latest known transaction" of the session of a that t's vector has, with t itself in it: 0 where there is none, and where a does not count as committed
 // or is 0, which is of no session.
-pub fn latest_known(trace: &[u8], t: usize, a: usize) -> Entry
+pub fn latest_known(trace: &[u8], t: usize, a: usize) -> Result<Option<usize>, Refusal>
     ensures { TellsLatest trace.now t a result }
 {
     // as in `leads_to`
-    let mut h = [0u64; 2306];
+    let mut h = [0u64; table::WORDS];
     let mut k = [0u8; 1025];
-    let read = forcing::prepare(trace, &mut h, &mut k);
-    match read {
-        Out::Bad(no, place) => Entry::Refused(no, place),
-        Out::Good(_) => latest_in(&h, &k, t, a),
-    }
+    forcing::prepare(trace, &mut h, &mut k)?;
+    Ok(latest_in(&h, &k, t, a))
 }

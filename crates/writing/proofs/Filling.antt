@@ -11,23 +11,25 @@ use Rattle.base.proofs.Fill.{Appended}
 use Rattle.base.proofs.Tests.{pick_on, pick_off}
 use Rattle.rules.specs.Numbers.{over}
 use Rattle.rules.proofs.Numbers.{appended-over}
-use Rattle.writing.specs.declared.Filled.{Filled}
-use Rattle.writing.specs.declared.Filled.TheVariants.{Refused, Length}
-use Rattle.writing.specs.Filling.{Said, refusing, answering, said, refusal, content, fill_of, into}
+use Rattle.std.specs.Prelude.{Ok, Err}
+use Rattle.rules.specs.Refusals.{cause_no, refusal_at}
+use Rattle.rules.specs.declared.Cause.TheVariants.{OutputRoom}
+use Rattle.rules.specs.declared.Refusal.{Refusal}
+use Rattle.rules.proofs.Refusals.{refusal_one}
+use Rattle.writing.specs.Filling.{Filled, Said, refusing, answering, said, refusal, content, fill_of, into}
 
 -- an answer is known by what it says
 pub said_one : (r q : Filled) → said r ≡ said q → r ≡ q
 unfolding said
-said_one (Refused n p) (Refused m q) e =
-    let a : n ≡ m = ap (λ (x : Said). x.no) e in let b : p ≡ q = ap (λ (x : Said). x.place) e in rw (a, b)
-said_one (Refused n p) (Length m) e = absurd (true≢false (ap (λ (x : Said). x.is_refused) e))
-said_one (Length n) (Refused m q) e = absurd (false≢true (ap (λ (x : Said). x.is_refused) e))
-said_one (Length n) (Length m) e = ap Length (ap (λ (x : Said). x.length) e)
+said_one (Err r) (Err q) e = ap Err (refusal_one (ap (λ (x : Said). x.no) e) (ap (λ (x : Said). x.place) e))
+said_one (Err r) (Ok m) e = absurd (true≢false (ap (λ (x : Said). x.is_refused) e))
+said_one (Ok n) (Err q) e = absurd (false≢true (ap (λ (x : Said). x.is_refused) e))
+said_one (Ok n) (Ok m) e = ap Ok (ap (λ (x : Said). x.length) e)
 
 -- a refusal
-pub into_refused : (n p : ℕ) (out : List ℕ) → fill_of (said (Refused n p)) out ≡ into (refusal n p) out
+pub into_refused : (r : Refusal) (out : List ℕ) → fill_of (said (Err r)) out ≡ into (refusal (cause_no r.cause) r.place) out
 unfolding said into
-into_refused n p out = refl
+into_refused r out = refl
 
 -- l does not fit; it does
 pub into_short : (l o : List ℕ) → length o < length l → into (content l) o ≡ fill_of (refusing 16 (length l)) o
@@ -40,11 +42,11 @@ into-fits l o h = pick_off (ltb (length o) (length l)) (fill_of (refusing 16 (le
 
 -- so it was refused; so it was put
 module _ (l : List ℕ) {out : List ℕ} where
-  pub too_short : {n : ℕ} → n ≡ length l → length out < n → fill_of (said (Refused 16 n)) out ≡ into (content l) out
+  pub too_short : {n : ℕ} → n ≡ length l → length out < n → fill_of (said (Err (refusal_at OutputRoom n))) out ≡ into (content l) out
   unfolding said
   too_short e h = rw e (sym (into_short l out (omega arith)))
 
-  pub filled : {b : List ℕ} {r : ℕ} → Appended out 0 b r l → fill_of (said (Length r)) b ≡ into (content l) out
+  pub filled : {b : List ℕ} {r : ℕ} → Appended out 0 b r l → fill_of (said (Ok r)) b ≡ into (content l) out
   unfolding said
   filled {b} {r} x =
       let e : r ≡ length l = omega (arith, x.end) in rw (e, appended-over x) (sym (into-fits l out (omega (arith, x.room))))

@@ -10,6 +10,7 @@ pub mod Rewriting
 pub mod Listed
 pub mod Within
 pub mod Forms
+pub mod Named
 pub mod Sizes
 pub mod Marks
 pub mod Cases

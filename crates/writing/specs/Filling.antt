@@ -1,9 +1,9 @@
 -- Document 02, request One: a call "fills a lent buffer and answers the length", or it refuses.
-use Rattle.std.specs.Prelude.{ℕ, ◌≤◌, ◌≡◌, Bool, true, false, List, length, ltb}
+use Rattle.std.specs.Prelude.{ℕ, ◌≤◌, ◌≡◌, Bool, true, false, List, length, ltb, Result, Ok, Err}
 use Rattle.base.specs.Base.{pick}
 use Rattle.rules.specs.Numbers.{over}
-use Rattle.writing.specs.declared.Filled.{Filled}
-use Rattle.writing.specs.declared.Filled.TheVariants.{Refused, Length}
+use Rattle.rules.specs.Refusals.{cause_no}
+use Rattle.rules.specs.declared.Refusal.{Refusal}
 
 -- an answer in the documents' numbers: whether it is a refusal; its number and place, 0 and 0 where it is none; the length, 0 on refusal
 pub record Said : Type 0 where
@@ -18,10 +18,14 @@ refusing n p = record { is_refused = true; no = n; place = p; length = 0 }
 abbrev pub answering : ℕ → Said
 answering n = record { is_refused = false; no = 0; place = 0; length = n }
 
--- what each case of the answer says
+-- the answer: the length of what was put at the buffer's front, or a refusal
+abbrev pub Filled : Type 0
+Filled = Result ℕ Refusal
+
+-- what each case of it says
 unfoldable pub said : Filled → Said
-said (Refused n p) = refusing n p
-said (Length n) = answering n
+said (Err r) = refusing (cause_no r.cause) r.place
+said (Ok n) = answering n
 
 -- what is to be put into the buffer, or the refusal that comes before
 pub data Work : Type 0 where

@@ -5,10 +5,10 @@ use mathlib.Core.Bool.{true, true≢false, false≢true}
 use mathlib.Core.List.{List}
 use mathlib.Core.Logic.{◌⊎◌, inl, inr, ⊎_elim, ◌↔◌}
 use lib.ListN.{length}
+use Rattle.std.specs.Prelude.{Ok, Err}
 use Rattle.rules.specs.Numbers.{over}
-use Rattle.writing.specs.Filling.{Said, refusing, answering, said, content, Fill, fill_of}
-use Rattle.writing.specs.declared.Filled.{Filled}
-use Rattle.writing.specs.declared.Filled.TheVariants.{Refused, Length}
+use Rattle.rules.specs.Refusals.{cause_no}
+use Rattle.writing.specs.Filling.{Said, refusing, answering, said, Fill, fill_of, Filled}
 use Rattle.written.specs.Fills.{FilledWith, Fills}
 
 -- ── the promise is kept ──
@@ -65,8 +65,8 @@ module _ (D : ℕ → ℕ → Type 0) (P : List ℕ → Type 0) (o : List ℕ) (
 -- an answer is a refusal or a length
 said_cases : (r : Filled) → ((m : ℕ) × (p : ℕ) × (said r ≡ refusing m p)) ⊎ ((m : ℕ) × (said r ≡ answering m))
 unfolding said
-said_cases (Refused m p) = inl (m, p, refl)
-said_cases (Length m) = inr (m, refl)
+said_cases (Err r) = inl (cause_no r.cause, r.place, refl)
+said_cases (Ok m) = inr (m, refl)
 
 -- where P leaves one content
 module _ {D : ℕ → ℕ → Type 0} {P : List ℕ → Type 0} (one : (x y : List ℕ) → P x → P y → x ≡ y) {o : List ℕ} {r q : Filled} {c d : List ℕ}

@@ -6,9 +6,8 @@ use mathlib.Core.Logic.{⊎_elim, ◌↔◌}
 use lib.ListN.{length}
 use lib.Seq.{get_or-drop}
 use Rattle.base.proofs.Tests.{split}
-use Rattle.writing.specs.Filling.{refusing, said, fill_of}
+use Rattle.writing.specs.Filling.{refusing, said, fill_of, Filled}
 use Rattle.writing.specs.Writing.{written, written_given}
-use Rattle.writing.specs.declared.Filled.{Filled}
 use Rattle.writing.proofs.Rewriting.{given_none, given_steps_lem}
 use Rattle.written.specs.Declined.{WriteDeclines}
 use Rattle.written.specs.Writes.{AllBytes, TraceOf}

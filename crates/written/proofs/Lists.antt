@@ -14,11 +14,10 @@ use Rattle.rules.specs.Records.{is_second}
 use Rattle.rules.specs.Reading.{Reading, refused, read, reading}
 use Rattle.demand1.specs.Rows.{HasHistory}
 use Rattle.demand1.proofs.Readings.{refuses_iff, has_read, read_has, history_one}
-use Rattle.writing.specs.Filling.{refusing, answering, said, fill_of}
+use Rattle.writing.specs.Filling.{refusing, answering, said, fill_of, Filled}
 use Rattle.writing.specs.Steps.{steps_in, step_bytes}
 use Rattle.writing.specs.Writing.{Followed, good, follow}
 use Rattle.writing.specs.Listing.{history_steps, stepped}
-use Rattle.writing.specs.declared.Filled.{Filled}
 use Rattle.writing.proofs.Grown.{Grown, grown_none}
 use Rattle.writing.proofs.Filling.{into_short, into-fits}
 use Rattle.writing.proofs.Followed.{followed, grown_follow, follow_end}

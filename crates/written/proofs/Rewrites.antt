@@ -7,6 +7,7 @@ use mathlib.Core.Logic.{⊎_elim, ◌↔◌}
 use native.Mathlib.Omega.{arith}
 use lib.ListN.{length}
 use Rattle.base.proofs.Tests.{ifso, split}
+use Rattle.std.specs.Prelude.{Ok}
 use Rattle.rules.specs.Numbers.{over}
 use Rattle.rules.specs.History.{History}
 use Rattle.rules.specs.Records.{is_second}
@@ -14,13 +15,11 @@ use Rattle.rules.specs.Reading.{Reading, refused, read, reading}
 use Rattle.demand1.specs.Rows.{serial, ReadInto, HasHistory}
 use Rattle.demand1.proofs.Lawful.{lawful_history}
 use Rattle.demand1.proofs.Readings.{refuses_iff, has_history, has_read, read_has, history_one}
-use Rattle.writing.specs.Filling.{refusing, answering, said, content, Fill, fill_of, into}
+use Rattle.writing.specs.Filling.{refusing, answering, said, content, Fill, fill_of, into, Filled}
 use Rattle.writing.specs.Steps.{steps_in}
 use Rattle.writing.specs.Writing.{trace_of, written}
 use Rattle.writing.specs.Listing.{history_steps, stepped}
 use Rattle.writing.specs.Rewriting.{rewritten, rewritten_whole}
-use Rattle.writing.specs.declared.Filled.{Filled}
-use Rattle.writing.specs.declared.Filled.TheVariants.{Length}
 use Rattle.writing.proofs.Filling.{into-fits}
 use Rattle.writing.proofs.Listed.{listing-length}
 use Rattle.writing.proofs.Rewriting.{again_refused, again-steps, whole_refused, whole-second, whole-first}
@@ -231,10 +230,10 @@ module _ {s : List ℕ} (b : AllBytes s) (first : is_second s ≡ false) {h : Hi
   pub own-again : {x X B : List ℕ} {r : Filled} → steps_length h ≤ length x → RewritesTrace s x o r X B → (said r ≡ answering (length s)) × (B ≡ over s o)
   unfolding said
   own-again {x} l u =
-      let w = rewrites s b x o (Length (length s)) (stepped s x).buffer (over s o) (sym (with_steps s b first (has_history q) x o l ∙ own-written)) refl in
+      let w = rewrites s b x o (Ok (length s)) (stepped s x).buffer (over s o) (sym (with_steps s b first (has_history q) x o l ∙ own-written)) refl in
       let z = rewrites_one u w in
       (z.0, z.2)
 
   pub own-whole : {B : List ℕ} {r : Filled} → RewritesWhole s o r B → (said r ≡ answering (length s)) × (B ≡ over s o)
   unfolding said
-  own-whole u = whole_one u (rewrites_whole s b o (Length (length s)) (over s o) (sym (whole-first s o (read_has (has_history q)) first ∙ own-written)))
+  own-whole u = whole_one u (rewrites_whole s b o (Ok (length s)) (over s o) (sym (whole-first s o (read_has (has_history q)) first ∙ own-written)))

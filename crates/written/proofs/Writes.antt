@@ -13,11 +13,10 @@ use Rattle.rules.specs.History.{History, tx_count, empty}
 use Rattle.rules.specs.declared.Event.{Event}
 use Rattle.rules.specs.declared.Event.TheVariants.{End, Other}
 use Rattle.demand1.specs.Rows.{serial, number_of}
-use Rattle.writing.specs.Filling.{refusing, said, fill_of}
+use Rattle.writing.specs.Filling.{refusing, said, fill_of, Filled}
 use Rattle.writing.specs.Steps.{step_at, step_count, steps_from, steps_in}
 use Rattle.writing.specs.Writing.{Followed, good, follow, item_of, records_of, trace_of, written}
 use Rattle.writing.specs.Forms.{mark}
-use Rattle.writing.specs.declared.Filled.{Filled}
 use Rattle.writing.proofs.Grown.{Grown, grown_none, counts}
 use Rattle.writing.proofs.Followed.{followed}
 use Rattle.written.specs.Declined.{trace_length, WriteDeclines, bad_step, ends_inside, trace_short}

@@ -1,8 +1,7 @@
 -- What is promised of a call that fills a lent buffer, of any answer r and of what the buffer then holds. `said` gives an answer's numbers.
 use Rattle.std.specs.Prelude.{ℕ, ◌≡◌, true, List, ◌↔◌, length}
 use Rattle.rules.specs.Numbers.{over}
-use Rattle.writing.specs.Filling.{refusing, answering, said}
-use Rattle.writing.specs.declared.Filled.{Filled}
+use Rattle.writing.specs.Filling.{refusing, answering, said, Filled}
 
 -- something of which P holds was put over o, which made b of it; m, which is answered, is its length
 pub record FilledWith (P : List ℕ → Type 0) (o b : List ℕ) (m : ℕ) : Type 0 where

@@ -1,7 +1,7 @@
 -- Document 02, request One: "a starting serial" and the steps given in one, as the program gets them: when it is refused, and what is promised of writing it.
 use Rattle.std.specs.Prelude.{ℕ, ◌<◌, ◌≤◌, List, length, drop}
 use Rattle.rules.specs.Numbers.{le}
-use Rattle.writing.specs.declared.Filled.{Filled}
+use Rattle.writing.specs.Filling.{Filled}
 use Rattle.written.specs.Declined.{WriteDeclines}
 use Rattle.written.specs.Fills.{Fills}
 use Rattle.written.specs.Writes.{TraceOf}

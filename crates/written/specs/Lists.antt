@@ -3,7 +3,7 @@ use Rattle.std.specs.Prelude.{ℕ, ◌+◌, ◌*◌, ◌≡◌, false, List, len
 use Rattle.rules.specs.History.{History, tx_count, op_count}
 use Rattle.rules.specs.Records.{is_second}
 use Rattle.demand1.specs.Rows.{HasHistory}
-use Rattle.writing.specs.declared.Filled.{Filled}
+use Rattle.writing.specs.Filling.{Filled}
 use Rattle.written.specs.Steps.{HasStep, kind_behind, session_behind, key_behind, value_behind, Comes}
 use Rattle.written.specs.Declined.{steps_length, ListDeclines}
 use Rattle.written.specs.Fills.{Fills}

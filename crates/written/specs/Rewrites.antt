@@ -3,7 +3,7 @@ use Rattle.std.specs.Prelude.{ℕ, ◌<◌, ◌≤◌, ◌≡◌, true, false, L
 use Rattle.rules.specs.History.{History}
 use Rattle.rules.specs.Records.{is_second}
 use Rattle.demand1.specs.Rows.{serial, Refuses, ReadInto, HasHistory}
-use Rattle.writing.specs.declared.Filled.{Filled}
+use Rattle.writing.specs.Filling.{Filled}
 use Rattle.written.specs.Declined.{trace_length, steps_length, ListDeclines}
 use Rattle.written.specs.Fills.{FilledWith, Fills}
 use Rattle.written.specs.Writes.{TraceOf}

@@ -4,7 +4,7 @@ use Rattle.rules.specs.History.{History, tx_count}
 use Rattle.rules.specs.Records.{is_second}
 use Rattle.demand1.specs.Rows.{kind, serial, session, key, value, status, end_number, behind, ReadInto}
 use Rattle.writing.specs.Steps.{step_count, steps_in}
-use Rattle.writing.specs.declared.Filled.{Filled}
+use Rattle.writing.specs.Filling.{Filled}
 use Rattle.written.specs.Steps.{kind_behind, session_behind, status_behind, key_behind, value_behind}
 use Rattle.written.specs.Says.{Says}
 use Rattle.written.specs.Declined.{WriteDeclines}

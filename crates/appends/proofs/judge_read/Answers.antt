@@ -1,5 +1,4 @@
 use mathlib.Core.Path.{refl, ◌∙◌}
-use borrow.Author.Rules.{rules}
 use Rattle.appends.proofs.Answering.{ungraded, writes_count}
 use Rattle.appends.proofs.Below.{write_ties, writes_under}
 use Rattle.appends.proofs.judge_read.Goals as goal

@@ -1,5 +1,4 @@
 use native.Mathlib.Omega.{arith}
-use borrow.Author.Rules.{rules}
 use Rattle.base.proofs.Fill.{appended-length}
 use Rattle.appends.proofs.Answering.{writes_count, both_count, both_sheets, writes_put, both_put, lists_put}
 use Rattle.appends.proofs.Below.{writes_under}

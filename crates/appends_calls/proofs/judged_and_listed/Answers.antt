@@ -1,5 +1,4 @@
 use Rattle.appends_calls.proofs.Calls.{judged-and-listed}
-use borrow.Author.Rules.{rules}
 use Rattle.appends_calls.proofs.judged_and_listed.Goals as goal
 
 -- all that is known of either call is its contract

@@ -1,4 +1,3 @@
-use borrow.Author.Rules.{rules}
 use Rattle.appends_calls.proofs.Printed.{lists_printed_iff}
 use mathlib.Core.Path.{sym}
 use Rattle.appends_calls.proofs.printed_lists.Goals as goal

@@ -1,5 +1,4 @@
 use Rattle.appends_calls.proofs.Calls.{promised_by}
-use borrow.Author.Rules.{rules}
 use Rattle.appends_calls.proofs.promised_lists.Goals as goal
 
 -- all that is known of the call is its contract

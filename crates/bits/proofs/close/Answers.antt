@@ -1,4 +1,4 @@
-use mathlib.Core.Path.{◌≡◌, ◌∙◌, sym}
+use mathlib.Core.Path.{◌≡◌}
 use native.Mathlib.Omega.{arith}
 use Rattle.bits.proofs.Passes.{passed_start, passed_step}
 use Rattle.bits.proofs.close.Goals as goal
@@ -6,16 +6,10 @@ use Rattle.bits.proofs.close.Goals as goal
 pub loop-k-init : goal.loop-k-init
 loop-k-init c = passed_start c.requires
 
-pub pass-requires : goal.pass-requires
-pass-requires c = (c.loop-k.invariant.under, omega arith)
-
 pub loop-k-preserved : goal.loop-k-preserved
 loop-k-preserved c =
     let l = c.loop-k in
     passed_step l.k (omega arith) l.invariant c.pass.ensures
-
-pub shape_of-t : goal.shape_of-t
-shape_of-t c = c.loop-k.invariant.under.room ∙ sym c.requires.room
 
 pub returns : goal.returns
 returns c =

@@ -2,9 +2,6 @@ use native.Mathlib.Omega.{arith}
 use Rattle.bits.proofs.Largest.{greatest_high, greatest_low, greatest_none}
 use Rattle.bits.proofs.greatest_of.Goals as goal
 
-pub overflow_add-result : goal.overflow_add-result
-overflow_add-result c = omega (arith, c.greatest.ensures.few)
-
 pub returns-then-hi-ne0 : goal.returns-then-hi-ne0
 returns-then-hi-ne0 c = (greatest_high _ _ c.greatest.ensures, omega (arith, c.greatest.ensures.few))
 

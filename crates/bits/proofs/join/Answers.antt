@@ -8,8 +8,5 @@ loop-i-init c = rewritten_start _ _
 pub loop-i-preserved : goal.loop-i-preserved
 loop-i-preserved c = let l = c.loop-i in join_step l.i (omega arith) _ l.invariant
 
-pub shape_of-to : goal.shape_of-to
-shape_of-to c = c.loop-i.invariant.room
-
 pub returns : goal.returns
-returns c = joined c.requires.1 c.loop-i-test.false _ c.loop-i.invariant
+returns c = joined c.requires.1 (omega arith) _ c.loop-i.invariant

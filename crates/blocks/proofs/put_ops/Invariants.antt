@@ -1,8 +1,5 @@
-use Rattle.std.proofs.Common.{arith}
-use Rattle.base.proofs.Fill.{appended-length}
 use Rattle.table.specs.Table.{history_of}
-use Rattle.table.proofs.Chain.{chain_has}
-use Rattle.blocks.proofs.Blocks.{OpsLeft, ops_start, op_room, ops_next, ops_end}
+use Rattle.blocks.proofs.Blocks.{OpsLeft}
 use Rattle.blocks.proofs.put_ops.Given as goal
 
 abbrev pub invariant-loop-i : goal.invariant-loop-i

@@ -1,4 +1,4 @@
-use Rattle.std.proofs.Common.{arith, rules}
+use Rattle.std.proofs.Common.{arith}
 use Rattle.table.proofs.Words.{session_small, status_small}
 use Rattle.blocks.proofs.Blocks.{close_room, ops_room, open_room, tx-put}
 use Rattle.blocks.proofs.put_tx.Goals as goal

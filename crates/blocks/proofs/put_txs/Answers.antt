@@ -1,14 +1,6 @@
-use Rattle.std.proofs.Common.{◌+◌, ◌≤◌, arith}
-use Rattle.base.proofs.Fill.{appended-length}
-use Rattle.rules.specs.History.{tx_count}
-use Rattle.table.specs.Table.{history_of}
-use Rattle.writing.specs.Forms.{blocks_of}
-use Rattle.blocks.specs.Blocks.{tx_marks}
-use Rattle.blocks.proofs.Blocks.{Leaving, leaving_start, leaving_room, leaving_step, leaving_end, txs_all, txs_top, txs_room, txs_none}
+use Rattle.std.proofs.Common.{arith}
+use Rattle.blocks.proofs.Blocks.{leaving_start, leaving_room, leaving_step, leaving_end, txs_all, txs_top, txs_room, txs_none}
 use Rattle.blocks.proofs.put_txs.Goals as goal
-
-pub txs-t-requires : goal.txs-t-requires
-txs-t-requires c = c.requires.0
 
 pub loop-t-init : goal.loop-t-init
 loop-t-init c =
@@ -27,9 +19,6 @@ put_tx-from-requires c =
 pub loop-t-preserved : goal.loop-t-preserved
 loop-t-preserved c =
     (omega (arith, c.loop-t.invariant.0), leaving_step c.loop-t.invariant.1 _ (txs_top _ _ c.loop-t-test.true) c.put_tx-from.ensures)
-
-pub shape_of-out : goal.shape_of-out
-shape_of-out c = appended-length c.loop-t.invariant.1.is.is
 
 pub returns : goal.returns
 returns c = leaving_end c.loop-t.invariant.1 (txs_none _ _ (omega arith))

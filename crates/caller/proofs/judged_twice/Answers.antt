@@ -5,4 +5,4 @@ use Rattle.caller.proofs.judged_twice.Goals as goal
 -- all that is known of either call is its contract
 pub returns : goal.returns
 returns c =
-    judged-twice _ _ _ _ _ _ _ _ _ c.judge-first.ensures c.judge-second.ensures
+    judged-twice _ _ _ _ _ _ _ _ _ c.judge.ensures c.judge-2.ensures

@@ -3,7 +3,6 @@ use native.Mathlib.Omega.{arith}
 use Rattle.base.proofs.Tests.{denied, granted}
 use Rattle.claims_rules.specs.Claims.{no_read, unclean, reply}
 use Rattle.claims_rules.proofs.Claims.{unclean-none, unclean-some, in_unclean, in_strange, in_paired}
-use borrow.Author.Rules.{rules}
 use mathlib.Core.Bool.{not}
 use Rattle.claims.proofs.claim_history.Goals as goal
 

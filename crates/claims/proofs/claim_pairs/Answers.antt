@@ -4,7 +4,6 @@ use native.Mathlib.Omega.{arith}
 use Rattle.causal.proofs.Given.{fresh}
 use Rattle.claims_rules.proofs.Few.{members_many}
 use Rattle.claims.proofs.TurnedFirsts.{seats_small}
-use borrow.Author.Rules.{rules}
 use Rattle.claims.proofs.claim_pairs.Goals as goal
 
 pub fill_priors-requires : goal.fill_priors-requires

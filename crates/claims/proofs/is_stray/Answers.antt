@@ -1,14 +1,20 @@
+use mathlib.Core.Bool.{false≢true}
+use mathlib.Core.Path.{sym, ◌∙◌}
+use borrow.Author.Tests.{le-leb}
 use Rattle.claims.proofs.Seats.{stray_large, stray_other, stray_again}
-use borrow.Author.Rules.{rules}
-use mathlib.Core.Path.{ap}
-use mathlib.Core.Bool.{not}
 use Rattle.claims.proofs.is_stray.Goals as goal
-
-pub returns-then-a-ge128 : goal.returns-then-a-ge128
-returns-then-a-ge128 c = stray_large _ _ _ c.if-a-ge128.true
+use Rattle.claims.proofs.is_stray.Goals.{then-a-ge128, else-a-ge128}
 
 pub returns-then-not-has : goal.returns-then-not-has
-returns-then-not-has c = stray_other _ _ _ c.has.ensures (ap not c.if-not-has.true)
+returns-then-not-has c =
+    elim c.if-a-ge128.branch [
+      | then-a-ge128 w ↦ c.if-not-has.true ∙ stray_large _ _ _ w.if-a-ge128.true
+      | else-a-ge128 w ↦ c.if-not-has.true ∙ stray_other _ _ _ w.has.ensures (sym w.value-is ∙ c.if-not-has.true)
+    ]
 
-pub returns : goal.returns
-returns c = stray_again _ _ _ c.if-a-ge128.false c.has.ensures (ap not c.if-not-has.false) c.has-2.ensures
+pub returns-else-not-has : goal.returns-else-not-has
+returns-else-not-has c =
+    elim c.if-a-ge128.branch [
+      | then-a-ge128 w ↦ absurd (false≢true (sym c.if-not-has.false ∙ w.value-is ∙ le-leb _ _ w.if-a-ge128.true))
+      | else-a-ge128 w ↦ stray_again _ _ _ w.if-a-ge128.false w.has.ensures (sym w.value-is ∙ c.if-not-has.false) c.has-else-not-has.ensures
+    ]

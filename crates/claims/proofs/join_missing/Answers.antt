@@ -1,5 +1,4 @@
 use Rattle.claims.proofs.Seats.{joined}
-use borrow.Author.Rules.{rules}
 use Rattle.claims.proofs.join_missing.Goals as goal
 
 pub returns : goal.returns

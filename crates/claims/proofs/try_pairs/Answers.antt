@@ -1,7 +1,5 @@
-use native.Mathlib.Omega.{arith}
 use Rattle.claims_rules.specs.Claims.{reply}
 use Rattle.claims.proofs.TurnedFirsts.{first_seat, says_pair, says_yes}
-use borrow.Author.Rules.{rules}
 use Rattle.claims.proofs.try_pairs.Goals as goal
 
 pub turned_firsts-w-requires : goal.turned_firsts-w-requires

@@ -1,6 +1,5 @@
 use mathlib.Core.Path.{sym}
 use native.Mathlib.Omega.{arith}
-use borrow.Author.Rules.{rules}
 use Rattle.base.proofs.Tests.{denied, granted}
 use Rattle.pairs.proofs.Priors.{has_row, prior_at}
 use Rattle.columns.proofs.Columns.{column_none}
@@ -12,19 +11,10 @@ use Rattle.columns.proofs.column.Goals as goal
 pub returns-then-not-is_committed : goal.returns-then-not-is_committed
 returns-then-not-is_committed c = sym (column_none _ _ (denied c.is_committed.ensures (ap not c.if-not-is_committed.true)))
 
-pub bounds-p-t : goal.bounds-p-t
-bounds-p-t c = has_row c.requires.2
-
 pub returns-then-p-t-eq0 : goal.returns-then-p-t-eq0
 returns-then-p-t-eq0 c =
     let p = c.requires in
     column_first p.2 p.1 (granted c.is_committed.ensures (ap not c.if-not-is_committed.false)) c.if-p-t-eq0.true
-
-pub bounds-p-t-2 : goal.bounds-p-t-2
-bounds-p-t-2 c = has_row c.requires.2
-
-pub overflow_cast-result-2 : goal.overflow_cast-result-2
-overflow_cast-result-2 c = let p = c.requires in omega (arith, (prior_at p.2 p.1).below, has_row p.2)
 
 pub bounds-c-p : goal.bounds-c-p
 bounds-c-p c = let p = c.requires in omega (arith, (prior_at p.2 p.1).below, has_row p.2)

@@ -1,5 +1,4 @@
 use mathlib.Core.Path.{refl}
-use borrow.Author.Rules.{rules}
 use Rattle.columns.specs.Columns.{says_column}
 use Rattle.columns.proofs.is_column.Goals as goal
 

@@ -1,4 +1,3 @@
-use borrow.Author.Rules.{rules}
 use Rattle.appends_rules.specs.Appends.{append_of}
 use Rattle.elements.proofs.append_of.Goals as goal
 

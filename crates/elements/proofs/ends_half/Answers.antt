@@ -1,6 +1,5 @@
 use mathlib.Core.Path.{ap, sym, ◌∙◌}
 use native.Mathlib.Omega.{arith}
-use borrow.Author.Rules.{rules}
 use Rattle.appends_rules.specs.Appends.{append_of}
 use Rattle.elements.proofs.Scanning.{half_is, half_none}
 use Rattle.elements.proofs.Lists.{at_length, last-at}
@@ -8,12 +7,6 @@ use Rattle.elements.proofs.ends_half.Goals as goal
 
 pub returns-then-n-eq0 : goal.returns-then-n-eq0
 returns-then-n-eq0 c = sym (half_none _ _ _ _ (at_length c.requires.at ∙ c.if-n-eq0.true))
-
-pub append_at-requires : goal.append_at-requires
-append_at-requires c = (c.requires, omega arith)
-
-pub is_half-requires : goal.is_half-requires
-is_half-requires c = let p = c.requires in (p.held, p.small, omega (arith, c.append_at.ensures.below))
 
 pub returns : goal.returns
 returns c =

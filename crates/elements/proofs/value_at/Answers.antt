@@ -1,4 +1,3 @@
-use borrow.Author.Rules.{rules}
 use Rattle.appends_rules.specs.Appends.{value_at}
 use Rattle.elements.proofs.value_at.Goals as goal
 

@@ -1,56 +1,61 @@
+use mathlib.Core.Path.{◌≡◌, ◌∙◌}
+use mathlib.Core.Bool.{true, false}
+use mathlib.Core.Logic.{⊎_elim}
 use native.Mathlib.Omega.{arith}
+use Rattle.std.proofs.Common.{rules}
+use Rattle.std.proofs.lemmas.Iterator.{first_from_Range}
+use Rattle.table.specs.Table.{history_of}
+use Rattle.appends_rules.specs.Appends.{values_at}
+use Rattle.appends_rules.specs.ListKinds.{is_again, is_undone}
 use Rattle.elements.proofs.Lists.{at_length}
-use Rattle.faults.proofs.Faults.{fault_8, fault_9, fault_10, fault_none}
+use Rattle.faults.proofs.Faults.{first_found, fault_7, fault_8, fault_9, fault_10, fault_11}
 use Rattle.faults.proofs.fault_at.Goals as goal
+use Rattle.faults.proofs.fault_at.Goals.{in-Again, in-Undone, in-Half}
 
-pub first_fault-requires : goal.first_fault-requires
-first_fault-requires c = c.requires.0
+pub returns-in-Lost : goal.returns-in-Lost
+returns-in-Lost c =
+    ⊎_elim (λ e. rw e (record { is = fault_7 _ _ _; below = omega arith })) (λ e. rw e (record { is = fault_11 _ _ _; below = omega arith })) c.in-Lost.is
 
 pub append_at-requires : goal.append_at-requires
 append_at-requires c =
     let p = c.requires in
-    (p.0, c.first_fault.ensures.1 p.1)
-
-pub returns-then-kind-eq8 : goal.returns-then-kind-eq8
-returns-then-kind-eq8 c =
-    record {
-      is = fault_8 _ _ _ _ c.append_at.ensures.is c.if-kind-eq8.true c.first_fault.ensures.0;
-      below
-          = c.append_at.ensures.below;
-    }
-
-pub first_fault-requires-then-kind-eq9 : goal.first_fault-requires-then-kind-eq9
-first_fault-requires-then-kind-eq9 c = c.requires.0
-
-pub append_at-requires-then-kind-eq9 : goal.append_at-requires-then-kind-eq9
-append_at-requires-then-kind-eq9 c =
-    let p = c.requires in
-    (p.0, c.first_fault-then-kind-eq9.ensures.1 p.1)
-
-pub returns-then-kind-eq9 : goal.returns-then-kind-eq9
-returns-then-kind-eq9 c =
-    record {
-      is = fault_9 _ _ _ _ c.append_at-then-kind-eq9.ensures.is c.if-kind-eq9.true c.first_fault-then-kind-eq9.ensures.0;
-      below
-          = c.append_at-then-kind-eq9.ensures.below;
-    }
-
-pub overflow_sub-n : goal.overflow_sub-n
-overflow_sub-n c = omega (arith, c.requires.1)
-
-pub append_at-requires-then-kind-eq10 : goal.append_at-requires-then-kind-eq10
-append_at-requires-then-kind-eq10 c =
-    let p = c.requires in
-    (p.0, omega (arith, p.1))
-
-pub returns-then-kind-eq10 : goal.returns-then-kind-eq10
-returns-then-kind-eq10 c =
-    record {
-      is = fault_10 _ _ _ _ c.append_at-then-kind-eq10.ensures.is c.if-kind-eq10.true
-          (omega (arith, at_length c.requires.0.at));
-      below = c.append_at-then-kind-eq10.ensures.below;
-    }
+    let v = values_at c.args.s.now c.args.e.at in
+    let undone = is_undone (history_of c.args.h.now) c.args.e.key v in (
+      p.0,
+      elim c.match-kind.branch [
+        | in-Again w ↦
+            let f =
+            first_found (is_again v) _ _
+            (first_from_Range _ _ _ _ (λ q. is_again v q ≡ true) (λ q. is_again v q ≡ false) w.find.ensures.ran (λ x q k. search rules) (λ x q k. search rules)) in
+            omega (arith, f.1)
+        | in-Undone w ↦
+            let f =
+            first_found undone _ _
+            (first_from_Range _ _ _ _ (λ q. undone q ≡ true) (λ q. undone q ≡ false) w.find-in-Undone.ensures.ran (λ x q k. search rules) (λ x q k. search rules)) in
+            omega (arith, f.1)
+        | in-Half w ↦ omega arith
+      ],
+    )
 
 pub returns : goal.returns
 returns c =
-    record { is = fault_none _ _ _ _ c.if-kind-eq8.false c.if-kind-eq9.false c.if-kind-eq10.false; below = omega arith }
+    let p = c.requires in
+    let v = values_at c.args.s.now c.args.e.at in
+    let undone = is_undone (history_of c.args.h.now) c.args.e.key v in
+    record {
+      is =
+          elim c.match-kind.branch [
+            | in-Again w ↦
+                let f =
+                first_found (is_again v) _ _
+                (first_from_Range _ _ _ _ (λ q. is_again v q ≡ true) (λ q. is_again v q ≡ false) w.find.ensures.ran (λ x q k. search rules) (λ x q k. search rules)) in
+                rw w.in-Again.is (fault_8 _ _ _ c.append_at.ensures.is (at_length p.0.at) (w.q-is ∙ w.unwrap_or-q.ensures ∙ f.0))
+            | in-Undone w ↦
+                let f =
+                first_found undone _ _
+                (first_from_Range _ _ _ _ (λ q. undone q ≡ true) (λ q. undone q ≡ false) w.find-in-Undone.ensures.ran (λ x q k. search rules) (λ x q k. search rules)) in
+                rw w.in-Undone.is (fault_9 _ _ _ c.append_at.ensures.is (at_length p.0.at) (w.q-is ∙ w.unwrap_or-q-in-Undone.ensures ∙ f.0))
+            | in-Half w ↦ rw w.in-Half.is (fault_10 _ _ _ c.append_at.ensures.is (at_length p.0.at) w.q-is)
+          ];
+      below = c.append_at.ensures.below;
+    }

@@ -4,4 +4,4 @@ use borrow.Author.Rules.{rules}
 use Rattle.ferozhak.proofs.ferozhak_strongest.Goals as goal
 
 pub returns : goal.returns
-returns c = c.strongest_number.ensures ∙ ap strongest_no c.strongest_of.ensures
+returns c = c.from.ensures ∙ ap strongest_no c.strongest_of.ensures

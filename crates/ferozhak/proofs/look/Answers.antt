@@ -3,7 +3,7 @@ use mathlib.Core.Path.{◌≡◌}
 use native.Mathlib.Omega.{arith}
 use lib.ListN.{length, replicate, length-replicate}
 use Rattle.judging.proofs.Call.{call_read}
-use Rattle.ferozhak.proofs.Verdicts.{look_refused, look_rejected, look_accepted}
+use Rattle.ferozhak.proofs.Verdicts.{looks}
 use borrow.Author.Rules.{rules}
 use Rattle.ferozhak.proofs.look.Goals as goal
 
@@ -15,20 +15,8 @@ order-room : 128 ≤ length (replicate {A = ℕ} 128 0)
 order-room = omega (arith, length-replicate {A = ℕ} 128 0)
 
 -- all that is known of the judge is its contracts
-pub returns-in-Refused : goal.returns-in-Refused
-returns-in-Refused c s x =
+pub returns : goal.returns
+returns c s x =
     let pre = c.requires in
     let is = call_read s pre.from pre.to _ _ _ x c.judge_history-answer.ensures in
-    look_refused s _ _ _ _ pre.from pre.to no_room no_room order-room _ is c.in-Refused.is c.without_lists.ensures
-
-pub returns-in-Rejected : goal.returns-in-Rejected
-returns-in-Rejected c s x =
-    let pre = c.requires in
-    let is = call_read s pre.from pre.to _ _ _ x c.judge_history-answer.ensures in
-    look_rejected s _ _ _ _ pre.from pre.to no_room no_room order-room _ is c.in-Rejected.is
-
-pub returns-in-Accepted : goal.returns-in-Accepted
-returns-in-Accepted c s x =
-    let pre = c.requires in
-    let is = call_read s pre.from pre.to _ _ _ x c.judge_history-answer.ensures in
-    look_accepted s _ _ _ _ pre.from pre.to no_room no_room order-room _ is c.in-Accepted.is
+    looks s _ _ _ _ pre.from pre.to no_room no_room order-room _ is c.seen_of.ensures

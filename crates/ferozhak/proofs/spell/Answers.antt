@@ -32,4 +32,4 @@ put_number-requires c =
 
 pub returns : goal.returns
 returns c =
-    five-put _ _ _ _ _ c.put_number-to.ensures c.put_number-to-2.ensures c.put_number-to-3.ensures c.put_number-to-4.ensures c.put_number.ensures
+    rw (← c.from.ensures) (five-put _ _ _ _ _ c.put_number-to.ensures c.put_number-to-2.ensures c.put_number-to-3.ensures c.put_number-to-4.ensures c.put_number.ensures)

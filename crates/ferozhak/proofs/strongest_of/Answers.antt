@@ -5,11 +5,11 @@ use Rattle.ferozhak.proofs.strongest_of.Goals as goal
 
 pub strongest_of_history-requires : goal.strongest_of_history-requires
 strongest_of_history-requires c =
-    (prepared_good c.prepare-read.ensures c.in-Good.is).ready
+    (prepared_good c.prepare.ensures c.in-Ok.is).ready
 
-pub returns-in-Bad : goal.returns-in-Bad
-returns-in-Bad c = strongest-none _ (at_none _ (prepared_bad c.prepare-read.ensures c.in-Bad.is))
+pub returns-in-Err : goal.returns-in-Err
+returns-in-Err c = strongest-none _ (at_none _ (prepared_bad c.prepare.ensures c.in-Err.is))
 
-pub returns-in-Good : goal.returns-in-Good
-returns-in-Good c =
-    c.strongest_of_history.ensures _ (prepared_good c.prepare-read.ensures c.in-Good.is)
+pub returns-in-Ok : goal.returns-in-Ok
+returns-in-Ok c =
+    c.strongest_of_history.ensures _ (prepared_good c.prepare.ensures c.in-Ok.is)

@@ -1,6 +1,5 @@
 use Rattle.forcing.proofs.Forced.{forcing}
 use mathlib.Core.Path.{◌∙◌}
-use borrow.Author.Rules.{rules}
 use Rattle.forcing.proofs.force.Goals as goal
 
 pub fill_basic-requires : goal.fill_basic-requires

@@ -1,28 +1,27 @@
-use mathlib.Core.Path.{◌≡◌}
-use Prim.Native.Nat.{◌+◌, ◌-◌, ◌≤◌}
+use mathlib.Core.Path.{◌≡◌, sym, ◌∙◌}
 use native.Mathlib.Omega.{arith}
-use borrow.Author.Rules.{rules}
-use Rattle.rules.specs.History.{size, committed}
+use Prim.Native.Nat.{◌+◌}
+use Rattle.rules.specs.History.{size}
 use Rattle.table.specs.Table.{history_of}
-use Rattle.order.specs.Sets.{Gathered}
-use Rattle.order.proofs.Sets.{gather_start}
+use Rattle.order.proofs.Sets.{gather_start, gather_hit, gather_miss}
 use Rattle.forcing.proofs.members.Goals as goal
+use Rattle.forcing.proofs.members.Goals.{then-is_committed, else-is_committed}
 
 pub loop-t-init : goal.loop-t-init
-loop-t-init c = (omega arith, gather_start _ c.none-w.ensures)
-
-pub enter-w-requires : goal.enter-w-requires
-enter-w-requires c =
-    (c.requires, omega (arith, c.requires.held.few), c.loop-t.invariant.1)
-
-pub overflow_add-t : goal.overflow_add-t
-overflow_add-t c = omega (arith, c.requires.held.few)
+loop-t-init c = gather_start _ c.none-w.ensures
 
 pub loop-t-preserved : goal.loop-t-preserved
-loop-t-preserved c = (omega arith, c.enter-w.ensures)
+loop-t-preserved c =
+    elim c.if-is_committed.branch [
+      | then-is_committed w ↦ rw w.w-is (gather_hit _ _ c.loop-t.invariant (sym c.is_committed.ensures ∙ w.if-is_committed.true) w.with-w.ensures)
+      | else-is_committed w ↦ rw w.w-is (gather_miss _ _ c.loop-t.invariant (sym c.is_committed.ensures ∙ w.if-is_committed.false))
+    ]
 
-pub returns : goal.returns
-returns c =
-    let e : c.loop-t.t ≡ size (history_of c.args.h.now) =
-    omega (arith, c.txs-n.ensures, c.loop-t.invariant.0) in
-    rw e at c.loop-t.invariant.1
+pub returns-after-is_committed : goal.returns-after-is_committed
+returns-after-is_committed c =
+    let last : c.loop-t.t + 1 ≡ size (history_of c.args.h.now) = omega (arith, c.txs-t-end.ensures) in
+    rw (← last)
+    (elim c.if-is_committed.branch [
+      | then-is_committed w ↦ rw w.w-is (gather_hit _ _ c.loop-t.invariant (sym c.is_committed.ensures ∙ w.if-is_committed.true) w.with-w.ensures)
+      | else-is_committed w ↦ rw w.w-is (gather_miss _ _ c.loop-t.invariant (sym c.is_committed.ensures ∙ w.if-is_committed.false))
+    ])

@@ -1,4 +1,3 @@
-use borrow.Author.Rules.{rules}
 use Rattle.forcing.proofs.Forced.{left_causal, left_direct}
 use Rattle.forcing.proofs.search.Goals as goal
 

@@ -1,5 +1,3 @@
-use mathlib.Core.Path.{refl}
-use borrow.Author.Rules.{rules}
 use Rattle.forcing.proofs.Forced.{told-basic}
 use Rattle.forcing.proofs.search_direct.Goals as goal
 

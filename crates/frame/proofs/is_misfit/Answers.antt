@@ -15,22 +15,22 @@ is_misfit_above-requires c =
 pub returns-then-kind-gt5 : goal.returns-then-kind-gt5
 returns-then-kind-gt5 c = rw c.if-second.true c.is_misfit_above.ensures
 
-pub second_length-requires : goal.second_length-requires
-second_length-requires c =
+pub length_of-requires : goal.length_of-requires
+length_of-requires c =
     kind-low _ (rw c.if-second.true at c.requires.0) c.if-kind-eq16.false c.if-kind-gt5.false
 
 pub returns-then-second : goal.returns-then-second
-returns-then-second c = rw (c.if-second.true, c.second_length.ensures) (misfit_second _ _ _ (omega (arith, c.if-kind-gt5.false)))
+returns-then-second c = rw (c.if-second.true, c.length_of.ensures) (misfit_second _ _ _ (omega (arith, c.if-kind-gt5.false)))
 
 pub returns-then-kind-eq6 : goal.returns-then-kind-eq6
 returns-then-kind-eq6 c = rw (c.if-second.false, c.is_outside.ensures) (misfit_note _ _ c.if-kind-eq6.true)
 
-pub first_length-requires : goal.first_length-requires
-first_length-requires c =
+pub length_of-requires-2 : goal.length_of-requires-2
+length_of-requires-2 c =
     let l = kind-first _ (rw c.if-second.false at c.requires.0) c.if-kind-eq16.false in
     (l.0, omega (arith, l.1, c.if-kind-eq6.false))
 
 pub returns : goal.returns
 returns c =
     let l = kind-first _ (rw c.if-second.false at c.requires.0) c.if-kind-eq16.false in
-    rw (c.if-second.false, c.first_length.ensures) (misfit_first _ _ _ (omega (arith, l.1, c.if-kind-eq6.false)))
+    rw (c.if-second.false, c.length_of-2.ensures) (misfit_first _ _ _ (omega (arith, l.1, c.if-kind-eq6.false)))

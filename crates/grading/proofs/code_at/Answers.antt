@@ -1,7 +1,6 @@
 use Prim.Native.Nat.{ℕ, ◌%◌}
 use mathlib.Core.Path.{ap, sym, ◌∙◌}
 use native.Mathlib.Omega.{arith}
-use borrow.Author.Rules.{rules}
 use Rattle.base.proofs.Tests.{denied, granted}
 use Rattle.grading.proofs.Grades.{grade_code}
 use Rattle.grading.proofs.Codes.{code_other}

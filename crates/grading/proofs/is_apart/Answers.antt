@@ -8,13 +8,5 @@ use Rattle.grading.proofs.is_apart.Goals as goal
 pub returns-then-m-eq0 : goal.returns-then-m-eq0
 returns-then-m-eq0 c = apart_none _ _ _ c.if-m-eq0.true
 
-pub spot_of-o-requires : goal.spot_of-o-requires
-spot_of-o-requires c =
-    let p = c.requires in
-    (p.0, p.2 (omega arith))
-
-pub in_line-requires : goal.in_line-requires
-in_line-requires c = (c.requires.1, c.spot_of-o.ensures.keyed.at)
-
 pub returns : goal.returns
 returns c = ap not (c.in_line.ensures ∙ ap (in_line _) (spot_list _ _ (omega arith) c.spot_of-o.ensures))

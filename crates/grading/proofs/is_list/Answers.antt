@@ -1,6 +1,5 @@
 use mathlib.Core.Path.{ap, sym, ◌∙◌}
 use lib.Dec.{leb}
-use borrow.Author.Rules.{rules}
 use Rattle.base.proofs.Tests.{denied, granted, and_no_left, and_on}
 use Rattle.appends_rules.specs.Appends.{is_list}
 use mathlib.Core.Bool.{not}

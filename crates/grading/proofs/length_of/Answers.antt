@@ -5,10 +5,5 @@ use Rattle.grading.proofs.length_of.Goals as goal
 pub returns-then-m-eq0 : goal.returns-then-m-eq0
 returns-then-m-eq0 c = none-long _ _ c.if-m-eq0.true
 
-pub spot_of-o-requires : goal.spot_of-o-requires
-spot_of-o-requires c =
-    let p = c.requires in
-    (p.0, p.1 (omega arith))
-
 pub returns : goal.returns
-returns c = spot_long _ _ (omega arith) c.spot_of-o.ensures
+returns c = spot_long _ _ (omega arith) c.spot_of.ensures

@@ -8,11 +8,6 @@ returns-then-c-ne1 c =
     let p = c.requires in
     longest_unclean _ _ _ _ p.3 (λ z. c.if-c-ne1.true (p.2 ∙ z))
 
-pub length_of-requires : goal.length_of-requires
-length_of-requires c =
-    let p = c.requires in
-    (p.0, λ z. p.1)
-
 pub length_of-requires-2 : goal.length_of-requires-2
 length_of-requires-2 c =
     let p = c.requires in

@@ -1,4 +1,3 @@
-use borrow.Author.Rules.{rules}
 use Rattle.grading.proofs.Spots.{spot_room, spot_is}
 use Rattle.grading.proofs.spot_of.Goals as goal
 

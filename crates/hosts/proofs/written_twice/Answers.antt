@@ -13,4 +13,4 @@ returns c =
     let serial = c.args.serial in
     let bytes : AllBytes steps = λ i. omega (arith, c.shared_slice_known-1.given i) in
     let low : serial < 2 ^ 32 = omega (arith, c.ranges.serial) in
-    twice (writes steps bytes serial low _ _ _ c.write_trace-first.ensures) (writes steps bytes serial low _ _ _ c.write_trace-second.ensures)
+    twice (writes steps bytes serial low _ _ _ c.write_trace.ensures) (writes steps bytes serial low _ _ _ c.write_trace-2.ensures)

@@ -4,7 +4,7 @@ use Rattle.judging.proofs.accept.Goals as goal
 
 pub returns-then-out-n : goal.returns-then-out-n
 returns-then-out-n c =
-    λ h level x. accept_short x _ c.if-out-n.true
+    λ h level x. rw c.at.ensures (accept_short x _ c.if-out-n.true)
 
 pub returns : goal.returns
 returns c =

@@ -1,7 +1,6 @@
 use mathlib.Core.Path.{ap}
 use native.Mathlib.Omega.{arith}
 use native.Mathlib.Nat.{mod-lt}
-use borrow.Author.Rules.{rules}
 use Rattle.keys.specs.Keys.{bucket_of}
 use Rattle.keys.proofs.bucket_of.Goals as goal
 

@@ -1,15 +1,8 @@
 use mathlib.Core.Path.{sym, ◌∙◌}
-use native.Mathlib.Omega.{arith}
-use borrow.Author.Rules.{rules}
 use Rattle.bits.proofs.Tables.{holds_self}
 use Rattle.pairs.proofs.Marking.{cell_on, cell_off}
 use Rattle.keys.specs.Keys.{write_bit}
 use Rattle.keys.proofs.enter_write.Goals as goal
-
-pub set_bit-requires : goal.set_bit-requires
-set_bit-requires c =
-    let p = c.requires in
-    (p.2.room, c.bucket_of.ensures.1, omega (arith, c.tx_of.ensures.below, p.0.held.few))
 
 pub returns-then-is_entered : goal.returns-then-is_entered
 unfolding write_bit

@@ -1,6 +1,5 @@
 use mathlib.Core.Path.{sym, ap, ◌∙◌}
-use native.Mathlib.Omega.{arith}
-use borrow.Author.Rules.{rules}
+use borrow.Author.Tests.{eq-eqb}
 use Rattle.base.proofs.Tests.{denied, granted}
 use Rattle.keys.specs.Keys.{key_read, is_shared}
 use Rattle.keys.proofs.Keys.{no_write, key-read, by_bucket}
@@ -10,26 +9,15 @@ use Rattle.keys.proofs.is_entered.Goals as goal
 pub returns-then-not-is_write : goal.returns-then-not-is_write
 returns-then-not-is_write c = sym (no_write _ _ (denied c.is_write.ensures (ap not c.if-not-is_write.true)))
 
-pub offset_bounds-r-b : goal.offset_bounds-r-b
-offset_bounds-r-b c = omega (arith, c.bucket_of-b.ensures.1)
-
-pub bounds-r-b : goal.bounds-r-b
-bounds-r-b c = omega (arith, c.bucket_of-b.ensures.1, c.requires.1.room)
-
 pub returns-then-r-b : goal.returns-then-r-b
 returns-then-r-b c =
     let b = c.bucket_of-b.ensures in
     let p = c.requires in
     let w = granted c.is_write.ensures (ap not c.if-not-is_write.false) in
-    sym (key-read _ _ w (p.1.is _ b.1 ∙ ap (key_read _) b.0) c.key_of.ensures c.if-r-b.true)
+    eq-eqb _ _ c.if-r-b.true ∙ sym (key-read _ _ w (p.1.is _ b.1 ∙ ap (key_read _) b.0) c.key_of.ensures c.if-r-b.true)
 
-pub bit-requires : goal.bit-requires
-bit-requires c =
-    let p = c.requires in
-    (p.2.room, c.bucket_of-b.ensures.1, omega arith)
-
-pub returns : goal.returns
-returns c =
+pub returns-else-r-b : goal.returns-else-r-b
+returns-else-r-b c =
     let b = c.bucket_of-b.ensures in
     let p = c.requires in
     let w = granted c.is_write.ensures (ap not c.if-not-is_write.false) in

@@ -1,17 +1,6 @@
-use native.Mathlib.Omega.{arith}
-use borrow.Author.Rules.{rules}
-use Rattle.pairs.proofs.Pairs.{byte_in, byte_clean, byte_other}
+use Rattle.pairs.proofs.Pairs.{byte_clean, byte_other}
 use Rattle.keys.proofs.Keys.{keys_on, keys_off}
 use Rattle.keys.proofs.keep_key.Goals as goal
-
-pub bounds-k-i : goal.bounds-k-i
-bounds-k-i c = let p = c.requires in byte_in p.0 p.1
-
-pub offset_bounds-r-bucket_of : goal.offset_bounds-r-bucket_of
-offset_bounds-r-bucket_of c = omega (arith, c.bucket_of.ensures.1)
-
-pub bounds-r-bucket_of : goal.bounds-r-bucket_of
-bounds-r-bucket_of c = omega (arith, c.bucket_of.ensures.1, c.requires.2)
 
 pub returns-then-k-i-ge8 : goal.returns-then-k-i-ge8
 returns-then-k-i-ge8 c =

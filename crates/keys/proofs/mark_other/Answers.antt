@@ -1,32 +1,16 @@
 use mathlib.Core.Path.{ap, refl, ◌∙◌}
-use native.Mathlib.Omega.{arith}
-use borrow.Author.Rules.{rules}
 use Rattle.bits.proofs.Tables.{holds_self}
 use Rattle.pairs.proofs.Marking.{cell_on, cell_off}
-use Rattle.pairs.proofs.Pairs.{byte_in, byte_clean, byte_other}
+use Rattle.pairs.proofs.Pairs.{byte_clean, byte_other}
 use Rattle.keys.specs.Keys.{key_read, shared_bit}
 use Rattle.keys.proofs.Keys.{other_key, same_key, no_read}
 use Rattle.keys.proofs.mark_other.Goals as goal
-
-pub bounds-k-i : goal.bounds-k-i
-bounds-k-i c = let p = c.requires in byte_in p.0 p.1
 
 pub returns-then-k-i-lt8 : goal.returns-then-k-i-lt8
 unfolding shared_bit
 returns-then-k-i-lt8 c =
     let p = c.requires in
     cell_off _ _ _ (no_read _ _ (byte_other p.0 p.1 c.if-k-i-lt8.true)) (holds_self _ p.3)
-
-pub offset_bounds-r-b : goal.offset_bounds-r-b
-offset_bounds-r-b c = omega (arith, c.bucket_of-b.ensures.1)
-
-pub bounds-r-b : goal.bounds-r-b
-bounds-r-b c = omega (arith, c.bucket_of-b.ensures.1, c.requires.2.room)
-
-pub set_bit-requires : goal.set_bit-requires
-set_bit-requires c =
-    let p = c.requires in
-    (p.3, c.bucket_of-b.ensures.1, omega arith)
 
 pub returns-then-r-b : goal.returns-then-r-b
 unfolding shared_bit

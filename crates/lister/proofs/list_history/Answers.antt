@@ -1,5 +1,4 @@
 use native.Mathlib.Omega.{arith}
-use borrow.Author.Rules.{rules}
 use Rattle.writing.proofs.Filling.{too_short, filled}
 use Rattle.lister.proofs.Call.{steps-room, steps-put}
 use Rattle.lister.proofs.list_history.Goals as goal
@@ -7,7 +6,7 @@ use Rattle.lister.proofs.list_history.Goals as goal
 pub returns-then-out-n : goal.returns-then-out-n
 returns-then-out-n c =
     let p = c.requires in
-    too_short _ (omega (arith, c.ops.ensures, c.txs.ensures, p.1.long)) (omega (arith, c.if-out-n.true))
+    rw c.at.ensures (too_short _ (omega (arith, c.ops.ensures, c.txs.ensures, p.1.long)) (omega (arith, c.if-out-n.true)))
 
 pub overflow_cast-count : goal.overflow_cast-count
 overflow_cast-count c =

@@ -1,11 +1,5 @@
-use borrow.Author.Rules.{rules}
 use Rattle.listings.proofs.Listings.{closed-under, lists_over}
 use Rattle.listings.proofs.list_over.Goals as goal
-
-pub close-requires : goal.close-requires
-close-requires c =
-    let p = c.requires in
-    rw c.copy.ensures p.0
 
 pub sift-requires : goal.sift-requires
 sift-requires c =

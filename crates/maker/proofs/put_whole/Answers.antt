@@ -1,10 +1,9 @@
 use Rattle.maker.proofs.Call.{written_short, written-fits, written-put}
-use Rattle.std.proofs.Common.{rules}
 use Rattle.maker.proofs.put_whole.Goals as goal
 
 pub returns-then-out-needed : goal.returns-then-out-needed
 returns-then-out-needed c =
-    written_short _ _ _ c.requires.is c.trace_length-needed.ensures c.if-out-needed.true
+    rw c.at.ensures (written_short _ _ _ c.requires.is c.trace_length-needed.ensures c.if-out-needed.true)
 
 pub put_trace-requires : goal.put_trace-requires
 put_trace-requires c =

@@ -1,5 +1,5 @@
 use Rattle.writing.proofs.Steps.{step-rest, step-whole}
-use Rattle.std.proofs.Common.{arith, rules}
+use Rattle.std.proofs.Common.{arith}
 use Rattle.rules.specs.Records.{written_key}
 use Rattle.maker.proofs.step_at.Goals as goal
 

@@ -1,11 +1,11 @@
+use Rattle.std.proofs.lemmas.Result.{err_from_is_err_and}
 use Rattle.maker.proofs.Call.{followed_bad, followed_good, written_bad}
-use Rattle.std.proofs.Common.{rules}
 use Rattle.maker.proofs.write_trace.Goals as goal
 
-pub put_whole-requires : goal.put_whole-requires
-put_whole-requires c =
-    followed_good c.follow_steps-course.ensures c.in-Good.is
+pub returns-in_err-follow_steps : goal.returns-in_err-follow_steps
+returns-in_err-follow_steps c =
+    let r = err_from_is_err_and c.from_residual.result c.from_residual.ensures.1 in
+    rw (r.1, r.2) (written_bad _ _ _ _ (followed_bad c.follow_steps.ensures c.in_err-follow_steps.was))
 
-pub returns-in-Bad : goal.returns-in-Bad
-returns-in-Bad c =
-    written_bad _ _ _ (followed_bad c.follow_steps-course.ensures c.in-Bad.is)
+pub put_whole-requires : goal.put_whole-requires
+put_whole-requires c = followed_good c.follow_steps.ensures c.in_ok-follow_steps.was

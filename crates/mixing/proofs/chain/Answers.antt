@@ -1,5 +1,4 @@
 use Rattle.mixing.specs.Mixing.{chained}
-use borrow.Author.Rules.{rules}
 use mathlib.Core.Path.{refl}
 use Rattle.mixing.proofs.chain.Goals as goal
 

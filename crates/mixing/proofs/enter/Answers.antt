@@ -1,5 +1,4 @@
 use Rattle.mixing.proofs.Growing.{entered-first, entered_later}
-use borrow.Author.Rules.{rules}
 use native.Mathlib.Omega.{arith}
 use mathlib.Core.Path.{sym, ◌∙◌}
 use Rattle.mixing.proofs.enter.Goals as goal

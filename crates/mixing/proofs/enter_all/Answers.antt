@@ -1,27 +1,15 @@
-use Prim.Native.Nat.{◌+◌, ◌-◌, ◌≤◌}
-use Rattle.rules.specs.History.{op_count}
-use Rattle.table.specs.Table.{history_of}
-use Rattle.mixing.specs.Mixing.{Indexed}
-use Rattle.mixing.proofs.Growing.{indexed_none, all_one, all_none}
-use borrow.Author.Rules.{rules}
 use native.Mathlib.Omega.{arith}
+use Rattle.mixing.proofs.Growing.{indexed_none, all_one, all_none}
 use Rattle.mixing.proofs.enter_all.Goals as goal
 
 pub loop-i-init : goal.loop-i-init
-loop-i-init c = (omega arith, omega arith, rw c.requires.1 (indexed_none _))
-
-pub enter-requires : goal.enter-requires
-enter-requires c =
-    let l = c.loop-i.invariant in
-    (record { held = c.requires.0; from = l.0; to = omega (arith, c.ops-n.ensures) }, l.2)
+loop-i-init c = (omega arith, rw c.requires.1 (indexed_none _))
 
 pub returns-then-enter : goal.returns-then-enter
-returns-then-enter c =
-    all_one _ _ c.loop-i.invariant.0 (omega (arith, c.ops-n.ensures)) c.if-enter.true c.enter.ensures
+returns-then-enter c = all_one _ _ (omega arith) (omega (arith, c.ops-i-end.ensures)) c.if-enter.true c.enter.ensures
 
-pub loop-i-preserved : goal.loop-i-preserved
-loop-i-preserved c =
-    (omega arith, omega (arith, c.ops-n.ensures), c.enter.ensures.indexed c.if-enter.false)
+pub returns-else-enter : goal.returns-else-enter
+returns-else-enter c = all_none _ _ (omega (arith, c.ops-i-end.ensures)) (c.enter.ensures.indexed c.if-enter.false)
 
 pub returns : goal.returns
-returns c = let l = c.loop-i.invariant in all_none _ _ (omega (arith, l.1, c.ops-n.ensures)) l.2
+returns c = all_none _ _ (omega (arith, c.ops-i-end.ensures)) c.loop-i.invariant.1

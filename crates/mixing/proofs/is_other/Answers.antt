@@ -1,13 +1,15 @@
+use mathlib.Core.Bool.{Bool, true, false, not, beq}
+use mathlib.Core.Path.{◌≡◌, refl}
 use Rattle.base.specs.Base.{pick}
 use Rattle.rules.specs.History.{is_other_sort}
-use borrow.Author.Rules.{rules}
-use mathlib.Core.Path.{sym, ◌∙◌}
 use Rattle.mixing.proofs.is_other.Goals as goal
 
-pub returns-then-is_single : goal.returns-then-is_single
+other_is : (a b : Bool) → not (beq a b) ≡ is_other_sort a b
 unfolding is_other_sort pick
-returns-then-is_single c = rw (sym c.is_single.ensures ∙ c.if-is_single.true, c.is_single-then-is_single.ensures)
+other_is true true = refl
+other_is true false = refl
+other_is false true = refl
+other_is false false = refl
 
 pub returns : goal.returns
-unfolding is_other_sort pick
-returns c = rw (sym c.is_single.ensures ∙ c.if-is_single.false) c.is_single-2.ensures
+returns c = rw (← c.is_single.ensures, ← c.is_single-2.ensures) (other_is _ _)

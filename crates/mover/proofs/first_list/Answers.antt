@@ -1,6 +1,5 @@
 use mathlib.Core.Path.{sym, ◌∙◌}
 use Rattle.moving.proofs.Lists.{first-none, first_from}
-use borrow.Author.Rules.{rules}
 use Rattle.mover.proofs.first_list.Goals as goal
 
 pub returns-then-is : goal.returns-then-is

@@ -1,9 +1,6 @@
 use Prim.Native.Nat.{◌+◌, ◌-◌, ◌≤◌}
-use mathlib.Core.Path.{sym, ◌∙◌}
-use native.Mathlib.Omega.{arith}
 use lib.ListN.{length}
-use Rattle.moving.proofs.Lists.{Seeking, seek_start, seek_hit, seek_on, seek_end}
-use borrow.Author.Rules.{rules}
+use Rattle.moving.proofs.Lists.{Seeking}
 use Rattle.mover.proofs.list_from.Given as goal
 
 -- a record is no longer than its length can say

@@ -1,5 +1,4 @@
 use native.Mathlib.Omega.{arith}
-use borrow.Author.Rules.{rules}
 use Rattle.mover.proofs.moved_count.Goals as goal
 
 pub returns-then-second : goal.returns-then-second

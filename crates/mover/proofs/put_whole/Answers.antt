@@ -1,5 +1,4 @@
 use Rattle.mover.proofs.Whole.{end_room, blocks_room, preamble-room, whole-put}
-use borrow.Author.Rules.{rules}
 use Rattle.mover.proofs.put_whole.Goals as goal
 
 pub put_before-from-requires : goal.put_before-from-requires

@@ -1,5 +1,4 @@
 use Rattle.moving.proofs.Tally.{gives_tallied}
-use borrow.Author.Rules.{rules}
 use Rattle.mover.proofs.to_edition_2.Goals as goal
 
 pub returns : goal.returns

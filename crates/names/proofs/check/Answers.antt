@@ -1,56 +1,44 @@
-use Prim.Native.Nat.{ℕ, ◌+◌, ◌-◌}
-use mathlib.Core.Path.{ap, sym}
+use Prim.Native.Nat.{ℕ, ◌+◌}
+use mathlib.Core.Path.{◌≡◌, ap, sym, ◌∙◌}
 use native.Mathlib.Omega.{arith}
-use lib.ListN.{length}
-use Rattle.names_rules.proofs.Walking.{too_long}
-use Rattle.names_rules.proofs.Loops.{Checking, checking_first, checked_fit, checking_bad, checking_more, checking_end}
-use borrow.Author.Rules.{rules}
+use Rattle.std.proofs.lemmas.Result.{err_from_is_err_and}
+use Rattle.rules.specs.Refusals.{no_of}
+use Rattle.rules.proofs.Refusals.{cause-some, placed_ok, placed_err}
+use Rattle.names_rules.specs.Names.{name_no}
+use Rattle.names_rules.proofs.Walking.{NameFits, too_long}
+use Rattle.names_rules.proofs.Loops.{checking_first, checked_fit, checking_bad, checking_more, checking_end}
 use Rattle.names.proofs.check.Goals as goal
+use Rattle.names.proofs.check.Goals.{In_ok-placed}
 
 pub returns-then-s-gt32768 : goal.returns-then-s-gt32768
-returns-then-s-gt32768 c =
-    sym (too_long _ c.if-s-gt32768.true)
+returns-then-s-gt32768 c = rw c.at.ensures (sym (too_long _ c.if-s-gt32768.true))
 
 pub loop-at-init : goal.loop-at-init
-loop-at-init c =
-    checking_first _ c.if-s-gt32768.false
+loop-at-init c = checking_first _ c.if-s-gt32768.false
 
-pub no_at-no-requires : goal.no_at-no-requires
-no_at-no-requires c =
-    c.loop-at.invariant.within
+pub returns-in_err-placed : goal.returns-in_err-placed
+returns-in_err-placed c =
+    let r = err_from_is_err_and c.from_residual.result c.from_residual.ensures.1 in
+    let e = placed_err c.loop-at.at c.no_at.result (sym c.in_err-placed.ensures) in
+    rw (r.1, r.2, e.2) (checking_bad c.loop-at.invariant c.loop-at-test.true (sym (ap no_of e.1) ∙ c.no_at.ensures) (cause-some e.0))
 
-pub returns-then-no-gt0 : goal.returns-then-no-gt0
-returns-then-no-gt0 c =
-    checking_bad c.loop-at.invariant c.loop-at-test.true c.no_at-no.ensures c.if-no-gt0.true
+-- no row refuses the record
+passed : (c : In_ok-placed) → 0 ≡ name_no c.args.s.now c.loop-at.at c.loop-at.low
+passed c = sym (ap no_of (placed_ok c.loop-at.at c.no_at.result (sym c.in_ok-placed.ensures))) ∙ c.no_at.ensures
 
-pub overflow_add-at : goal.overflow_add-at
-overflow_add-at c =
-    let f = checked_fit c.loop-at.invariant c.loop-at-test.true c.no_at-no.ensures c.if-no-gt0.false in omega (arith, f.least, f.room)
+fits : (c : In_ok-placed) → NameFits c.args.s.now c.loop-at.at c.loop-at.low
+fits c = checked_fit c.loop-at.invariant c.loop-at-test.true (passed c) (omega arith)
 
 pub u32_at-requires : goal.u32_at-requires
-u32_at-requires c =
-    let f = checked_fit c.loop-at.invariant c.loop-at-test.true c.no_at-no.ensures c.if-no-gt0.false in omega (arith, f.least, f.room)
+u32_at-requires c = let f = fits (goal.at.u32_at-requires c).In_ok-placed in omega (arith, f.least, f.room)
 
-pub overflow_add-at-in-loop-at : goal.overflow_add-at-in-loop-at
-overflow_add-at-in-loop-at c =
-    let f = checked_fit c.loop-at.invariant c.loop-at-test.true c.no_at-no.ensures c.if-no-gt0.false in omega (arith, f.least, f.room)
-
-pub u16_at-requires : goal.u16_at-requires
-u16_at-requires c =
-    let f = checked_fit c.loop-at.invariant c.loop-at-test.true c.no_at-no.ensures c.if-no-gt0.false in omega (arith, f.least, f.room)
-
-pub overflow_add-at-in-loop-at-2 : goal.overflow_add-at-in-loop-at-2
-overflow_add-at-in-loop-at-2 c =
-    let f = checked_fit c.loop-at.invariant c.loop-at-test.true c.no_at-no.ensures c.if-no-gt0.false in omega (arith, f.least, f.room, c.u16_at.ensures)
-
-pub loop-at-smaller : goal.loop-at-smaller
-loop-at-smaller c =
-    let f = checked_fit c.loop-at.invariant c.loop-at-test.true c.no_at-no.ensures c.if-no-gt0.false in omega (arith, f.least, f.room, c.u16_at.ensures)
+pub next_at-at-requires : goal.next_at-at-requires
+next_at-at-requires c = let f = fits (goal.at.next_at-at-requires c).In_ok-placed in omega (arith, f.least, f.room)
 
 pub loop-at-preserved : goal.loop-at-preserved
 loop-at-preserved c =
-    checking_more c.loop-at.invariant c.loop-at-test.true c.no_at-no.ensures c.if-no-gt0.false (ap (λ (n : ℕ). c.loop-at.at + 2 + n) c.u16_at.ensures) (ap (λ (n : ℕ). n + 1) c.u32_at.ensures)
+    checking_more c.loop-at.invariant c.loop-at-test.true (passed (goal.at.loop-at-preserved c).In_ok-placed) (omega arith)
+    c.next_at-at.ensures (ap (λ (n : ℕ). n + 1) (c.from-low.ensures ∙ c.u32_at.ensures))
 
 pub returns : goal.returns
-returns c =
-    checking_end c.loop-at.invariant c.loop-at-test.false
+returns c = checking_end c.loop-at.invariant c.loop-at-test.false

@@ -1,10 +1,6 @@
-use Prim.Native.Nat.{ℕ, ◌+◌, ◌-◌}
-use mathlib.Core.Path.{ap}
-use native.Mathlib.Omega.{arith}
+use Prim.Native.Nat.{◌-◌}
 use lib.ListN.{length}
-use Rattle.names_rules.proofs.Walking.{lawful_short}
-use Rattle.names_rules.proofs.Loops.{Indexing, indexing_first, indexing_fit, indexing_few, indexing_room, indexing_length, indexing_more, indexing_end}
-use borrow.Author.Rules.{rules}
+use Rattle.names_rules.proofs.Loops.{Indexing}
 use Rattle.names.proofs.fill_index.Given as goal
 
 -- the offsets of the n records before `from` are put

@@ -2,7 +2,6 @@ use mathlib.Core.Path.{sym, subst}
 use Rattle.names_rules.specs.Names.{PlaceWithin}
 use Rattle.names_rules.proofs.Places.{any_within}
 use Rattle.names.proofs.Parts.{handed_as}
-use borrow.Author.Rules.{rules}
 use Rattle.names.proofs.name.Goals as goal
 
 pub part_at-requires : goal.part_at-requires

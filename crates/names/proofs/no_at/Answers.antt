@@ -1,11 +1,8 @@
-use Prim.Native.Nat.{◌≤◌}
 use mathlib.Core.Path.{sym, ◌∙◌}
 use native.Mathlib.Omega.{arith}
-use borrow.Author.Tests.{ltb-false}
-use Rattle.base.proofs.Tests.{neither_left}
 use Rattle.names_rules.proofs.Walking.{no_field, other_length, cut_off, other_kind, other_byte, not_ascending, no_row}
-use Rattle.names.proofs.Fields.{length-test, bytes-test}
-use borrow.Author.Rules.{rules}
+use Rattle.names.proofs.Fields.{length-test, long_enough}
+use Rattle.names.proofs.Odd.{name-test}
 use Rattle.names.proofs.no_at.Goals as goal
 
 pub returns-then-left-lt2 : goal.returns-then-left-lt2
@@ -22,7 +19,7 @@ returns-then-left-len c =
 
 pub u16_at-requires : goal.u16_at-requires
 u16_at-requires c =
-    let b : 7 ≤ c.u16_at-len.result = ltb-false _ _ (neither_left _ _ (sym c.is_outside.ensures ∙ c.if-is_outside.false)) in omega arith
+    omega (arith, long_enough c.is_outside.ensures c.if-is_outside.false)
 
 pub returns-then-u16_at-ne32 : goal.returns-then-u16_at-ne32
 returns-then-u16_at-ne32 c =
@@ -30,16 +27,22 @@ returns-then-u16_at-ne32 c =
 
 pub returns-then-has_odd : goal.returns-then-has_odd
 returns-then-has_odd c =
-    other_byte _ _ _ (omega arith) (sym (length-test _ _ c.u16_at-len.ensures c.is_outside.ensures) ∙ c.if-is_outside.false) (omega arith) (sym c.u16_at.ensures ∙ c.if-u16_at-ne32.false) (sym (bytes-test _ _ c.u16_at-len.ensures c.has_odd.ensures) ∙ c.if-has_odd.true)
+    other_byte _ _ _ (omega arith) (sym (length-test _ _ c.u16_at-len.ensures c.is_outside.ensures) ∙ c.if-is_outside.false) (omega arith) (sym c.u16_at.ensures ∙ c.if-u16_at-ne32.false) (sym (name-test _ _ c.u16_at-len.ensures (long_enough c.is_outside.ensures c.if-is_outside.false) (omega arith) c.has_odd.ensures) ∙ c.if-has_odd.true)
 
 pub u32_at-requires : goal.u32_at-requires
 u32_at-requires c =
-    let b : 7 ≤ c.u16_at-len.result = ltb-false _ _ (neither_left _ _ (sym c.is_outside.ensures ∙ c.if-is_outside.false)) in omega arith
+    omega (arith, long_enough c.is_outside.ensures c.if-is_outside.false)
 
 pub returns-then-u32_at-low : goal.returns-then-u32_at-low
 returns-then-u32_at-low c =
-    not_ascending _ _ _ (omega arith) (sym (length-test _ _ c.u16_at-len.ensures c.is_outside.ensures) ∙ c.if-is_outside.false) (omega arith) (sym c.u16_at.ensures ∙ c.if-u16_at-ne32.false) (sym (bytes-test _ _ c.u16_at-len.ensures c.has_odd.ensures) ∙ c.if-has_odd.false) (omega arith)
+    not_ascending _ _ _ (omega arith) (sym (length-test _ _ c.u16_at-len.ensures c.is_outside.ensures) ∙ c.if-is_outside.false) (omega arith) (sym c.u16_at.ensures ∙ c.if-u16_at-ne32.false) (sym (name-test _ _ c.u16_at-len.ensures (long_enough c.is_outside.ensures c.if-is_outside.false) (omega arith) c.has_odd.ensures) ∙ c.if-has_odd.false) (omega arith)
 
 pub returns : goal.returns
 returns c =
-    no_row _ _ _ (omega arith) (sym (length-test _ _ c.u16_at-len.ensures c.is_outside.ensures) ∙ c.if-is_outside.false) (omega arith) (sym c.u16_at.ensures ∙ c.if-u16_at-ne32.false) (sym (bytes-test _ _ c.u16_at-len.ensures c.has_odd.ensures) ∙ c.if-has_odd.false) (omega arith)
+    no_row _ _ _ (omega arith) (sym (length-test _ _ c.u16_at-len.ensures c.is_outside.ensures) ∙ c.if-is_outside.false) (omega arith) (sym c.u16_at.ensures ∙ c.if-u16_at-ne32.false) (sym (name-test _ _ c.u16_at-len.ensures (long_enough c.is_outside.ensures c.if-is_outside.false) (omega arith) c.has_odd.ensures) ∙ c.if-has_odd.false) (omega arith)
+
+pub slice_bounds-has_odd-count : goal.slice_bounds-has_odd-count
+slice_bounds-has_odd-count c = omega (arith, long_enough c.is_outside.ensures c.if-is_outside.false)
+
+pub slice_bounds-has_odd-start : goal.slice_bounds-has_odd-start
+slice_bounds-has_odd-start c = omega (arith, long_enough c.is_outside.ensures c.if-is_outside.false)

@@ -3,27 +3,15 @@ use Rattle.order.proofs.Sets.{plus_words}
 use Rattle.order.proofs.Steps.{byte_left, falls-by_one, order-again, order-step, order_end}
 use Rattle.order.proofs.+order.Goals as goal
 
-pub next-a-requires : goal.next-a-requires
-next-a-requires t c = c.requires.table.few
-
-pub overflow_cast-out : goal.overflow_cast-out
-overflow_cast-out t c = omega (arith, c.requires.table.few)
-
 pub bounds-out-at : goal.bounds-out-at
 bounds-out-at t c = byte_left c.requires c.next-a.ensures c.if-a-n.true
-
-pub high_with-hi-requires : goal.high_with-hi-requires
-high_with-hi-requires t c = omega (arith, c.requires.table.few)
-
-pub overflow_add-at : goal.overflow_add-at
-overflow_add-at t c = omega (arith, byte_left c.requires c.next-a.ensures c.if-a-n.true)
 
 pub order-requires : goal.order-requires
 order-requires t c =
     let e = c.if-a-n.true in
     let f = falls-by_one c.requires c.next-a.ensures e in (
       omega arith,
-      order-again c.requires c.next-a.ensures e (plus_words _ _ _ c.low_with-lo.ensures c.high_with-hi.ensures),
+      order-again c.requires c.next-a.ensures e (plus_words _ _ _ c.word_with-lo.ensures c.word_with-hi.ensures),
     )
 
 pub returns-then-a-n : goal.returns-then-a-n

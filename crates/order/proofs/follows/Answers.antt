@@ -1,11 +1,8 @@
-use borrow.Author.Rules.{rules}
 use Rattle.order.proofs.Sets.{follows_not, follows_is}
-use mathlib.Core.Path.{ap}
-use mathlib.Core.Bool.{not}
 use Rattle.order.proofs.follows.Goals as goal
 
-pub returns-then-not-covers : goal.returns-then-not-covers
-returns-then-not-covers c = follows_not _ _ _ c.covers.ensures (ap not c.if-not-covers.true)
+pub returns-then-covers : goal.returns-then-covers
+returns-then-covers c = follows_is _ _ _ c.covers.ensures c.if-covers.true c.covers-then-covers.ensures
 
-pub returns : goal.returns
-returns c = follows_is _ _ _ c.covers.ensures (ap not c.if-not-covers.false) c.covers-2.ensures
+pub returns-else-covers : goal.returns-else-covers
+returns-else-covers c = follows_not _ _ _ c.covers.ensures c.if-covers.false

@@ -1,6 +1,4 @@
 use mathlib.Core.Path.{sym}
-use native.Mathlib.Omega.{arith}
-use borrow.Author.Rules.{rules}
 use Rattle.bits.specs.Bits.{test_bit}
 use Rattle.order.proofs.Sets.{in_low, in_high}
 use Rattle.order.proofs.has.Goals as goal

@@ -1,5 +1,4 @@
 use Rattle.order.proofs.Smallest.{first-low, first_high, first-none}
-use borrow.Author.Rules.{rules}
 use Rattle.order.proofs.next.Goals as goal
 
 pub returns-then-a-n : goal.returns-then-a-n

@@ -1,34 +1,15 @@
-use borrow.Author.Rules.{rules}
-use Prim.Native.Nat.{◌-◌}
 use native.Mathlib.Omega.{arith}
 use Rattle.bits.proofs.Smallest.{lost_more}
-use Rattle.order.specs.Sets.{words}
-use Rattle.order.proofs.Smallest.{Came, came_start, came_next, came_hit, came_end}
+use Rattle.order.proofs.Smallest.{came_start, came_next, came_hit, came_end}
 use Rattle.order.proofs.next_of.Goals as goal
 
 pub loop-a-init : goal.loop-a-init
 loop-a-init c =
     came_start _ _ _ _ c.least-a.ensures.0
 
-pub overflow_add-base : goal.overflow_add-base
-overflow_add-base c =
-    omega (arith, c.requires, c.loop-a-test.true)
-
-pub follows-requires : goal.follows-requires
-follows-requires c =
-    omega (arith, c.requires, c.loop-a-test.true)
-
-pub overflow_add-result : goal.overflow_add-result
-overflow_add-result c =
-    omega (arith, c.requires, c.loop-a-test.true)
-
 pub returns-then-follows : goal.returns-then-follows
 returns-then-follows c =
     came_hit _ _ _ _ c.loop-a.invariant c.loop-a-test.true c.follows.ensures c.if-follows.true
-
-pub overflow_shl-a : goal.overflow_shl-a
-overflow_shl-a c =
-    c.loop-a-test.true
 
 pub loop-a-smaller : goal.loop-a-smaller
 loop-a-smaller c =

@@ -1,4 +1,3 @@
-use borrow.Author.Rules.{rules}
 use Rattle.order.proofs.Steps.{order_start}
 use Rattle.order.proofs.order_all.Goals as goal
 

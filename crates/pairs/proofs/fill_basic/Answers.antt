@@ -1,4 +1,3 @@
-use borrow.Author.Rules.{rules}
 use Rattle.pairs.proofs.Pairs.{basic_filled}
 use Rattle.pairs.proofs.fill_basic.Goals as goal
 

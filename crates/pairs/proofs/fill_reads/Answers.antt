@@ -1,4 +1,3 @@
-use borrow.Author.Rules.{rules}
 use Rattle.pairs.proofs.Pairs.{reads_filled}
 use Rattle.pairs.proofs.fill_reads.Goals as goal
 

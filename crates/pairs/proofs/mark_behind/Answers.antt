@@ -1,4 +1,3 @@
-use borrow.Author.Rules.{rules}
 use Rattle.pairs.proofs.Pairs.{marked-behind}
 use Rattle.pairs.proofs.mark_behind.Goals as goal
 

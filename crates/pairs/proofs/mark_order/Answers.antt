@@ -1,17 +1,8 @@
 use mathlib.Core.Path.{sym, ◌∙◌}
 use native.Mathlib.Omega.{arith}
-use borrow.Author.Rules.{rules}
 use Rattle.pairs.proofs.Pairs.{orders_skip, orders-next}
 use Rattle.pairs.proofs.Priors.{has_row, prior_at}
 use Rattle.pairs.proofs.mark_order.Goals as goal
-
-pub bounds-p-b : goal.bounds-p-b
-bounds-p-b c = has_row c.requires.2
-
-pub overflow_cast-p : goal.overflow_cast-p
-overflow_cast-p c =
-    let p = c.requires in
-    omega (arith, (prior_at p.2 p.1).below, has_row p.2)
 
 pub mark_behind-requires : goal.mark_behind-requires
 mark_behind-requires c =

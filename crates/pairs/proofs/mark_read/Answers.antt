@@ -1,13 +1,9 @@
 use native.Mathlib.Omega.{arith}
-use borrow.Author.Rules.{rules}
 use Rattle.bits.proofs.Tables.{holds_self}
 use Rattle.pairs.specs.Pairs.{read_bit}
 use Rattle.pairs.proofs.Marking.{cell_on, cell_off}
 use Rattle.pairs.proofs.Pairs.{byte_source, byte_row, byte_clean, byte_other}
 use Rattle.pairs.proofs.mark_read.Goals as goal
-
-pub overflow_cast-v : goal.overflow_cast-v
-overflow_cast-v c = omega (arith, c.shared_slice_known-3-1.given c.args.i)
 
 pub set_bit-requires : goal.set_bit-requires
 set_bit-requires c =

@@ -1,5 +1,4 @@
 use mathlib.Core.Path.{sym}
-use borrow.Author.Rules.{rules}
 use Rattle.base.proofs.Tests.{denied}
 use Rattle.pairs.proofs.Priors.{prior_none}
 use mathlib.Core.Path.{ap}

@@ -1,12 +1,6 @@
 use native.Mathlib.Omega.{arith}
-use Rattle.writing.specs.Forms.{form_bytes}
 use Rattle.writing.proofs.Forms.{first-length, second-length}
-use borrow.Author.Rules.{rules}
 use Rattle.putting.proofs.event_length.Goals as goal
-
-pub returns-in-Step : goal.returns-in-Step
-unfolding form_bytes
-returns-in-Step c = rw c.in-Step.is c.step_length.ensures
 
 pub returns-in-First : goal.returns-in-First
 returns-in-First c = rw c.in-First.is (omega (arith, c.payload_length.ensures.0, first-length c.args.event))

@@ -1,6 +1,5 @@
 use Rattle.base.proofs.Fill.{appended_then, room_in, room-first, room-then}
 use Rattle.putting.proofs.Putting.{fields_say, room_as, room-number}
-use borrow.Author.Rules.{rules}
 use Rattle.putting.proofs.put_fields.Goals as goal
 
 pub put_number-to-requires : goal.put_number-to-requires

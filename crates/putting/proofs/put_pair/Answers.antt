@@ -1,7 +1,6 @@
 use mathlib.Core.Path.{refl}
 use Rattle.base.proofs.Fill.{appended_then, room-first, room-then}
 use Rattle.putting.proofs.Putting.{room_as, room-number}
-use borrow.Author.Rules.{rules}
 use Rattle.putting.proofs.put_pair.Goals as goal
 
 pub put_number-to-requires : goal.put_number-to-requires

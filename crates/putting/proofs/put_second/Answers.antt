@@ -1,7 +1,6 @@
 use Rattle.base.proofs.Fill.{appended_then, room_in, room-first, room-then}
 use Rattle.putting.specs.Putting.{lead_of}
 use Rattle.putting.proofs.Putting.{with_lead, room_as}
-use borrow.Author.Rules.{rules}
 use Rattle.putting.proofs.put_second.Goals as goal
 
 pub put_lead-to-requires : goal.put_lead-to-requires

@@ -1,5 +1,4 @@
 use Rattle.reads.proofs.Chain.{wrote_after}
-use borrow.Author.Rules.{rules}
 use mathlib.Core.Path.{sym, ◌∙◌}
 use Rattle.reads.proofs.wrote_after.Goals as goal
 

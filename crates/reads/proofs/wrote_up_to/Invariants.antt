@@ -1,9 +1,7 @@
 use Rattle.rules.specs.History.{op_count}
 use Rattle.table.specs.Table.{history_of}
 use Rattle.reads.specs.Verdicts.{wrote_up_to}
-use Rattle.reads.proofs.Chain.{up_to_hit, up_to_miss, up_to_end}
-use native.Mathlib.Omega.{arith}
-use mathlib.Core.Path.{◌≡◌, refl, sym, ◌∙◌}
+use mathlib.Core.Path.{◌≡◌}
 use Prim.Native.Nat.{◌≤◌}
 use Rattle.reads.proofs.wrote_up_to.Given as goal
 

@@ -1,5 +1,4 @@
 use native.Mathlib.Omega.{arith}
-use borrow.Author.Rules.{rules}
 use Rattle.rewriting.proofs.Whole.{gives_whole}
 use Rattle.rewriting.proofs.rewrite_whole.Goals as goal
 

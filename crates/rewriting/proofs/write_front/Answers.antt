@@ -1,6 +1,5 @@
 use mathlib.Core.Path.{sym}
 use lib.Seq.{length-take-le}
-use borrow.Author.Rules.{rules}
 use Rattle.rewriting.proofs.Call.{first-serial}
 use Rattle.rewriting.proofs.write_front.Goals as goal
 

@@ -3,4 +3,4 @@ use Rattle.scribe.proofs.print_answer.Goals as goal
 
 pub print_front-requires : goal.print_front-requires
 unfolding said
-print_front-requires g c = rw c.in-Length.is at c.requires
+print_front-requires g c = rw c.in-Ok.is at c.requires

@@ -1,15 +1,10 @@
-use Rattle.sessions.proofs.Walks.{TopWalk, top_start, top_hit, top_miss, top_end}
-use Rattle.table.specs.Table.{history_of}
-use borrow.Author.Rules.{rules}
+use Rattle.sessions.proofs.Walks.{top_start, top_hit, top_miss, top_end}
 use native.Mathlib.Omega.{arith}
 use mathlib.Core.Path.{sym, ◌∙◌}
 use Rattle.sessions.proofs.any_open.Goals as goal
 
 pub loop-t-init : goal.loop-t-init
 loop-t-init c = rw c.txs-t.ensures (top_start _)
-
-pub is_open-requires : goal.is_open-requires
-is_open-requires c = record { held = c.requires; from = c.loop-t-test.true; to = c.loop-t.invariant.within }
 
 pub returns-then-is_open : goal.returns-then-is_open
 returns-then-is_open c =
@@ -20,4 +15,4 @@ pub loop-t-preserved : goal.loop-t-preserved
 loop-t-preserved c = top_miss _ c.loop-t.invariant (omega arith) (sym c.is_open.ensures ∙ c.if-is_open.false)
 
 pub returns : goal.returns
-returns c = record { is = sym (top_end _ c.loop-t.invariant c.loop-t-test.false); below = omega arith }
+returns c = record { is = sym (top_end _ c.loop-t.invariant (omega arith)); below = omega arith }

@@ -1,5 +1,4 @@
 use Rattle.sessions.specs.Open.{bucket_for}
-use borrow.Author.Rules.{rules}
 use native.Mathlib.Omega.{arith}
 use mathlib.Core.Path.{refl}
 use Rattle.sessions.proofs.bucket.Goals as goal

@@ -1,31 +1,24 @@
+use Prim.Native.Nat.{ℕ}
+use mathlib.Core.Bool.{false}
+use mathlib.Core.Path.{◌≡◌, refl}
+use Rattle.rules.specs.declared.Event.{Event}
+use Rattle.rules.specs.declared.Event.TheVariants.{Open, Read, Write, Close, End, Note, Other}
 use Rattle.rules.specs.Reading.{is_end}
-use borrow.Author.Rules.{rules}
 use Rattle.sessions.proofs.is_end.Goals as goal
 
-pub returns-in-Open : goal.returns-in-Open
+any_other : (e : Event) → ((n : ℕ) → e ≡ End n → ⊥) → false ≡ is_end e
 unfolding is_end
-returns-in-Open c = rw c.in-Open.is
-
-pub returns-in-Read : goal.returns-in-Read
-unfolding is_end
-returns-in-Read c = rw c.in-Read.is
-
-pub returns-in-Write : goal.returns-in-Write
-unfolding is_end
-returns-in-Write c = rw c.in-Write.is
-
-pub returns-in-Close : goal.returns-in-Close
-unfolding is_end
-returns-in-Close c = rw c.in-Close.is
+any_other (Open s) d = refl
+any_other (Read k v) d = refl
+any_other (Write k v) d = refl
+any_other (Close x) d = refl
+any_other (End n) d = absurd (d _ refl)
+any_other Note d = refl
+any_other Other d = refl
 
 pub returns-in-End : goal.returns-in-End
 unfolding is_end
 returns-in-End c = rw c.in-End.is
 
-pub returns-in-Note : goal.returns-in-Note
-unfolding is_end
-returns-in-Note c = rw c.in-Note.is
-
-pub returns-in-Other : goal.returns-in-Other
-unfolding is_end
-returns-in-Other c = rw c.in-Other.is
+pub returns-in_default : goal.returns-in_default
+returns-in_default c = any_other _ c.in_default.not-End

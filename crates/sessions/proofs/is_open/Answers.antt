@@ -1,5 +1,4 @@
 use Rattle.rules.specs.History.{is_open}
-use borrow.Author.Rules.{rules}
 use Rattle.sessions.proofs.is_open.Goals as goal
 
 pub returns : goal.returns

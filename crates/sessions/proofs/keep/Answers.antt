@@ -1,6 +1,5 @@
 use Rattle.sessions.specs.Open.{session_bucket}
 use Rattle.sessions.proofs.Taken.{kept_same, kept_more, kept_less}
-use borrow.Author.Rules.{rules}
 use native.Mathlib.Omega.{arith}
 use mathlib.Core.Path.{sym, ◌∙◌}
 use Rattle.table.specs.Table.{history_of}

@@ -1,5 +1,4 @@
 use Rattle.sessions.proofs.Taken.{second_end, second-session, first-met}
-use borrow.Author.Rules.{rules}
 use mathlib.Core.Path.{sym, ◌∙◌}
 use Rattle.sessions.proofs.met.Goals as goal
 
@@ -7,11 +6,6 @@ pub returns-then-is_end : goal.returns-then-is_end
 returns-then-is_end c =
     let x = c.any_open.ensures in
     record { is = x.is ∙ sym (second_end _ _ _ c.if-second.true (sym c.is_end.ensures ∙ c.if-is_end.true)); below = x.below }
-
-pub open_of-requires : goal.open_of-requires
-open_of-requires c =
-    let p = c.requires in
-    (p.0, p.1.kept c.if-second.true)
 
 pub returns-then-second : goal.returns-then-second
 returns-then-second c =

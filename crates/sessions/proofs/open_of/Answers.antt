@@ -1,23 +1,10 @@
-use Rattle.sessions.proofs.Walks.{BucketWalk, walk_start, walk_hit, walk_miss, walk_less, walk_end}
-use Rattle.table.specs.Table.{history_of}
-use Prim.Native.Nat.{◌+◌}
+use Rattle.sessions.proofs.Walks.{walk_start, walk_hit, walk_miss, walk_less, walk_end}
 use native.Mathlib.Omega.{arith}
-use borrow.Author.Rules.{rules}
 use mathlib.Core.Path.{sym, ◌∙◌}
 use Rattle.sessions.proofs.open_of.Goals as goal
 
-pub bounds-o-bucket : goal.bounds-o-bucket
-bounds-o-bucket c = omega (arith, c.bucket.ensures.below, c.requires.1.room)
-
-pub overflow_cast-t : goal.overflow_cast-t
-overflow_cast-t c = omega (arith, c.shared_slice_known-3-1.given c.bucket.result)
-
 pub loop-t-init : goal.loop-t-init
 loop-t-init c = rw c.bucket.ensures.is (walk_start _ _ c.requires.1)
-
-pub session_of-requires : goal.session_of-requires
-session_of-requires c =
-    record { held = c.requires.0; from = c.loop-t-test.true; to = c.loop-t.invariant.within }
 
 pub returns-then-session_of-session : goal.returns-then-session_of-session
 returns-then-session_of-session c =
@@ -26,18 +13,7 @@ returns-then-session_of-session c =
       below = omega (arith, c.loop-t.invariant.within);
     }
 
-pub overflow_add-t : goal.overflow_add-t
-overflow_add-t c = omega (arith, c.loop-t.invariant.within)
-
 -- a byte's place lies within the 256
-pub bounds-o-t : goal.bounds-o-t
-bounds-o-t c =
-    let p = c.requires in
-    omega (arith, c.loop-t.invariant.within, p.0.few, p.1.room)
-
-pub overflow_cast-t-in-loop-t : goal.overflow_cast-t-in-loop-t
-overflow_cast-t-in-loop-t c = omega (arith, c.shared_slice_known-in-loop-t-1.given (128 + c.loop-t.t))
-
 pub loop-t-smaller : goal.loop-t-smaller
 loop-t-smaller c =
     let p = c.requires in

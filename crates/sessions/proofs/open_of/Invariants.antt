@@ -1,9 +1,5 @@
-use Rattle.sessions.proofs.Walks.{BucketWalk, walk_start, walk_hit, walk_miss, walk_less, walk_end}
+use Rattle.sessions.proofs.Walks.{BucketWalk}
 use Rattle.table.specs.Table.{history_of}
-use Prim.Native.Nat.{◌+◌}
-use native.Mathlib.Omega.{arith}
-use borrow.Author.Rules.{rules}
-use mathlib.Core.Path.{sym, ◌∙◌}
 use Rattle.sessions.proofs.open_of.Given as goal
 
 abbrev pub invariant-loop-t : goal.invariant-loop-t

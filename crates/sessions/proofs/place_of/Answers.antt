@@ -1,10 +1,7 @@
-use Rattle.sessions.specs.Open.{OnWay, session_bucket}
+use Rattle.sessions.specs.Open.{session_bucket}
 use Rattle.sessions.proofs.Kept.{way_in}
 use Rattle.sessions.proofs.Walks.{way_start, way_more, way_less}
-use Rattle.table.specs.Table.{history_of}
-use borrow.Author.Rules.{rules}
 use native.Mathlib.Omega.{arith}
-use lib.ListN.{get_or}
 use Rattle.sessions.proofs.place_of.Goals as goal
 
 pub loop-p-init : goal.loop-p-init
@@ -18,19 +15,10 @@ bounds-o-p c =
     let p = c.requires in
     omega (arith, way_in c.loop-p.invariant p.0.held.few, p.1.room)
 
-pub overflow_cast-o : goal.overflow_cast-o
-overflow_cast-o c = omega (arith, c.shared_slice_known-in-loop-p-1.given c.loop-p.p)
-
 pub bounds-o-p-in-loop-p : goal.bounds-o-p-in-loop-p
 bounds-o-p-in-loop-p c =
     let p = c.requires in
     omega (arith, way_in c.loop-p.invariant p.0.held.few, p.1.room)
-
-pub overflow_cast-p : goal.overflow_cast-p
-overflow_cast-p c = omega (arith, c.shared_slice_known-in-loop-p-2-1.given c.loop-p.p)
-
-pub overflow_add-p : goal.overflow_add-p
-overflow_add-p c = omega (arith, c.shared_slice_known-in-loop-p-2-1.given c.loop-p.p)
 
 pub loop-p-smaller : goal.loop-p-smaller
 loop-p-smaller c =
@@ -41,6 +29,3 @@ pub loop-p-preserved : goal.loop-p-preserved
 loop-p-preserved c =
     let p = c.requires in
     way_more _ _ p.1 p.0.held.few p.2 c.loop-p.invariant c.loop-p-test.true
-
-pub returns : goal.returns
-returns c = (c.loop-p.invariant, c.loop-p-test.false)

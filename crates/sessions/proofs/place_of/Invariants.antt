@@ -1,9 +1,5 @@
-use Rattle.sessions.specs.Open.{OnWay, session_bucket}
-use Rattle.sessions.proofs.Kept.{way_in}
-use Rattle.sessions.proofs.Walks.{way_start, way_more, way_less}
+use Rattle.sessions.specs.Open.{OnWay}
 use Rattle.table.specs.Table.{history_of}
-use borrow.Author.Rules.{rules}
-use native.Mathlib.Omega.{arith}
 use lib.ListN.{get_or}
 use Rattle.sessions.proofs.place_of.Given as goal
 

@@ -1,6 +1,5 @@
 use Rattle.base.proofs.Tests.{clash}
 use Rattle.sessions.proofs.Taken.{meets_open, kept-after, as_many, never_fewer}
-use borrow.Author.Rules.{rules}
 use native.Mathlib.Omega.{arith}
 use mathlib.Core.Path.{refl, sym, ◌∙◌}
 use Rattle.sessions.proofs.take.Goals as goal

@@ -1,7 +1,5 @@
-use borrow.Author.Rules.{rules}
 use Rattle.settling.proofs.Marks.{settles}
 use Rattle.settling.proofs.settle.Goals as goal
 
 pub returns : goal.returns
-returns c =
-    settles c.admit_said-n.ensures.1 c.admit_on.ensures
+returns c = settles c.admit_said-q.ensures.1 c.admit_on.ensures

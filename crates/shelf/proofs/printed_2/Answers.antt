@@ -1,6 +1,5 @@
 use mathlib.Core.Path.{sym}
 use native.Mathlib.Omega.{arith}
-use borrow.Author.Rules.{rules}
 use Rattle.written.specs.Writes.{AllBytes}
 use Rattle.shelf.proofs.Printed.{moved_printed_iff}
 use Rattle.shelf.proofs.printed_2.Goals as goal

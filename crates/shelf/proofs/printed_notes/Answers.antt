@@ -1,5 +1,4 @@
 use mathlib.Core.Path.{sym}
-use borrow.Author.Rules.{rules}
 use Rattle.shelf.proofs.Printed.{notes_printed_iff}
 use Rattle.shelf.proofs.printed_notes.Goals as goal
 

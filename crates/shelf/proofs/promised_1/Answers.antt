@@ -1,5 +1,4 @@
 use native.Mathlib.Omega.{arith}
-use borrow.Author.Rules.{rules}
 use Rattle.written.specs.Writes.{AllBytes}
 use Rattle.moved.proofs.Moves.{moves}
 use Rattle.shelf.proofs.promised_1.Goals as goal

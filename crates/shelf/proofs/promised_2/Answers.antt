@@ -1,5 +1,4 @@
 use native.Mathlib.Omega.{arith}
-use borrow.Author.Rules.{rules}
 use Rattle.written.specs.Writes.{AllBytes}
 use Rattle.moved.proofs.Tally.{moves_to_second}
 use Rattle.shelf.proofs.promised_2.Goals as goal

@@ -1,6 +1,4 @@
-use Prim.Native.Nat.{ℕ, ◌<◌}
 use native.Mathlib.Omega.{arith}
-use borrow.Author.Rules.{rules}
 use Rattle.text.proofs.Lines.{decimal_one, decimal_more}
 use Rattle.show.proofs.Laws.{first_short, then_short, put_then}
 use Rattle.show.proofs.+put_number.Goals as goal

@@ -1,4 +1,3 @@
-use lib.ListN.{length-set}
 use Rattle.show.proofs.Laws.{byte_in, byte_past}
 use Rattle.show.proofs.put_byte.Goals as goal
 use Rattle.show.proofs.put_byte.Goals.{then-at-out, else-at-out}

@@ -1,19 +1,8 @@
-use Prim.Native.Nat.{◌+◌, ◌-◌, ◌≤◌}
-use mathlib.Core.Path.{ap, sym, ◌∙◌}
-use lib.ListN.{length}
-use native.Mathlib.Omega.{arith}
-use borrow.Author.Rules.{rules}
-use Rattle.base.proofs.Fill.{Sizing, size_start, size_end}
-use Rattle.rules.specs.History.{op_count}
-use Rattle.rules.specs.Reads.{is_finding}
-use Rattle.table.specs.Table.{history_of}
-use Rattle.sifting.specs.Lists.{entry_at}
-use Rattle.sifting.proofs.Listings.{pick_most, count_on, counting_most}
-use Rattle.sifting.proofs.Findings.{findings-listed, kind_says}
+use mathlib.Core.Path.{◌≡◌}
+use lib.ListN.{take}
+use Rattle.std.specs.List.{count_by}
+use Rattle.sifting.specs.Lists.{is_kind}
 use Rattle.sifting.proofs.count_findings.Given as goal
 
-abbrev pub invariant-loop-i : goal.invariant-loop-i
-invariant-loop-i l = (1 ≤ l.i) × Sizing (entry_at (is_finding (history_of l.h))) 1 (op_count (history_of l.h) + 1) l.i l.found
-
-abbrev pub decreases-loop-i : goal.decreases-loop-i
-decreases-loop-i l = l.n + 1 - l.i
+abbrev pub invariant-loop-v : goal.invariant-loop-v
+invariant-loop-v l = l.found ≡ count_by is_kind (take l.v-index l.v-items)

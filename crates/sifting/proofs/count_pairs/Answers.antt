@@ -1,16 +1,8 @@
-use Prim.Native.Nat.{◌-◌}
 use mathlib.Core.Path.{◌∙◌}
 use native.Mathlib.Omega.{arith}
-use Rattle.base.proofs.Fill.{Sizing, size_start, size_step, size_end}
-use Rattle.sifting.specs.Lists.{firsts_of}
+use Rattle.base.proofs.Fill.{size_step, size_end}
 use Rattle.sifting.proofs.Pairs.{row_most, pairs_most, by_second}
 use Rattle.sifting.proofs.count_pairs.Goals as goal
-
-pub loop-b-init : goal.loop-b-init
-loop-b-init c = size_start _ _ _
-
-pub count_row-found-requires : goal.count_row-found-requires
-count_row-found-requires c = (c.requires, c.loop-b-test.true)
 
 pub overflow_add-found : goal.overflow_add-found
 overflow_add-found c = let t = c.requires in

@@ -1,9 +1,5 @@
-use borrow.Author.Rules.{rules}
 use Rattle.sifting.proofs.Sifted.{kept-all, lost_one}
 use Rattle.sifting.proofs.drop_unless.Goals as goal
-
-pub overflow_shl-a : goal.overflow_shl-a
-overflow_shl-a c = c.requires
 
 pub returns-then-led : goal.returns-then-led
 returns-then-led c = kept-all _ _ c.if-led.true

@@ -1,8 +1,5 @@
 use Prim.Native.Nat.{◌-◌}
-use native.Mathlib.Omega.{arith}
-use borrow.Author.Rules.{rules}
-use Rattle.bits.proofs.Smallest.{lost_more}
-use Rattle.sifting.proofs.Sifted.{Tried, tried_start, tried_next, tried_end}
+use Rattle.sifting.proofs.Sifted.{Tried}
 use Rattle.sifting.proofs.led_to.Given as goal
 
 abbrev pub invariant-loop-a : goal.invariant-loop-a

@@ -1,6 +1,5 @@
 use mathlib.Core.Path.{refl}
 use native.Mathlib.Omega.{arith}
-use borrow.Author.Rules.{rules}
 use Rattle.base.proofs.Tests.{denied, granted}
 use Rattle.base.proofs.Fill.{appended-length, appended_then}
 use Rattle.sifting.proofs.Listings.{left_out, put_in}
@@ -9,16 +8,10 @@ use mathlib.Core.Path.{ap}
 use mathlib.Core.Bool.{not}
 use Rattle.sifting.proofs.put_finding.Goals as goal
 
-pub bounds-k-i : goal.bounds-k-i
-bounds-k-i c = let p = c.requires in omega (arith, p.0.judged.room, p.1.to, p.1.held.most)
-
 pub returns-then-not-is_kind : goal.returns-then-not-is_kind
 returns-then-not-is_kind c =
     let p = c.requires in
     rw (finding_says p.0 p.1 refl refl) (left_out _ (denied c.is_kind.ensures (ap not c.if-not-is_kind.true)) (omega arith))
-
-pub overflow_cast-t : goal.overflow_cast-t
-overflow_cast-t c = omega (arith, c.tx_of-t.ensures.below, c.requires.1.held.few)
 
 pub put2-to-requires : goal.put2-to-requires
 put2-to-requires c =

@@ -1,42 +1,26 @@
-use Prim.Native.Nat.{◌+◌, ◌-◌, ◌≤◌}
 use native.Mathlib.Omega.{arith}
-use Rattle.base.proofs.Fill.{Filling, appended-length, fill_start, fill-room, fill_step, fill_end}
-use Rattle.rules.specs.History.{op_count}
-use Rattle.table.specs.Table.{history_of}
-use Rattle.sifting.specs.Lists.{finding_at}
+use Rattle.base.proofs.Fill.{fill-room, fill_step, fill_end}
 use Rattle.sifting.proofs.Findings.{list_listed, findings_fit}
 use Rattle.sifting.proofs.put_findings.Goals as goal
 
-pub ops-n-requires : goal.ops-n-requires
-ops-n-requires c = c.requires.0.settled.held
-
-pub loop-i-init : goal.loop-i-init
-loop-i-init c = (omega arith, fill_start _ _ _ _ _ (omega arith))
-
 pub put_finding-at-requires : goal.put_finding-at-requires
 put_finding-at-requires c =
-    let p = c.requires in (
+    let p = c.requires in
+    let n = c.ops-n.ensures in (
       p.0,
-      record { held = p.0.settled.held; from = omega arith; to = omega (arith, c.ops-n.ensures) },
-      fill-room _ _ _ _ _ c.loop-i.invariant.1 (findings_fit _ _ p.1) (omega (arith, c.ops-n.ensures)),
+      record { held = p.0.settled.held; from = omega arith; to = omega arith },
+      fill-room _ _ _ _ _ c.loop-i.invariant (findings_fit _ _ p.1) (omega arith),
     )
 
-pub overflow_add-i : goal.overflow_add-i
-overflow_add-i c = omega (
-  arith,
-  c.ops-n.ensures,
-  c.requires.0.settled.held.most,
-)
-
 pub loop-i-preserved : goal.loop-i-preserved
-loop-i-preserved c = (
-  omega arith,
-  fill_step _ _ _ _ _ c.loop-i.invariant.1
-      (omega (arith, c.ops-n.ensures)) c.put_finding-at.ensures,
-)
-
-pub shape_of-out : goal.shape_of-out
-shape_of-out c = appended-length c.loop-i.invariant.1.is
+loop-i-preserved c =
+    let n = c.ops-n.ensures in fill_step _ _ _ _ _ c.loop-i.invariant (omega arith) c.put_finding-at.ensures
 
 pub returns : goal.returns
-returns c = rw (list_listed _) (fill_end _ _ _ _ _ c.loop-i.invariant.1 (omega (arith, c.ops-n.ensures)))
+returns c = let n = c.ops-n.ensures in rw (list_listed _) (fill_end _ _ _ _ _ c.loop-i.invariant (omega arith))
+
+-- after the last operation
+pub returns-2 : goal.returns-2
+returns-2 c =
+    let n = c.ops-n.ensures in
+    rw (list_listed _) (fill_end _ _ _ _ _ (fill_step _ _ _ _ _ c.loop-i.invariant (omega arith) c.put_finding-at.ensures) (omega arith))

@@ -1,6 +1,5 @@
 use Rattle.table.specs.Table.{bucket_of}
 use Rattle.base.specs.Base.{pick}
-use borrow.Author.Rules.{rules}
 use borrow.Author.Tests.{lt-ltb, le-ltb}
 use native.Mathlib.Omega.{arith}
 use Rattle.table.proofs.bucket_of.Goals as goal

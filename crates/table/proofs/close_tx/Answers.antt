@@ -1,6 +1,5 @@
 use Rattle.table.proofs.Stores.{close_tx-holds}
 use Rattle.table.specs.Table.{close_tx}
-use borrow.Author.Rules.{rules}
 use native.Mathlib.Omega.{arith}
 use mathlib.Core.Path.{refl}
 use Rattle.table.proofs.close_tx.Goals as goal

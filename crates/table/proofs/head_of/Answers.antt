@@ -1,6 +1,5 @@
 use Rattle.table.proofs.Words.{head_is-kept}
 use Rattle.table.specs.Table.{head_at}
-use borrow.Author.Rules.{rules}
 use Rattle.table.proofs.head_of.Goals as goal
 
 pub returns : goal.returns

@@ -1,5 +1,4 @@
 use Rattle.table.specs.Table.{marked}
-use borrow.Author.Rules.{rules}
 use mathlib.Core.Path.{refl}
 use Rattle.table.proofs.is_marked.Goals as goal
 

@@ -1,6 +1,5 @@
 use Rattle.table.proofs.Words.{op-is}
 use Rattle.table.specs.Table.{op_at, op_of}
-use borrow.Author.Rules.{rules}
 use Rattle.table.proofs.is_write.Goals as goal
 
 pub returns : goal.returns

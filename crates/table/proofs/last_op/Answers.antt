@@ -1,6 +1,5 @@
 use Rattle.table.proofs.Words.{last-is-kept}
 use Rattle.table.specs.Table.{last_at}
-use borrow.Author.Rules.{rules}
 use Rattle.table.proofs.last_op.Goals as goal
 
 pub returns : goal.returns

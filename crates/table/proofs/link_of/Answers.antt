@@ -1,6 +1,5 @@
 use Rattle.table.proofs.Words.{link_is-kept}
 use Rattle.table.specs.Table.{link_at}
-use borrow.Author.Rules.{rules}
 use Rattle.table.proofs.link_of.Goals as goal
 
 pub returns : goal.returns

@@ -1,7 +1,5 @@
 use Rattle.table.proofs.Stores.{mark-holds}
 use Rattle.table.specs.Table.{mark_tx}
-use borrow.Author.Rules.{rules}
-use native.Mathlib.Omega.{arith}
 use mathlib.Core.Path.{refl}
 use Rattle.table.proofs.mark.Goals as goal
 

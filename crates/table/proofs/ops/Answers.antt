@@ -1,5 +1,4 @@
 use Rattle.table.proofs.Words.{op-count}
-use borrow.Author.Rules.{rules}
 use mathlib.Core.Path.{sym}
 use Rattle.table.proofs.ops.Goals as goal
 

@@ -1,6 +1,5 @@
 use mathlib.Core.Path.{sym, ◌∙◌}
 use native.Mathlib.Omega.{arith}
-use borrow.Author.Rules.{rules}
 use Rattle.rules.proofs.Origin.{origin_zero, origin_search}
 use Rattle.table.proofs.origin_of.Goals as goal
 

@@ -1,7 +1,5 @@
-use Rattle.rules.specs.History.{op}
-use Rattle.table.proofs.Walks.{ListWalk, list_start, list_hit, list_miss, list_end, list_has}
-use Rattle.table.specs.Table.{history_of, prev_list}
-use borrow.Author.Rules.{rules}
+use Rattle.table.proofs.Walks.{list_start, list_hit, list_miss, list_end, list_has}
+use Rattle.table.specs.Table.{prev_list}
 use native.Mathlib.Omega.{arith}
 use mathlib.Core.Path.{refl, sym, ◌∙◌}
 use Rattle.table.proofs.prev_list.Goals as goal

@@ -1,9 +1,6 @@
 use Rattle.rules.specs.History.{op}
-use Rattle.table.proofs.Walks.{ListWalk, list_start, list_hit, list_miss, list_end, list_has}
-use Rattle.table.specs.Table.{history_of, prev_list}
-use borrow.Author.Rules.{rules}
-use native.Mathlib.Omega.{arith}
-use mathlib.Core.Path.{refl, sym, ◌∙◌}
+use Rattle.table.proofs.Walks.{ListWalk}
+use Rattle.table.specs.Table.{history_of}
 use Rattle.table.proofs.prev_list.Given as goal
 
 abbrev pub invariant-loop-j : goal.invariant-loop-j

@@ -1,6 +1,5 @@
 use Rattle.table.proofs.Words.{prev_is-kept}
 use Rattle.table.specs.Table.{prev_at}
-use borrow.Author.Rules.{rules}
 use Rattle.table.proofs.prev_op.Goals as goal
 
 pub returns : goal.returns

@@ -1,6 +1,5 @@
 use Rattle.table.proofs.Words.{op-count, last_small}
 use Rattle.table.specs.Table.{put_words}
-use borrow.Author.Rules.{rules}
 use native.Mathlib.Omega.{arith}
 use mathlib.Core.Path.{refl}
 use lib.ListN.{length-set}

@@ -1,7 +1,6 @@
 use Rattle.base.specs.Base.{pick}
 use Rattle.table.proofs.Stores.{put_becomes}
 use Rattle.table.specs.Table.{put_read, put_op}
-use borrow.Author.Rules.{rules}
 use native.Mathlib.Omega.{arith}
 use Rattle.table.proofs.put_read.Goals as goal
 

@@ -1,7 +1,6 @@
 use Rattle.table.proofs.Words.{tx-count, op-count}
 use Rattle.table.proofs.Stores.{put-tx-holds}
 use Rattle.table.specs.Table.{put_tx}
-use borrow.Author.Rules.{rules}
 use native.Mathlib.Omega.{arith}
 use mathlib.Core.Path.{refl}
 use lib.ListN.{length-set}

@@ -1,6 +1,5 @@
 use Rattle.table.proofs.Words.{op-count, head_small}
 use Rattle.table.proofs.Stores.{put_becomes, write_stored}
-use borrow.Author.Rules.{rules}
 use native.Mathlib.Omega.{arith}
 use Rattle.table.proofs.put_write.Goals as goal
 

@@ -1,6 +1,5 @@
 use Rattle.table.proofs.Words.{tx-is}
 use Rattle.table.specs.Table.{tx_at}
-use borrow.Author.Rules.{rules}
 use Rattle.table.proofs.status_of.Goals as goal
 
 pub returns : goal.returns

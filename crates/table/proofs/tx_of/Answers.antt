@@ -1,6 +1,5 @@
 use Rattle.table.proofs.Words.{tx-kept}
 use Rattle.table.specs.Table.{op_at, op_of}
-use borrow.Author.Rules.{rules}
 use Rattle.table.proofs.tx_of.Goals as goal
 
 pub returns : goal.returns

@@ -1,5 +1,4 @@
 use Rattle.table.proofs.Words.{tx-count}
-use borrow.Author.Rules.{rules}
 use mathlib.Core.Path.{sym}
 use Rattle.table.proofs.txs.Goals as goal
 

@@ -1,6 +1,5 @@
 use Rattle.table.proofs.Words.{op-is}
 use Rattle.table.specs.Table.{op_at, op_of}
-use borrow.Author.Rules.{rules}
 use Rattle.table.proofs.value_of.Goals as goal
 
 pub returns : goal.returns

@@ -1,6 +1,4 @@
-use Rattle.table.proofs.Walks.{ChainWalk, walk_start, walk_hit, walk_miss, walk_end, walk_has}
-use Rattle.table.specs.Table.{history_of}
-use borrow.Author.Rules.{rules}
+use Rattle.table.proofs.Walks.{walk_start, walk_hit, walk_miss, walk_end, walk_has}
 use native.Mathlib.Omega.{arith}
 use mathlib.Core.Path.{sym, ◌∙◌}
 use Rattle.table.proofs.write_of.Goals as goal

@@ -1,8 +1,5 @@
-use Rattle.table.proofs.Walks.{ChainWalk, walk_start, walk_hit, walk_miss, walk_end, walk_has}
+use Rattle.table.proofs.Walks.{ChainWalk}
 use Rattle.table.specs.Table.{history_of}
-use borrow.Author.Rules.{rules}
-use native.Mathlib.Omega.{arith}
-use mathlib.Core.Path.{sym, ◌∙◌}
 use Rattle.table.proofs.write_of.Given as goal
 
 abbrev pub invariant-loop-i : goal.invariant-loop-i

@@ -1,7 +1,6 @@
 use mathlib.Core.Path.{◌∙◌}
 use native.Mathlib.Omega.{arith}
 use Rattle.telling.proofs.Texts.{moved_does, told}
-use borrow.Author.Rules.{rules}
 use Rattle.telling.proofs.edition_1_text.Goals as goal
 
 pub returns : goal.returns

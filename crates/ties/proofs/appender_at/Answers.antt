@@ -1,15 +1,10 @@
 use mathlib.Core.Path.{◌∙◌}
 use native.Mathlib.Omega.{arith}
-use borrow.Author.Rules.{rules}
 use Rattle.ties.proofs.Ties.{appender_none, appender_some}
 use Rattle.ties.proofs.appender_at.Goals as goal
 
 pub returns-then-w-eq0 : goal.returns-then-w-eq0
 returns-then-w-eq0 c = record { is = appender_none _ _ _ c.append_at-w.ensures.is c.if-w-eq0.true; below = omega arith }
-
-pub tx_of-requires : goal.tx_of-requires
-tx_of-requires c =
-    record { held = c.requires.0.held; from = omega arith; to = omega (arith, c.append_at-w.ensures.below) }
 
 pub returns : goal.returns
 returns c =

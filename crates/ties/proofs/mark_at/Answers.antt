@@ -1,14 +1,7 @@
 use mathlib.Core.Path.{sym, ◌∙◌}
-use native.Mathlib.Omega.{arith}
-use borrow.Author.Rules.{rules}
 use Rattle.grading.proofs.Spots.{list_found}
 use Rattle.ties.proofs.Ties.{either-none, either_same, clean_list, ties_none, ties_next, ties_last}
 use Rattle.ties.proofs.mark_at.Goals as goal
-
-pub code_at-requires : goal.code_at-requires
-code_at-requires c =
-    let p = c.requires in
-    (p.0, p.1)
 
 pub returns-then-code_at-ne1 : goal.returns-then-code_at-ne1
 returns-then-code_at-ne1 c =
@@ -19,24 +12,12 @@ spot_of-e-requires c =
     let p = c.requires in
     (p.0.within, list_found p.1 (clean_list _ _ _ (sym c.code_at.ensures ∙ c.if-code_at-ne1.false)))
 
-pub tx_of-requires : goal.tx_of-requires
-tx_of-requires c = c.requires.1
-
-pub mark_last-requires : goal.mark_last-requires
-mark_last-requires c =
-    let p = c.requires in
-    (c.spot_of-e.ensures.keyed, p.2, omega (arith, c.tx_of.ensures.below, p.1.held.few))
-
 pub returns-then-reads : goal.returns-then-reads
 returns-then-reads c =
     either_same _ c.mark_last.ensures (ties_last _ _ _ _ (sym c.code_at.ensures ∙ c.if-code_at-ne1.false)
     c.spot_of-e.ensures.key c.spot_of-e.ensures.list c.if-reads.true c.tx_of.ensures.is)
 
-pub mark_next-requires : goal.mark_next-requires
-mark_next-requires c =
-    (c.spot_of-e.ensures.keyed, c.requires.2)
-
-pub returns : goal.returns
-returns c =
+pub returns-else-reads : goal.returns-else-reads
+returns-else-reads c =
     either_same _ c.mark_next.ensures (ties_next _ _ _ _ (sym c.code_at.ensures ∙ c.if-code_at-ne1.false)
     c.spot_of-e.ensures.key c.spot_of-e.ensures.list c.if-reads.false)

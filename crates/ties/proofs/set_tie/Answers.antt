@@ -1,7 +1,6 @@
 use mathlib.Core.Bool.{not}
 use mathlib.Core.Path.{refl, ap}
 use borrow.Author.Tests.{eq-eqb, ne_eqb}
-use borrow.Author.Rules.{rules}
 use Rattle.bits.proofs.Tables.{holds_self}
 use Rattle.pairs.proofs.Marking.{cell_on, cell_off}
 use Rattle.ties.specs.Ties.{tied}

@@ -5,7 +5,7 @@ use Rattle.trace.proofs.finish.Goals as goal
 
 pub returns-then-at-s : goal.returns-then-at-s
 unfolding finish pick
-returns-then-at-s c = rw (lt-ltb _ _ c.if-at-s.true)
+returns-then-at-s c = rw (c.at.ensures, lt-ltb _ _ c.if-at-s.true)
 
 pub returns : goal.returns
 unfolding finish pick

@@ -4,9 +4,9 @@ use Rattle.sessions.specs.Open.{Beside}
 use Rattle.trace.proofs.Going.{Going, going_first, going_over, going_behind, going_less, going_more}
 use Rattle.trace.proofs.read_records.Given as goal
 
-abbrev pub invariant-loop-out : goal.invariant-loop-out
-invariant-loop-out l =
+abbrev pub invariant-loop-turn : goal.invariant-loop-turn
+invariant-loop-turn l =
     Going l.s l.from l.expected l.counted l.initial.h l.each l.at l.serial l.notes l.h × Beside l.second l.o (history_of l.h)
 
-abbrev pub decreases-loop-out : goal.decreases-loop-out
-decreases-loop-out l = length l.s - l.at
+abbrev pub decreases-loop-turn : goal.decreases-loop-turn
+decreases-loop-turn l = length l.s - l.at

@@ -5,6 +5,6 @@ pub returns-then-each : goal.returns-then-each
 unfolding ◌or◌
 returns-then-each c = rw c.if-each.true
 
-pub returns : goal.returns
+pub returns-else-each : goal.returns-else-each
 unfolding ◌or◌
-returns c = rw c.if-each.false
+returns-else-each c = rw c.if-each.false

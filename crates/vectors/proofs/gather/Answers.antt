@@ -1,6 +1,4 @@
-use native.Mathlib.Omega.{arith}
-use borrow.Author.Rules.{rules}
-use Rattle.vectors.proofs.Gathering.{dropped, Gathering, gathering_start, gathering_turn, gathering_less, gathering_step, gathering_end}
+use Rattle.vectors.proofs.Gathering.{dropped, gathering_start, gathering_turn, gathering_less, gathering_step, gathering_end}
 use Rattle.vectors.proofs.gather.Goals as goal
 
 pub loop-p-init : goal.loop-p-init

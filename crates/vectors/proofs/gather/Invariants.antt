@@ -1,6 +1,4 @@
-use native.Mathlib.Omega.{arith}
-use borrow.Author.Rules.{rules}
-use Rattle.vectors.proofs.Gathering.{dropped, Gathering, gathering_start, gathering_turn, gathering_less, gathering_step, gathering_end}
+use Rattle.vectors.proofs.Gathering.{Gathering}
 use Rattle.vectors.proofs.gather.Given as goal
 
 abbrev pub invariant-loop-p : goal.invariant-loop-p

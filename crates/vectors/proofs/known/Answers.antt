@@ -1,31 +1,12 @@
-use Prim.Native.Nat.{◌-◌}
 use native.Mathlib.Omega.{arith}
-use Rattle.vectors.proofs.Joining.{entry_small, Joining, joining_start, joining_step, joining_end}
+use Rattle.vectors.proofs.Joining.{entry_small, joining_start, joining_step, joining_end}
 use Rattle.vectors.proofs.known.Goals as goal
 
 pub loop-s-init : goal.loop-s-init
 loop-s-init c = joining_start
 
-pub overflow_cast-x : goal.overflow_cast-x
-overflow_cast-x c = omega (arith, entry_small c.loop-s.s (omega arith) c.requires.4)
-
-pub overflow_mul-lo : goal.overflow_mul-lo
-overflow_mul-lo c = omega (arith, entry_small c.loop-s.s (omega arith) c.requires.4)
-
-pub offset_bounds-f-x : goal.offset_bounds-f-x
-offset_bounds-f-x c = omega (arith, entry_small c.loop-s.s (omega arith) c.requires.4)
-
 pub bounds-f-x : goal.bounds-f-x
 bounds-f-x c = omega (arith, entry_small c.loop-s.s (omega arith) c.requires.4)
-
-pub overflow_mul-hi : goal.overflow_mul-hi
-overflow_mul-hi c = omega (arith, entry_small c.loop-s.s (omega arith) c.requires.4)
-
-pub overflow_add-hi : goal.overflow_add-hi
-overflow_add-hi c = omega (arith, entry_small c.loop-s.s (omega arith) c.requires.4)
-
-pub offset_bounds-f-x-in-loop-s : goal.offset_bounds-f-x-in-loop-s
-offset_bounds-f-x-in-loop-s c = omega (arith, entry_small c.loop-s.s (omega arith) c.requires.4)
 
 pub bounds-f-x-in-loop-s : goal.bounds-f-x-in-loop-s
 bounds-f-x-in-loop-s c = omega (arith, entry_small c.loop-s.s (omega arith) c.requires.4)

@@ -1,5 +1,4 @@
 use native.Mathlib.Omega.{arith}
-use borrow.Author.Rules.{rules}
 use Rattle.vectors.specs.Vectors.{column_of}
 use Rattle.vectors.proofs.Taking.{sources, taken_row}
 use Rattle.vectors.proofs.take_row.Goals as goal
@@ -8,11 +7,6 @@ pub gather-requires : goal.gather-requires
 gather-requires c = sources c.requires
 
 -- t's column
-pub overflow_cast-c : goal.overflow_cast-c
-unfolding column_of
-overflow_cast-c c =
-    let l = c.requires.columns.few c.args.t c.requires.here in
-    omega (arith, l, c.requires.columns.wide)
 
 pub note-requires : goal.note-requires
 unfolding column_of

@@ -9,10 +9,5 @@ go_by-width-requires c = (c.requires, fresh, fresh_vectors)
 pub returns-then-width-eq0 : goal.returns-then-width-eq0
 returns-then-width-eq0 c = told_cycle _ c.go_by-width.ensures.1 _ _ c.if-width-eq0.true
 
-pub entry_for-requires : goal.entry_for-requires
-entry_for-requires c =
-    let k = c.go_by-width.ensures in
-    (c.requires.settled, k.0, k.1.vectors (omega (arith, c.if-width-eq0.false)))
-
 pub returns : goal.returns
 returns c = told-latest _ c.go_by-width.ensures.1 _ _ (omega (arith, c.if-width-eq0.false)) c.entry_for.ensures

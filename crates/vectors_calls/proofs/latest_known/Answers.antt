@@ -1,15 +1,12 @@
-use borrow.Author.Rules.{rules}
+use Rattle.std.proofs.lemmas.Result.{err_from_is_err_and}
 use Rattle.forcing.proofs.Prepared.{prepared_bad, prepared_good}
 use Rattle.vectors_calls.proofs.Calls.{tells_refused, tells-read}
 use Rattle.vectors_calls.proofs.latest_known.Goals as goal
 
-pub latest_in-requires : goal.latest_in-requires
-latest_in-requires c =
-    (prepared_good c.prepare-read.ensures c.in-Good.is).ready
+pub returns-in_err-prepare : goal.returns-in_err-prepare
+returns-in_err-prepare c =
+    let r = err_from_is_err_and c.from_residual.result c.from_residual.ensures.1 in
+    rw (r.1, r.2) (tells_refused _ _ _ (prepared_bad c.prepare.ensures c.in_err-prepare.was))
 
-pub returns-in-Bad : goal.returns-in-Bad
-returns-in-Bad c = tells_refused _ _ _ (prepared_bad c.prepare-read.ensures c.in-Bad.is)
-
-pub returns-in-Good : goal.returns-in-Good
-returns-in-Good c =
-    tells-read _ _ _ (prepared_good c.prepare-read.ensures c.in-Good.is).reads c.latest_in.ensures
+pub returns : goal.returns
+returns c = tells-read _ _ _ (prepared_good c.prepare.ensures c.in_ok-prepare.was).reads c.latest_in.ensures

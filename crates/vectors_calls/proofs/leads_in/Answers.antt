@@ -1,5 +1,4 @@
 use native.Mathlib.Omega.{arith}
-use borrow.Author.Rules.{rules}
 use Rattle.causal.proofs.Given.{fresh, fresh_vectors}
 use Rattle.vectors_calls.proofs.Looking.{said-table, said_vectors}
 use Rattle.vectors_calls.proofs.leads_in.Goals as goal

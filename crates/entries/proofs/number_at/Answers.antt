@@ -1,9 +1,0 @@
-use borrow.Author.Rules.{rules}
-use native.Mathlib.Omega.{arith}
-use Rattle.entries.proofs.number_at.Goals as goal
-
-pub overflow_cast-result : goal.overflow_cast-result
-overflow_cast-result c = omega (arith, c.shared_slice_known-1.given c.args.i)
-
-pub returns : goal.returns
-returns c = (search rules, omega (arith, c.shared_slice_known-1.given c.args.i))

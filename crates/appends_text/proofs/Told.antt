@@ -4,7 +4,7 @@ use Prim.Native.Nat.{ℕ, ◌+◌, ◌*◌, ◌<◌, ◌≤◌}
 use mathlib.Core.Path.{◌≡◌, refl, ap, sym, ◌∙◌}
 use mathlib.Core.List.{List, [], ◌∷◌, ◌++◌, append_assoc}
 use native.Mathlib.Omega.{arith}
-use lib.ListN.{length, get_or, drop, replicate, length-replicate, length-append}
+use lib.ListN.{length, get_or, drop, replicate, length-replicate, length-append, length-drop}
 use lib.Seq.{drop-append_seam}
 use borrow.Author.Tests.{le-ltb}
 use Rattle.base.specs.Base.{joined}
@@ -204,6 +204,13 @@ module _ (s : List ℕ) {a : ListAnswer} {F P : List ℕ} (x : list_outcome (lis
           }
 
 -- ── the text is put ──
+
+-- the first of two lists in a buffer, and the second, of entries of 4 bytes
+pub first_there : (w b : ℕ) {m : ℕ} → 4 * (w + b) ≤ m → 4 * w ≤ m
+first_there w b h = omega arith
+
+pub second_there : (w b : ℕ) (p : List ℕ) → 4 * (w + b) ≤ length p → 4 * b ≤ length (drop (4 * w) p)
+second_there w b p h = omega (arith, length-drop (4 * w) p)
 
 module _ (s : List ℕ) {t : List ℕ} (e : lists_text s ≡ t) where
   pub text-fits : Short 0 t

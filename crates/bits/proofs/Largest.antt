@@ -5,6 +5,7 @@ use mathlib.Core.Bool.{true, false}
 use mathlib.Core.Logic.{⊎_elim}
 use native.Mathlib.Omega.{arith}
 use native.Mathlib.Nat.{div-eq_of_lt, div-eq_of_lt-le, lt_of_lt_of_le, pow-suc}
+use lib.Count.{count_leading_zeros, leading_top}
 use lib.Pow.{pow_mono}
 use Rattle.base.specs.Base.{last}
 use Rattle.base.proofs.Tests.{split}
@@ -28,10 +29,18 @@ bit_top w j l h =
     let e : w / 2 ^ j ≡ 1 = div-eq_of_lt-le {k = 1} (2 ^ j) {m = w} (omega arith) (omega arith) in
     rw e refl
 
-pub greatest_word : (w j : ℕ) → j < 64 → 2 ^ j ≤ w → w < 2 * 2 ^ j → GreatestBit (test_bit w) 64 j
-greatest_word w j few l h =
+-- by the powers of 2 that the word lies between
+pub greatest_between : (w j : ℕ) → j < 64 → 2 ^ j ≤ w → w < 2 * 2 ^ j → GreatestBit (test_bit w) 64 j
+greatest_between w j few l h =
     let t : w < 2 ^ suc j = omega (arith, pow-suc 2 j) in
     record { few = few; hit = bit_top w j l t; none = λ i a b. bit_over w (suc j) i t (omega arith) }
+
+-- by the zeros before it
+pub greatest_word : (w : ℕ) → 0 < w → w < 2 ^ 64 → GreatestBit (test_bit w) 64 (63 - count_leading_zeros 64 w)
+greatest_word w p h =
+    let t = leading_top 64 w p h in
+    let e : 63 - count_leading_zeros 64 w ≡ t.0 = omega (arith, t.1) in
+    rw e (greatest_between w t.0 (omega (arith, t.1)) t.2 (omega (arith, t.3, pow-suc 2 t.0)))
 
 -- ── of two words ──
 

@@ -1,20 +1,18 @@
 -- The smallest bit of a row.
-use Prim.Native.Nat.{ℕ, ◌+◌, ◌-◌, ◌*◌, ◌/◌, ◌%◌, ◌^◌, ◌<◌, ◌≤◌}
-use mathlib.Core.Path.{◌≡◌, sym, ap, ◌∙◌}
+use Prim.Native.Nat.{ℕ, zero, suc, ◌+◌, ◌-◌, ◌*◌, ◌/◌, ◌%◌, ◌^◌, ◌<◌, ◌≤◌}
+use mathlib.Core.Path.{◌≡◌, refl, sym, ap, ◌∙◌}
 use mathlib.Core.Bool.{Bool, not}
 use mathlib.Core.Logic.{⊎_elim}
 use native.Mathlib.Omega.{arith}
-use native.Mathlib.Nat.{div-le_self}
-use lib.Count.{count_trailing_zeros, trailing_of_zero, trailing_le}
+use native.Mathlib.Nat.{mod-lt}
+use lib.Count.{count_trailing_zeros, under, trailing_le}
 use lib.Dec.{eqb}
 use lib.Pow.{shr-shr}
 use borrow.Author.Tests.{eqb-false, eq-eqb, ne_eqb}
-use Rattle.std.proofs.Common.{w64}
-use Rattle.std.proofs.lemmas.Nat.Bits.{bit_at-trailing_zeros}
 use Rattle.base.specs.Base.{◌and◌}
 use Rattle.base.proofs.Tests.{split, clash, and_left, and_right, not-true}
 use Rattle.bits.specs.Bits.{test_bit, lacks, Minus, row_of, Least}
-use Rattle.bits.proofs.Words.{test_bit-zero, test_bit_one}
+use Rattle.bits.proofs.Words.{test_bit_one}
 use Rattle.bits.proofs.Tables.{row_low, row_high}
 
 -- ── a word's smallest bit ──
@@ -30,20 +28,33 @@ shifted_bit w j k = ap (λ (n : ℕ). eqb (n % 2) 1) (shr-shr w j k)
 pub upper_bit : (w k : ℕ) → test_bit (w / 2) k ≡ test_bit w (k + 1)
 upper_bit w k = let e : 1 + k ≡ k + 1 = omega arith in rw (← e) (shifted_bit w 1 k)
 
--- a word that is not 0 has one; 0 counts 64 zeros
-least_zeros : (w : ℕ) → w < 2 ^ 64 → Least (test_bit w) 0 64 (count_trailing_zeros 64 w)
-unfolding test_bit
-least_zeros w h =
-    ⊎_elim
-    (λ z. let e : w ≡ 0 = omega arith in rw (e, trailing_of_zero 64) (record { from = omega arith; hit = λ l. absurd (omega arith); none = λ i a b c. test_bit-zero i }))
-    (λ p.
-    let q = bit_at-trailing_zeros w64 w p h in
-    record { from = omega arith; hit = λ l. eq-eqb _ _ q.1; none = λ i a b c. ne_eqb _ _ (λ e. omega (arith, q.2 i b)) })
-    (split w 1)
+-- below the lowest bit d stand the zeros of the others, if it is one
+least_under : (w k d t : ℕ) → w % 2 ≡ d → Least (test_bit (w / 2)) 0 k t → Least (test_bit w) 0 (suc k) (under d t)
+least_under w k zero t e p =
+    record {
+      from = omega arith;
+      hit = λ l. let q : t + 1 ≡ suc t = omega arith in rw (← q) (sym (upper_bit w t) ∙ p.hit (omega arith));
+      none =
+          λ i a b c.
+          ⊎_elim
+          (λ z. let q : i - 1 + 1 ≡ i = omega arith in rw (← q) (sym (upper_bit w (i - 1)) ∙ p.none (i - 1) (omega arith) (omega arith) (omega arith)))
+          (λ z. let q : i ≡ 0 = omega arith in rw q (low_bit w ∙ ne_eqb (w % 2) 1 (λ n. omega arith))) (split 0 i);
+    }
+least_under w k (suc d) t e p =
+    record {
+      from = omega arith;
+      hit = λ l. low_bit w ∙ eq-eqb (w % 2) 1 (omega (arith, mod-lt w {m = 2} (omega arith)));
+      none = λ i a b c. absurd (omega arith);
+    }
 
-pub least_from : (w a : ℕ) → w < 2 ^ 64 → Least (test_bit w) a 64 (a + count_trailing_zeros 64 (w / 2 ^ a))
-least_from w a fits =
-    let p = least_zeros (w / 2 ^ a) (omega (arith, div-le_self w (2 ^ a))) in
+least_zeros : (k w : ℕ) → Least (test_bit w) 0 k (count_trailing_zeros k w)
+unfolding count_trailing_zeros
+least_zeros zero w = record { from = omega arith; hit = λ l. absurd (omega arith); none = λ i a b c. absurd (omega arith) }
+least_zeros (suc k) w = least_under w k (w % 2) (count_trailing_zeros k (w / 2)) refl (least_zeros k (w / 2))
+
+pub least_from : (w a : ℕ) → Least (test_bit w) a 64 (a + count_trailing_zeros 64 (w / 2 ^ a))
+least_from w a =
+    let p = least_zeros 64 (w / 2 ^ a) in
     record {
       from = omega arith;
       hit = λ l. sym (shifted_bit w a (count_trailing_zeros 64 (w / 2 ^ a))) ∙ p.hit (omega arith);

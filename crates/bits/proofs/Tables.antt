@@ -9,10 +9,10 @@ use native.Mathlib.Nat.{mod-lt}
 use lib.Bits.{bit_or}
 use lib.Dec.{eqb}
 use lib.ListN.{length, get_or, set, replicate, length-set, length-replicate, get_or-replicate}
-use lib.Seq.{get_or-set_same, get_or-set_other}
+use lib.Seq.{get_or-set_same, get_or-set_other, ext_get_or}
 use borrow.Author.Tests.{eqb-true, eqb-false, eq-eqb, ne_eqb}
 use Rattle.base.specs.Base.{◌and◌, ◌or◌, pick}
-use Rattle.base.proofs.Tests.{ifso, split, same_test, both, and_left, and_right, and_on, and_no_left, and-true, or_on, or_off, or_assoc, pick_on, pick_off, same-eqb}
+use Rattle.base.proofs.Tests.{ifso, split, same_test, both, and_left, and_right, and_on, and_no_left, and_no_right, and-true, or_on, or_off, or_assoc, pick_on, pick_off, same-eqb}
 use Rattle.bits.specs.Bits.{test_bit, lacks, Minus, bit_of, Holds, nothing, either, plus_bit, minus_bit, plus_row, row_of}
 use Rattle.bits.proofs.Words.{test_bit-zero, test_bit_or, test_bit_one}
 
@@ -49,7 +49,14 @@ module _ (f : ℕ → ℕ) where
         left = λ k l. get_or-set_other b i k v 0 (λ q. omega arith) ∙ r.left k (omega arith);
       }
 
--- what `join` writes
+-- what a loop that clears writes
+unfoldable pub no_word : ℕ → ℕ
+no_word k = 0
+
+-- what `copy` and `join` write
+unfoldable pub word_of : List ℕ → ℕ → ℕ
+word_of t k = get_or t k 0
+
 unfoldable pub either_word : List ℕ → List ℕ → ℕ → ℕ
 either_word t u k = bit_or (get_or t k 0) (get_or u k 0)
 
@@ -61,6 +68,25 @@ cleared e =
       room = ap length e ∙ length-replicate {A = ℕ} 256 0;
       is = λ x y hx hy. rw (e, get_or-replicate {A = ℕ} 256 (2 * x + y / 64) 0 0 (omega arith)) (test_bit-zero (y % 64));
     }
+
+-- .. and such a loop at its end
+pub cleared_words : {o b : List ℕ} {i : ℕ} → length o ≡ 256 → 256 ≤ i → Rewritten no_word o b i → Holds b nothing
+unfolding no_word nothing bit_of
+cleared_words room whole r =
+    record { room = r.room ∙ room; is = λ x y hx hy. rw (r.done (2 * x + y / 64) (omega arith)) (test_bit-zero (y % 64)) }
+
+module _ {o b : List ℕ} (i : ℕ) (h : i < length b) where
+  pub clear_step : Rewritten no_word o b i → Rewritten no_word o (set b i 0) (i + 1)
+  unfolding no_word
+  clear_step r = rewritten-step no_word i 0 r h refl
+
+  pub copy_step : (t : List ℕ) → Rewritten (word_of t) o b i → Rewritten (word_of t) o (set b i (get_or t i 0)) (i + 1)
+  unfolding word_of
+  copy_step t r = rewritten-step (word_of t) i (get_or t i 0) r h refl
+
+pub copied : {o b : List ℕ} {i : ℕ} → length o ≡ 256 → 256 ≤ i → {t : List ℕ} → length t ≡ 256 → Rewritten (word_of t) o b i → b ≡ t
+unfolding word_of
+copied {b = b} room whole {t} h r = ext_get_or 0 b t (r.room ∙ room ∙ sym h) (λ k l. r.done k (omega (arith, r.room)))
 
 pub join_step : {o b : List ℕ} (i : ℕ) → i < length b → (t : List ℕ) → Rewritten (either_word o t) o b i
     → Rewritten (either_word o t) o (set b i (bit_or (get_or b i 0) (get_or t i 0))) (i + 1)
@@ -199,3 +225,10 @@ unfolding bit_of
 row-own t a y hy =
     ⊎_elim (λ l. let e : 2 * a + y / 64 ≡ 2 * a = omega arith in rw e (row_low _ _ y l))
     (λ l. let e : 2 * a + y / 64 ≡ 2 * a + 1 = omega arith in rw e (row_high _ _ y l hy)) (split y 64)
+
+-- ── rows ──
+
+-- row a got nothing
+pub row-none : {t : List ℕ} {E : ℕ → ℕ → Bool} (a : ℕ) (r : ℕ → Bool) → Holds t E → ((y : ℕ) → y < 128 → r y ≡ false) → Holds t (plus_row E a r)
+unfolding plus_row
+row-none a r h none = holds_same h (λ x y hx hy. sym (or_off _ _ (and_no_right _ _ (none y hy))))

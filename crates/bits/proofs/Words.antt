@@ -1,16 +1,16 @@
 -- The bits of a word.
-use Prim.Native.Nat.{ℕ, zero, suc, ◌-◌, ◌*◌, ◌%◌, ◌^◌, ◌<◌, min, max}
+use Prim.Native.Nat.{ℕ, zero, suc, ◌+◌, ◌-◌, ◌*◌, ◌/◌, ◌%◌, ◌^◌, ◌<◌, min, max}
 use mathlib.Core.Path.{◌≡◌, refl, sym, ap, ◌∙◌}
 use mathlib.Core.Bool.{Bool, false, not}
 use mathlib.Core.Logic.{⊎_elim}
 use native.Mathlib.Omega.{arith}
 use native.Mathlib.Nat.{one-mul}
-use lib.Bits.{bit_and, bit_or}
+use lib.Bits.{bit_and, bit_or, bit_xor}
 use lib.Dec.{eqb}
 use lib.Pow.{shl_exact}
 use borrow.Author.Tests.{eqb-true, eqb-false, eq-eqb}
 use Rattle.std.proofs.Common.{w64}
-use Rattle.std.proofs.lemmas.Nat.Bits.{bit_at-lt, bit_at-zero, bit_at_and, bit_at_or, bit_at_not, bit_at_above, bit_at-pow_same, bit_at-pow_other, same_from_bits_below}
+use Rattle.std.proofs.lemmas.Nat.Bits.{bit_at-lt, bit_at-zero, bit_at_and, bit_at_or, bit_at_xor, bit_at_not, bit_at_above, bit_at-pow_same, bit_at-pow_other, same_from_bits_below}
 use Rattle.base.specs.Base.{◌and◌, ◌or◌}
 use Rattle.base.proofs.Tests.{ifso, split, and_no_left}
 use Rattle.bits.specs.Bits.{test_bit, lacks, Minus}
@@ -46,15 +46,26 @@ test_bit-and x y k =
 
 -- ── a word without the bits of another ──
 
+-- the bits of both, then those of p turned round
+pub minus_bits : (m p : ℕ) → Minus m p (bit_xor (bit_or m p) p)
+unfolding lacks test_bit ◌and◌
+minus_bits m p =
+    record {
+      is =
+          λ k.
+          ap (λ (n : ℕ). eqb n 1) (bit_at_xor (bit_or m p) p k ∙ ap (λ (n : ℕ). (n + p / 2 ^ k % 2) % 2) (bit_at_or m p k))
+          ∙ on_bits (λ a b. eqb ((max a b + b) % 2) 1 ≡ eqb a 1 and not (eqb b 1)) refl refl refl refl _ _ (bit_at-lt m k) (bit_at-lt p k);
+    }
+
 -- the other word turned round, below its length
 not_bit : (b : ℕ) → b < 2 → eqb (1 - b) 1 ≡ not (eqb b 1)
 not_bit zero h = refl
 not_bit (suc zero) h = refl
 not_bit (suc (suc b)) h = absurd (omega arith)
 
-pub minus_bits : (m p : ℕ) → m < 2 ^ 64 → p < 2 ^ 64 → Minus m p (bit_and m (2 ^ 64 - 1 - p))
+pub minus_not : (m p : ℕ) → m < 2 ^ 64 → p < 2 ^ 64 → Minus m p (bit_and m (2 ^ 64 - 1 - p))
 unfolding lacks test_bit
-minus_bits m p hm hp =
+minus_not m p hm hp =
     record {
       is =
           λ k.

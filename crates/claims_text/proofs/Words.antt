@@ -8,14 +8,13 @@ use native.Mathlib.Omega.{arith}
 use native.Mathlib.Numerals.{add-one}
 use native.Mathlib.Nat.{pow-suc, pow-le-pow_right}
 use lib.ListN.{length, get_or, drop}
-use lib.Seq.{drop-cons}
+use lib.Seq.{drop-cons, drop-length}
 use lib.Pointwise.{pointwise, bytes_decides}
 use lib.Dec.{ltb, eqb}
 use borrow.Author.Tests.{lt-ltb, le-ltb, eq-eqb, ne_eqb}
 use Rattle.std.specs.Prelude.{MatchBool, MatchOption, Result, Ok, Err}
 use Rattle.std.specs.Result.{OkIff, result_ok}
 use Rattle.std.specs.List.{AllWithin, HoldsAt}
-use Rattle.std.proofs.lemmas.List.{drop_all}
 use Rattle.base.specs.Base.{◌and◌, some}
 use Rattle.base.proofs.Searches.{some-none, some_of_lem}
 use Rattle.base.proofs.Tests.{clash, both, and_on, and_no_left, and_no_right, or_on, or_left, or_right, pick_on, pick_off, split}
@@ -83,18 +82,19 @@ module _ (w : List ℕ) where
 -- ── the number n of the first i bytes ──
 
 pub record Denoting (w : List ℕ) (n i : ℕ) : Type 0 where
+  pub within : i ≤ length w
   pub small : n < 10 ^ i
   pub whole : denoted_from n (drop i w) ≡ denoted w
 
 module _ {w : List ℕ} where
   pub denoting_none : Denoting w 0 0
   unfolding denoted
-  denoting_none = record { small = omega arith; whole = refl }
+  denoting_none = record { within = omega arith; small = omega arith; whole = refl }
 
   module _ {n i : ℕ} (x : Denoting w n i) where
     pub denoting_all : length w ≤ i → n ≡ denoted w
     unfolding denoted_from
-    denoting_all g = rw (drop_all i w g) at x.whole
+    denoting_all g = let e : i ≡ length w = omega (arith, x.within) in rw (e, drop-length w) at x.whole
 
     module _ (short : is_short w ≡ true) (l : i < length w) where
       pub denoting_small : n < 1000
@@ -106,6 +106,7 @@ module _ {w : List ℕ} where
       denoting_more =
           let p : 10 ^ (i + 1) ≡ 10 ^ i * 10 = rw (add-one i) (pow-suc 10 i) in
           record {
+            within = omega arith;
             small = omega (arith, x.small, ((short_numeral w short).digits i l).to);
             whole = rw (add-one i) (rw (drop-cons w i 0 l) at x.whole);
           }

@@ -5,8 +5,7 @@ use mathlib.Core.List.{List}
 use mathlib.Core.Logic.{◌↔◌}
 use lib.ListN.{length}
 use Rattle.rules.specs.History.{History}
-use Rattle.rules.specs.Outcome.{declines, Report, accepting, reported, judged}
-use Rattle.rules.specs.Outcome.{Answer}
+use Rattle.rules.specs.Outcome.{declines, Report, accepting, judged}
 use Rattle.demand1.specs.Rows.{HasHistory}
 use Rattle.demand1.proofs.Lawful.{lawful_history}
 use Rattle.demand1.proofs.Readings.{history_one}
@@ -17,7 +16,7 @@ use Rattle.demand2.proofs.Accepted.{any_order_iff}
 use Rattle.demand2.proofs.Traces.{accepted_trace}
 use Rattle.demand3.specs.Forced.{ListedPair}
 use Rattle.demand3.proofs.Pairs.{none-listed_iff}
-use Rattle.demands.specs.Demands.{Demand2, Demand3}
+use Rattle.demands.specs.Demands.{Demand2Of, Demand3Of}
 
 -- a trace that is read into the history h
 module _ {s : List ℕ} {level : ℕ} {h : History} (low : 1 ≤ level) (high : level ≤ 3) (reads : HasHistory s h) where
@@ -52,11 +51,10 @@ module _ {s : List ℕ} {level : ℕ} {h : History} (low : 1 ≤ level) (high : 
       → ((judged s level fs ps os).report ≡ accepting n) ↔ (AllClean h × SomeOrder h level)
   accepted_any_trace fs ps os {n} = accepts_any (accepted_trace s level fs ps os n)
 
-  -- the same two for whoever has the demands
-  module _ {fs ps os : List ℕ} {r : Answer} {F P O : List ℕ} where
-    pub accepted_any : Demand2 s level fs ps os r F P O → {n : ℕ} → CommittedCount h n → n ≤ length os
-        → (reported r ≡ accepting n) ↔ (AllClean h × SomeOrder h level)
+  -- the same two for whoever has the demands, of an answer's report or of any other
+  module _ {fs ps os : List ℕ} {R : Report} {F P O : List ℕ} where
+    pub accepted_any : Demand2Of s level fs ps os R F P O → {n : ℕ} → CommittedCount h n → n ≤ length os → (R ≡ accepting n) ↔ (AllClean h × SomeOrder h level)
     accepted_any d {n} = accepts_any (d.accepted n)
 
-    pub none-counted_any : Demand3 s level fs ps os r F P O → AllClean h → ((reported r).verdict ≡ declines → ⊥) → ((reported r).pairs ≡ 0) ↔ SomeOrder h level
+    pub none-counted_any : Demand3Of s level fs ps os R F P O → AllClean h → (R.verdict ≡ declines → ⊥) → (R.pairs ≡ 0) ↔ SomeOrder h level
     none-counted_any d clean v = by_any clean (d.none_counted low high reads clean v)

@@ -1,5 +1,6 @@
 pub mod Declined
 pub mod Meets
+pub mod Told
 pub mod One
 pub mod Any
 pub mod SomeJudge

@@ -1,4 +1,4 @@
--- An answer that is the definition's, with the buffers that are the definition's, meets the three demands.
+-- A report that is the definition's, and so an answer that reports it, with the buffers that are the definition's, meets the three demands.
 use Prim.Native.Nat.{ℕ, ◌≤◌}
 use mathlib.Core.Path.{◌≡◌, refl, ap, sym, ◌∙◌}
 use mathlib.Core.List.{List}
@@ -17,6 +17,7 @@ use Rattle.demand2.proofs.Accepted.{empty-pairs_iff}
 use Rattle.demand2.proofs.Traces.{accepted_trace, order-trace}
 use Rattle.demand3.proofs.Traces.{rejected_trace, lists_trace}
 use Rattle.demands.specs.Demands.{Demands}
+use Rattle.demands.specs.Judges.{DemandsOf}
 use Rattle.demands.proofs.Declined.{declines_iff, refusal_writes_nothing}
 
 -- the number of listed pairs is 0 exactly if there is a commit order, where all reads are clean
@@ -40,16 +41,16 @@ module _ (s : List ℕ) (level : ℕ) (fs ps os : List ℕ) {h : History} (r : H
       let z = ap length ((accepted_empty g level).0 t).1 in
       (λ _. (counted_iff a b r clean).0 (rw (← q) at z), λ _. refl)
 
-module _ (s : List ℕ) (level : ℕ) (fs ps os : List ℕ) (r : Answer) {F P O : List ℕ} (is : outcome (reported r) F P O ≡ judged s level fs ps os) where
-  -- what is said of the definition's report holds of the answer's
-  said : reported r ≡ (judged s level fs ps os).report
+module _ (s : List ℕ) (level : ℕ) (fs ps os : List ℕ) (R : Report) {F P O : List ℕ} (is : outcome R F P O ≡ judged s level fs ps os) where
+  -- what is said of the definition's report holds of this one
+  said : R ≡ (judged s level fs ps os).report
   said = ap (λ (x : Outcome). x.report) is
 
-  same : {X : Type 0} (q : Report) → ((judged s level fs ps os).report ≡ q) ↔ X → (reported r ≡ q) ↔ X
+  same : {X : Type 0} (q : Report) → ((judged s level fs ps os).report ≡ q) ↔ X → (R ≡ q) ↔ X
   same q i = (λ e. i.0 (sym said ∙ e), λ x. said ∙ i.1 x)
 
-  pub meets : Demands s level fs ps os r F P O
-  meets =
+  pub report_meets : DemandsOf s level fs ps os R F P O
+  report_meets =
       record {
         first =
             record {
@@ -72,3 +73,8 @@ module _ (s : List ℕ) (level : ℕ) (fs ps os : List ℕ) (r : Answer) {F P O 
                   λ a b i clean d. rw said (reported_iff s level fs ps os i clean (came s level fs ps os) (λ v. d (ap (λ (x : Report). x.verdict) said ∙ v)));
             };
       }
+
+pub meets : (s : List ℕ) (level : ℕ) (fs ps os : List ℕ) (r : Answer) {F P O : List ℕ} → outcome (reported r) F P O ≡ judged s level fs ps os
+    → Demands s level fs ps os r F P O
+meets s level fs ps os r is =
+    let d = report_meets s level fs ps os (reported r) is in record { first = d.first; second = d.second; third = d.third }

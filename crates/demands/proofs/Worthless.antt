@@ -5,12 +5,11 @@ use mathlib.Core.List.{List, []}
 use native.Mathlib.Omega.{arith}
 use lib.ListN.{length, get_or}
 use Rattle.theory.proofs.Entries.{number_one}
-use Rattle.rules.specs.Outcome.{Verdict, declines, accepts, Report, declining, rejecting, accepting, reported, Outcome, outcome, judged}
+use Rattle.rules.specs.Outcome.{Verdict, declines, accepts, Report, declining, rejecting, accepting, Outcome, outcome, judged}
 use Rattle.rules.specs.Traces.{room}
 use Rattle.rules.specs.Cases.{Case, all, table}
 use Rattle.rules.proofs.Cases.{at_each}
-use Rattle.rules.specs.Outcome.{Answer}
-use Rattle.rules.proofs.Outcome.{verdict_no, ReportIs, says_declined, says_rejected, says_accepted, says}
+use Rattle.rules.proofs.Outcome.{verdict_no, ReportIs, says_declined, says_rejected, says_accepted}
 use Rattle.demand1.proofs.Readings.{history_one}
 use Rattle.demand2.specs.Accepted.{AcceptsTrace}
 use Rattle.demand2.proofs.Accepted.{order-written_one}
@@ -20,8 +19,9 @@ use Rattle.demand3.specs.Rejected.{Rejects, RejectsTrace}
 use Rattle.demand3.proofs.Pairs.{before_never}
 use Rattle.demand3.proofs.Traces.{rejected_trace, lists_trace, lists_written_one}
 use Rattle.demands.specs.Declined.{Declines}
-use Rattle.demands.specs.Judges.{GivenBack, Judge, Meets1, Meets2, Meets3, RefusesAll, FixedVerdict, NoOrder, NoFindings, NoPairs, InventsCounts, FixedCounts}
+use Rattle.demands.specs.Judges.{ToldAnswer, report_told, GivenBack, Judge, Meets1, Meets2, Meets3, RefusesAll, FixedVerdict, NoOrder, NoFindings, NoPairs, InventsCounts, FixedCounts}
 use Rattle.demands.proofs.Declined.{declines_iff}
+use Rattle.demands.proofs.Told.{says_told}
 
 -- ── the document's cases at level 1 ──
 
@@ -54,18 +54,18 @@ undeclined k l d n p x =
     d (ap (λ (r : Report). verdict_no r.verdict) (sym (report_is k l) ∙ e))
 
 -- the verdict of an answer says which kind of answer it is
-refusal_says : (r : Answer) → (reported r).verdict ≡ declines → (n : ℕ) × (p : ℕ) × (reported r ≡ declining n p)
-refusal_says r v = by (says r) refl
+refusal_says : (r : ToldAnswer) → (report_told r).verdict ≡ declines → (n : ℕ) × (p : ℕ) × (report_told r ≡ declining n p)
+refusal_says r v = by (says_told r) refl
   where
-    by : {R : Report} → ReportIs R → reported r ≡ R → (n : ℕ) × (p : ℕ) × (reported r ≡ declining n p)
+    by : {R : Report} → ReportIs R → report_told r ≡ R → (n : ℕ) × (p : ℕ) × (report_told r ≡ declining n p)
     by (says_declined {n} {p}) e = (n, p, e)
     by says_rejected e = absurd (omega (arith, ap verdict_no v, ap (λ (R : Report). verdict_no R.verdict) e))
     by says_accepted e = absurd (omega (arith, ap verdict_no v, ap (λ (R : Report). verdict_no R.verdict) e))
 
-acceptance_says : (r : Answer) → (reported r).verdict ≡ accepts → (n : ℕ) × (reported r ≡ accepting n)
-acceptance_says r v = by (says r) refl
+acceptance_says : (r : ToldAnswer) → (report_told r).verdict ≡ accepts → (n : ℕ) × (report_told r ≡ accepting n)
+acceptance_says r v = by (says_told r) refl
   where
-    by : {R : Report} → ReportIs R → reported r ≡ R → (n : ℕ) × (reported r ≡ accepting n)
+    by : {R : Report} → ReportIs R → report_told r ≡ R → (n : ℕ) × (report_told r ≡ accepting n)
     by (says_accepted {n}) e = (n, e)
     by says_rejected e = absurd (omega (arith, ap verdict_no v, ap (λ (R : Report). verdict_no R.verdict) e))
     by says_declined e = absurd (omega (arith, ap verdict_no v, ap (λ (R : Report). verdict_no R.verdict) e))
@@ -76,7 +76,7 @@ first_byte buffer k l e = ap (λ (b : List ℕ). get_or b 0 0) (e ∙ ap buffer 
 
 module _ (J : Judge) where
   -- what the judge gives back for a case
-  abbrev gives : ℕ → GivenBack
+  abbrev gives : ℕ → GivenBack ToldAnswer
   gives k = J (case_at k).bytes 1 (room 16) (room 16) (room 16)
 
   -- P1 is accepted, so not everything is refused

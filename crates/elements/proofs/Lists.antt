@@ -1,5 +1,5 @@
 -- The list in a record, place by place; lists that agree as far as both go.
-use Prim.Native.Nat.{ℕ, suc, ◌-◌, ◌<◌, ◌≤◌, min}
+use Prim.Native.Nat.{ℕ, suc, ◌+◌, ◌-◌, ◌<◌, ◌≤◌, min}
 use mathlib.Core.Path.{◌≡◌, refl, ap, sym, ◌∙◌}
 use mathlib.Core.Bool.{Bool, true, false}
 use mathlib.Core.List.{List, [], ◌∷◌}
@@ -40,10 +40,17 @@ module _ {s : List ℕ} {p n : ℕ} (x : ListAt s p n) where
   last-at = ap (λ (m : ℕ). element (values_at s p) (m - 1)) (sym at_length)
 
 -- the lists a and b agree below q
-record AgreeTo (a b : List ℕ) (q : ℕ) : Type 0 where
-  one : q ≤ length a
-  two : q ≤ length b
-  each : (j : ℕ) → j < q → element a j ≡ element b j
+pub record AgreeTo (a b : List ℕ) (q : ℕ) : Type 0 where
+  pub one : q ≤ length a
+  pub two : q ≤ length b
+  pub each : (j : ℕ) → j < q → element a j ≡ element b j
+
+pub agree_start : (a b : List ℕ) → AgreeTo a b 0
+agree_start a b = record { one = omega arith; two = omega arith; each = λ j l. absurd (omega arith) }
+
+pub agree_on : {a b : List ℕ} {q : ℕ} → AgreeTo a b q → q < length a → q < length b → element a q ≡ element b q → AgreeTo a b (q + 1)
+agree_on {a} {b} {q} x l m e =
+    record { one = omega arith; two = omega arith; each = λ j k. ⊎_elim (λ n. x.each j n) (λ n. let i : j ≡ q = omega arith in rw i e) (split j q) }
 
 -- one that agrees with b to its end begins it
 agree_begins : (a b : List ℕ) → length a ≤ length b → ((j : ℕ) → j < length a → element a j ≡ element b j) → begins a b ≡ true
@@ -53,13 +60,13 @@ agree_begins (x ∷ a) [] l f = absurd (omega arith)
 agree_begins (x ∷ a) (y ∷ b) l f = both _ _ (eq-eqb x y (f 0 (omega arith))) (agree_begins a b (omega arith) (λ j k. f (suc j) (omega arith)))
 
 module _ {a b : List ℕ} {q : ℕ} (x : AgreeTo a b q) where
-  agree_one : length a ≤ q → in_line a b ≡ true
+  pub agree_one : length a ≤ q → in_line a b ≡ true
   agree_one l = line_left a b (agree_begins a b (omega (arith, x.two)) (λ j m. x.each j (omega arith)))
 
-  agree_two : length b ≤ q → in_line a b ≡ true
+  pub agree_two : length b ≤ q → in_line a b ≡ true
   agree_two l = line_right a b (agree_begins b a (omega (arith, x.one)) (λ j m. sym (x.each j (omega arith))))
 
-differ : (a b : List ℕ) (q : ℕ) → q < length a → q < length b → (element a q ≡ element b q → ⊥) → in_line a b ≡ false
+pub differ : (a b : List ℕ) (q : ℕ) → q < length a → q < length b → (element a q ≡ element b q → ⊥) → in_line a b ≡ false
 differ a b q l m d = is_false _ (λ t. ⊎_elim (λ u. d (begins_agree a b u q l)) (λ u. d (sym (begins_agree b a u q m))) (line_cases a b t))
 
 -- the lists at p and at o: as far as both go their elements are the same, or one is not

@@ -1,7 +1,7 @@
 -- The lists in the buffers: what the bytes of their entries are, and how the lines of all of them follow.
 use Prim.Native.Nat.{ℕ, ◌+◌, ◌-◌, ◌*◌, ◌<◌, ◌≤◌}
 use mathlib.Core.Path.{◌≡◌, ap, sym, ◌∙◌}
-use mathlib.Core.List.{List}
+use mathlib.Core.List.{List, [], ◌∷◌}
 use native.Mathlib.Nat.{mul-add}
 use native.Mathlib.Omega.{arith}
 use native.Mathlib.Numerals.{add-one}
@@ -12,6 +12,9 @@ use Rattle.base.specs.Base.{listed, joined}
 use Rattle.base.proofs.Searches.{downward, listed-step, listed_end, listed_same, joined_length, joined_at}
 use Rattle.rules.specs.Numbers.{le, over}
 use Rattle.rules.proofs.Numbers.{le_same, over-at}
+use Rattle.text.specs.Lines.{line, read_line}
+use Rattle.entries.specs.declared.Lines.TheVariants.{ReadLines}
+use Rattle.entries.specs.Entries.{pair_entry, entry_line}
 
 -- ── what is written over a buffer ──
 
@@ -40,6 +43,18 @@ module _ {A : Type 0} (f : A → List ℕ) (w : ℕ) (wide : (x : A) → length 
   number_at r g = le_same 2 (over (joined f xs) b) (f (get_or xs j d)) (w * j + r) r (λ i l. byte_at (r + i) (w * j + r + i) (omega arith) (omega arith))
 
 -- ── lines of entries ──
+
+-- from its bytes
+module _ (l : List ℕ) (i : ℕ) {a b c : ℕ} where
+  pub entry_read : {d : ℕ} → a ≡ get_or l (6 * i) 0 → b ≡ get_or l (6 * i + 1) 0 → c ≡ le 2 l (6 * i + 2) → d ≡ le 2 l (6 * i + 4)
+      → entry_line ReadLines l i ≡ read_line a c b d
+  unfolding entry_line
+  entry_read x y z w = rw (x, y, z, w)
+
+  pub entry-pair : (word : List ℕ) → a ≡ get_or l (4 * i) 0 → b ≡ get_or l (4 * i + 1) 0 → c ≡ get_or l (4 * i + 2) 0
+      → pair_entry word l i ≡ line word (a ∷ b ∷ c ∷ [])
+  unfolding pair_entry
+  entry-pair word x y z = rw (x, y, z)
 
 module _ {A : Type 0} (g : A → List ℕ) (d : A) (l : List A) where
   -- what g gives for the entries, one by one

@@ -202,6 +202,11 @@ module _ (h : History) (x : ℕ) (e : List ℕ) where
     unfolding fault_by pick
     fault_10 l a = z ∙ ap (λ (q : ℕ). append_of h x (element e q)) (omega arith)
 
+  -- no other kind names an append
+  pub fault_none : (k : ℕ) → (k ≡ 8 → ⊥) → (k ≡ 9 → ⊥) → (k ≡ 10 → ⊥) → 0 ≡ fault_by h x e k
+  unfolding fault_by pick
+  fault_none k a b c = rw (ne_eqb k 8 a, ne_eqb k 9 b, ne_eqb k 10 c)
+
   pub fault_7 : 0 ≡ fault_by h x e 7
   unfolding fault_by pick
   fault_7 = refl

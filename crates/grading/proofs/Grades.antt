@@ -184,3 +184,13 @@ module _ (h : History) (l : ℕ → List ℕ) where
             let d : w ≡ i → ⊥ = λ z. clash (rw (← z) at is) t in
             ⊎_elim (λ u. omega (arith, u, get_or-set_other m i w v 0 d, g.marks w t)) (λ u. omega (arith, u.0, get_or-set_other m i w v 0 d)) (c.kept w);
       }
+
+  -- an operation that is no list leaves the table as it is
+  pub graded_past : {k : List ℕ} (i : ℕ) → is_list h i ≡ false → Graded h l i k → Graded h l (i + 1) k
+  graded_past i is g =
+      record {
+        room = g.room;
+        zero = g.zero;
+        grades = λ j d t. g.grades j (⊎_elim (λ y. y) (λ y. let z : j ≡ i = omega arith in absurd (clash (rw z at t) is)) (split j i)) t;
+        marks = λ w t. omega (arith, g.marks w t);
+      }

@@ -76,6 +76,10 @@ module _ (h : History) where
           left = w.left;
         }
 
+-- what a loop left alone was left alone before it
+pub keys_end : {f g : ℕ → ℕ} {o a r : List ℕ} → Rewritten f o a 128 → Rewritten g a r 128 → Rewritten g o r 128
+keys_end p q = record { room = q.room ∙ p.room; done = q.done; left = λ b l. q.left b l ∙ p.left b l }
+
 pub keys_kept : {h : History} {o r : List ℕ} → length o ≡ 256 → Rewritten (key_read h) o r 128 → Kept h r
 keys_kept room w = record { room = w.room ∙ room; is = w.done }
 

@@ -13,12 +13,13 @@ use Rattle.rules.specs.Records.{is_second}
 use Rattle.rules.specs.Reading.{Reading, refused, read, reading}
 use Rattle.demand1.specs.Rows.{serial, HasHistory}
 use Rattle.demand1.proofs.Readings.{refuses_iff, has_read, read_has, history_one}
-use Rattle.writing.specs.Filling.{refusing, answering, said, fill_of, Filled}
+use Rattle.writing.specs.Filling.{Said, refusing, answering, said, fill_of, Filled}
 use Rattle.writing.specs.Forms.{whole_of}
 use Rattle.writing.proofs.Filling.{into_short, into-fits}
+use Rattle.written.specs.Fills.{FillsBy}
 use Rattle.written.specs.Writes.{AllBytes, record_at}
 use Rattle.written.proofs.Declined.{TraceRows, refused_rows, rows_never_15}
-use Rattle.written.proofs.Fills.{CameOut, declining, putting, declines_iff, fills, fills_one}
+use Rattle.written.proofs.Fills.{CameOut, declining, putting, declines_iff, fills_by, fills_one}
 use Rattle.moving.specs.Moving.{is_same, moved_trace, moved_to}
 use Rattle.moving.proofs.Moving.{same_iff, moved_refused, moved_same, moved_other, moved_lists}
 use Rattle.moved.specs.Records.{RecordsAre}
@@ -117,9 +118,14 @@ module _ (second : Bool) (s : List ℕ) (b : AllBytes s) (o : List ℕ) where
   pub move_declines_iff : (m p : ℕ) → ((moved_to second s o).answer ≡ refusing m p) ↔ MoveDeclines second s (length o) m p
   move_declines_iff = declines_iff (MoveDeclines second s (length o)) (ComesOut second s) o (moved_to second s o) declined_is out
 
-  -- any answer and content that the contract admits
+  -- any answer and content that the contract admits, whatever says an answer's numbers
+  pub moves_by : {R : Type 0} (says : R → Said) (r : R) (c : List ℕ) → fill_of (says r) c ≡ moved_to second s o
+      → FillsBy says (MoveDeclines second s (length o)) (ComesOut second s) o r c
+  moves_by = fills_by (MoveDeclines second s (length o)) (ComesOut second s) o (moved_to second s o) declined_is out
+
+  -- .. of the answers that calls give
   pub moves : (r : Filled) (c : List ℕ) → fill_of (said r) c ≡ moved_to second s o → Moves second s o r c
-  moves = fills (MoveDeclines second s (length o)) (ComesOut second s) o (moved_to second s o) declined_is out
+  moves = moves_by said
 
 -- ── the numbers of the table ──
 

@@ -1,12 +1,13 @@
 -- Laws of bytes that are put one behind the other.
 use Prim.Native.Nat.{ℕ, suc, ◌+◌, ◌-◌, ◌/◌, ◌%◌, ◌≤◌, ◌<◌}
 use mathlib.Core.Path.{◌≡◌, refl, sym, ◌∙◌}
-use mathlib.Core.Bool.{Bool}
+use mathlib.Core.Bool.{Bool, true, false}
 use mathlib.Core.List.{List, [], ◌∷◌, ◌++◌, append_assoc, append-nil}
 use native.Mathlib.Omega.{arith}
 use lib.ListN.{length, set}
-use Rattle.base.proofs.Fill.{Appended, appended-none, appended-length, Room, room_from, room_in, four_parts, Forth, forth_step, forth_end, one}
+use Rattle.base.proofs.Fill.{Appended, appended-none, appended-length, Room, room_from, room_in, four_parts, Forth, forth_start, forth_step, forth_end, one}
 use Rattle.rules.specs.Numbers.{bytes}
+use Rattle.rules.specs.Records.{fields_from}
 use Rattle.rules.specs.Traces.{Item, raw, record_of}
 use Rattle.rules.proofs.Numbers.{bytes-length}
 use Rattle.rules.specs.declared.Event.{Event}
@@ -35,6 +36,17 @@ item_says n i e k = rw (e, k) (four_parts (bytes 2 (6 + length i.payload)) (byte
 pub record_says : (n : ℕ) (second : Bool) (s : ℕ) (e : Event) {len kind : ℕ} → len ≡ length (item_in second (mark 0 e)).payload → kind ≡ (item_in second (mark 0 e)).kind
     → record_of n (item_in second (mark s e)) ≡ bytes 2 (6 + len) ++ (bytes 2 kind ++ (bytes 4 n ++ (item_in second (mark s e)).payload))
 record_says n second s e l k = item_says n (item_in second (mark s e)) (l ∙ sym (payload_any second s e)) (k ∙ sym (kind_any second s e))
+
+-- how long the payload of the event e, which is d, is by the edition: f gives it for the bytes that a session has there
+pub payload_says : (second : Bool) {e d : Event} → e ≡ d → (f : ℕ → ℕ) {more : ℕ} → more ≡ fields_from second → f 0 ≡ length (item_of d).payload → f 2 ≡ length (item_with 0 d).payload
+    → f 0 ≤ 14 → f 2 ≤ 14 → (f more ≡ length (item_in second (mark 0 e)).payload) × (f more ≤ 14)
+payload_says false q f m a b l k = rw (q, m) (a, l)
+payload_says true q f m a b l k = rw (q, m) (b, k)
+
+-- a kind that both editions have
+pub kind_says : (second : Bool) {e d : Event} {k : ℕ} → e ≡ d → k ≡ (item_of d).kind → k ≡ (item_with 0 d).kind → k ≡ (item_in second (mark 0 e)).kind
+kind_says false q a b = rw q a
+kind_says true q a b = rw q b
 
 -- a payload in edition 2 is that of edition 1 behind what stands before it there
 pub with_lead : (n : ℕ) (e : Event) → (item_with n e).payload ≡ lead_of n e ++ (item_of e).payload
@@ -72,6 +84,9 @@ abbrev pub Spelling : List ℕ → ℕ → ℕ → ℕ → List ℕ → ℕ → 
 Spelling o at w n b to left = Forth o at (bytes w n) b to (bytes (at + w - to) left)
 
 module _ (o : List ℕ) (at w n : ℕ) where
+  pub spell_start : at + w ≤ length o → Spelling o at w n o at n
+  spell_start h = let e : at + w - at ≡ w = omega arith in rw e (forth_start (bytes w n) (omega arith))
+
   module _ (left : ℕ) {b : List ℕ} {to : ℕ} (x : Spelling o at w n b to left) where
     pub spell_room : to < at + w → at + w ≤ length o → to < length b
     spell_room l h = omega (arith, appended-length x.is)

@@ -9,17 +9,18 @@ use Rattle.theory.proofs.Entries.{number_one}
 use Rattle.rules.specs.Reading.{Reading, refused, read, reading}
 use Rattle.demand1.proofs.Readings.{refuses_iff, reads_iff, one_outcome, has_history}
 use Rattle.text.specs.Lines.{notes_line}
+use Rattle.written.specs.Fills.{saying}
 use Rattle.written.specs.Writes.{AllBytes}
 use Rattle.noteless.proofs.Counted.{notes_counted}
 use Rattle.moved.specs.Moved.{MoveDeclines}
-use Rattle.moved.proofs.Moves.{moves, comes_one}
+use Rattle.moved.proofs.Moves.{moves_by, comes_one}
 use Rattle.telling.specs.Telling.{moved_text, tallied_text, notes_text}
 use Rattle.telling.proofs.Texts.{moved_does}
 use Rattle.telling.proofs.Printed.{printed_iff}
 use Rattle.shelf.specs.Printed.{MovedPrinted, NotesPrinted, on_reading, on_refusal}
 
 pub moved_printed_iff : (second : Bool) {s : List ℕ} → AllBytes s → (x : List ℕ) → (moved_text second s ≡ x) ↔ MovedPrinted second s x
-moved_printed_iff second {s} b = printed_iff (moved_does second s) (MoveDeclines second s) comes_one (moves second s b)
+moved_printed_iff second {s} b = printed_iff (moved_does second s) (MoveDeclines second s) comes_one (λ o. moves_by second s b o saying)
 
 -- ── the notes ──
 

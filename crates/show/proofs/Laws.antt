@@ -80,6 +80,9 @@ module _ {o b : List ℕ} {n : ℕ} {xs : List ℕ} (x : Put o 0 b n xs) (room :
   pub front-is : take n b ≡ xs
   front-is = let e : n ≡ length xs = omega (arith, x.end) in rw (x.is, laid-over o xs, e) (over-whole xs o (omega arith))
 
+  pub front_long : n ≡ length (take n b)
+  front_long = omega (arith, x.end, ap length front-is)
+
 -- by a name that an attribute can have
 pub ruleset at_front = (front-is)
 
@@ -89,7 +92,13 @@ pub record Putting (o : List ℕ) (at : ℕ) (xs : List ℕ) (b : List ℕ) (to 
   pub end : to + length left ≡ at + length xs
   pub is : laid b to left ≡ laid o at xs
 
+pub putting_start : (o : List ℕ) (at : ℕ) (xs : List ℕ) → Putting o at xs o at xs
+putting_start o at xs = record { end = refl; is = refl }
+
 module _ {o : List ℕ} {at : ℕ} {xs : List ℕ} {b : List ℕ} {to : ℕ} {left : List ℕ} (p : Putting o at xs b to left) where
+  pub putting_length : length b ≡ length o
+  putting_length = sym (laid-length b to left) ∙ ap length p.is ∙ laid-length o at xs
+
   -- the next part
   module _ (ys zs : List ℕ) (e : left ≡ ys ++ zs) where
     pub putting_short : Short at xs → Short to ys

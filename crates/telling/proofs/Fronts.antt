@@ -22,6 +22,9 @@ module _ {t o b : List ℕ} {n : ℕ} (x : Fronts t o b n) where
   pub front-is : take n b ≡ t
   front-is = rw (x.end, x.is) (over-front t o)
 
+  pub front_long : n ≡ length (take n b)
+  front_long = x.end ∙ sym (ap length front-is)
+
 -- by a name that an attribute can have
 pub ruleset at_front = (front-is)
 

@@ -13,8 +13,6 @@ use Rattle.rules.specs.Numbers.{le}
 use Rattle.rules.proofs.Numbers.{over-front}
 use Rattle.rules.specs.Refusals.{Declined, told as in_numbers}
 use Rattle.rules.specs.declared.Refusal.{Refusal}
-use Rattle.rules.proofs.Refusals.{cause_of}
-use Rattle.rules.proofs.Named.{Named, reading_named}
 use Rattle.rules.specs.History.{History, empty}
 use Rattle.rules.specs.Records.{serial_at, is_second}
 use Rattle.rules.specs.Reading.{Reading, refused, read, reading}
@@ -32,10 +30,8 @@ use Rattle.writing.proofs.Filling.{into-fits}
 use Rattle.writing.proofs.Grown.{grown_none, counts}
 use Rattle.writing.proofs.Followed.{followed}
 use Rattle.writing.proofs.Lengths.{any_serial}
-use Rattle.writing.proofs.Named.{WorkNamed, wrote_named}
 use Rattle.writing.proofs.Sizes.{whole_size, whole_length, trace-length}
 use Rattle.moving.specs.Moving.{is_same, moved_trace, first_list, moved_read, moved_to}
-use Rattle.moving.proofs.Named.{moved_read_named}
 use Rattle.moving.proofs.Grown.{blocks_grown, blocks_over}
 use Rattle.telling.specs.Telling.{work_text, made_text, given_text, again_text, rewritten_text, moved_text, tallied_text, notes_text}
 use Rattle.telling.specs.Parts.{filled_text, read_text}
@@ -46,11 +42,10 @@ abbrev pub Fits : Work → Type 0
 Fits (refusal n p) = Unit {0}
 Fits (content l) = length l ≤ 32768
 
--- a call that fills a buffer does some work, whose text is t, and which has room or is refused with a number of the table
+-- a call that fills a buffer does some work, whose text is t, and which has room
 pub record Does (fill : List ℕ → Fill) (t : List ℕ) : Type 0 where
   pub work : Work
   pub fits : Fits work
-  pub named : WorkNamed work
   pub puts : (o : List ℕ) → fill o ≡ into work o
   pub text : work_text work ≡ t
 
@@ -69,30 +64,29 @@ made-fits s n = by (follow empty 1 (steps_in s)) refl
         omega (arith, trace-length n (steps_in s) 1 g e, few.few_txs, few.few_ops)
 
 -- .. unless a test refuses before
-refused_or_made : (b : Bool) {m : ℕ} → Named m → (p : ℕ) (s : List ℕ) (n : ℕ)
+refused_or_made : (b : Bool) (m p : ℕ) (s : List ℕ) (n : ℕ)
     → Does (λ o. pick b (fill_of (refusing m p) o) (written s n o)) (pick b (refused_line m p) (made_text s n))
 unfolding work_text made_text into written
-refused_or_made b {m} d p s n =
+refused_or_made b m p s n =
     record {
       work = pick b (refusal m p) (made s n);
       fits = pick_both Fits b tt (made-fits s n);
-      named = pick_both WorkNamed b d (wrote_named s n);
       puts = λ o. sym (pick_of (λ w. into w o) b (refusal m p) (made s n));
       text = pick_of work_text b (refusal m p) (made s n);
     }
 
 pub given_does : (g : List ℕ) → Does (written_given g) (given_text g)
-unfolding written_given given_text cause_of
-given_does g = refused_or_made (ltb (length g) 4) {m = 3} refl 0 (drop 4 g) (le 4 g 0)
+unfolding written_given given_text
+given_does g = refused_or_made (ltb (length g) 4) 3 0 (drop 4 g) (le 4 g 0)
 
-again_does : (s : List ℕ) (q : Reading) → reading s ≡ q → Does (rewritten_read s q) (again_text s q)
-unfolding rewritten_read again_text work_text into cause_of
-again_does s (refused n p) e = record { work = refusal n p; fits = tt; named = reading_named s e; puts = λ o. refl; text = refl }
-again_does s (read h notes) e = refused_or_made (is_second s) {m = 6} refl 0 (joined step_bytes (history_steps h)) (serial_at s 0)
+again_does : (s : List ℕ) (q : Reading) → Does (rewritten_read s q) (again_text s q)
+unfolding rewritten_read again_text work_text into
+again_does s (refused n p) = record { work = refusal n p; fits = tt; puts = λ o. refl; text = refl }
+again_does s (read h notes) = refused_or_made (is_second s) 6 0 (joined step_bytes (history_steps h)) (serial_at s 0)
 
 pub rewritten_does : (s : List ℕ) → Does (rewritten_whole s) (rewritten_text s)
 unfolding rewritten_whole rewritten_text
-rewritten_does s = again_does s (reading s) refl
+rewritten_does s = again_does s (reading s)
 
 -- a trace that was moved
 size_most : (second : Bool) (t n : ℕ) → t ≤ 127 → n ≤ 1024 → whole_size second t n ≤ 32768
@@ -119,7 +113,7 @@ moved-fits second s = by (reading s) refl
 
 pub moved_does : (second : Bool) (s : List ℕ) → Does (moved_to second s) (moved_text second s)
 unfolding moved_to moved_text
-moved_does second s = record { work = moved_read second s (reading s); fits = moved-fits second s; named = moved_read_named second s; puts = λ o. refl; text = refl }
+moved_does second s = record { work = moved_read second s (reading s); fits = moved-fits second s; puts = λ o. refl; text = refl }
 
 -- ── an answer's text ──
 

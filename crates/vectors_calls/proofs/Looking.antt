@@ -5,18 +5,19 @@ use mathlib.Core.Bool.{Bool, true, false}
 use mathlib.Core.List.{List}
 use mathlib.Core.Logic.{inl, inr, ⊎_elim}
 use native.Mathlib.Omega.{arith}
-use lib.Dec.{ltb}
+use lib.Dec.{eqb, ltb}
 use lib.ListN.{get_or}
-use borrow.Author.Tests.{ltb-true, lt-ltb}
+use borrow.Author.Tests.{eqb-true, eq-eqb, ltb-true, lt-ltb}
 use Rattle.base.specs.Base.{◌and◌, some}
-use Rattle.base.proofs.Tests.{ifso, clash, is_false, split, both, and_left, and_right, pick_on, pick_off}
+use Rattle.base.proofs.Tests.{ifso, clash, is_false, same_test, split, both, and_left, and_right, pick_on, pick_off}
 use Rattle.rules.specs.History.{History, tx_count, size, committed}
 use Rattle.rules.specs.Levels.{basic, leads}
 use Rattle.rules.proofs.Committed.{committed_below}
 use Rattle.theory.proofs.Leads.{via_iff}
 use Rattle.table.specs.Table.{history_of, Held}
-use Rattle.bits.specs.Bits.{bit_of}
+use Rattle.bits.specs.Bits.{Least, row_of, bit_of}
 use Rattle.pairs.specs.Pairs.{before}
+use Rattle.order.specs.declared.Words.{Words}
 use Rattle.vectors_rules.specs.Latest.{KnowsOrIs}
 use Rattle.vectors_rules.specs.Vectors.{session_no, latest_of, vector_of, basic_cycle}
 use Rattle.vectors_rules.proofs.Greatest.{greatest_none}
@@ -26,13 +27,26 @@ use Rattle.vectors_rules.proofs.Cycles.{cyclic_no}
 use Rattle.vectors_rules.proofs.History.{basic_forces}
 use Rattle.columns.specs.Columns.{column_at, Numbered}
 use Rattle.columns.proofs.Columns.{column_few, column_none, column_0}
-use Rattle.vectors.specs.Vectors.{slot, Small, named}
+use Rattle.vectors.specs.Vectors.{slot, Small, named, Joined}
+use Rattle.vectors.proofs.Named.{own_small}
 use Rattle.causal.specs.Causal.{column_entry, HoldsVectors, Known}
 use Rattle.causal.proofs.Known.{used_cycle, used_none, vectors_wide, vectors_small, vectors_say}
 use Rattle.causal.proofs.Sessions.{entry-session, entry-none}
 use Rattle.std.specs.Prelude.{None, Some}
 use Rattle.vectors_calls.specs.declared.LedBy.TheVariants.{ByVectors, ByTable}
 use Rattle.vectors_calls.specs.Answers.{said_of, entry_of, told_of}
+
+-- ── a set in two words ──
+
+-- it has a, where a is its least from a on
+least_at : {p : ℕ → Bool} {a e r : ℕ} → Least p a e r → a < e → eqb r a ≡ p a
+least_at {p} {a} {e} {r} m l =
+    same_test _ _ (λ t. let q : r ≡ a = eqb-true r a t in rw q at (m.hit (omega arith)))
+    (λ t. eq-eqb r a (⊎_elim (λ k. absurd (clash t (m.none a (omega arith) k l))) (λ k. omega (arith, m.from)) (split a r)))
+
+pub names_is : {f v : List ℕ} {t width : ℕ} {w : Words} → Joined f v t width w → {y r : ℕ} → Least (row_of w.lo w.hi) y 128 r → y < 128
+    → eqb r y ≡ some 1 width (named f v t y)
+names_is j {y} m l = least_at m l ∙ j.is y l
 
 module _ (h : History) where
   -- ── what leads ──
@@ -133,6 +147,10 @@ module _ {g c : List ℕ} (k : Held g) (d : Numbered (history_of g) c) {n a : �
     entry_at : get_or x (128 * t + get_or c a 0) 0 ≡ column_entry (history_of g) t (get_or c a 0)
     unfolding slot
     entry_at = v.is t (get_or c a 0) (omega (arith, k.few)) column_fits
+
+    pub entry-fits : get_or x (128 * t + get_or c a 0) 0 < 128
+    unfolding column_entry
+    entry-fits = rw entry_at (own_small (column_at (history_of g)) (basic_forces (history_of g)) (omega (arith, k.few)) t (get_or c a 0) (omega (arith, k.few)))
 
     pub entry_found : get_or x (128 * t + get_or c a 0) 0 ≡ entry_of (history_of g) t a
     entry_found = entry_at ∙ ap (column_entry (history_of g) t) column_is ∙ column_entry_lem (history_of g) t a

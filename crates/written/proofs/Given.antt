@@ -6,14 +6,15 @@ use mathlib.Core.Logic.{⊎_elim, ◌↔◌}
 use lib.ListN.{length}
 use lib.Seq.{get_or-drop}
 use Rattle.base.proofs.Tests.{split}
-use Rattle.writing.specs.Filling.{refusing, said, fill_of, Filled}
+use Rattle.writing.specs.Filling.{Said, refusing, said, fill_of, Filled}
 use Rattle.writing.specs.Writing.{written, written_given}
 use Rattle.writing.proofs.Rewriting.{given_none, given_steps_lem}
 use Rattle.written.specs.Declined.{WriteDeclines}
+use Rattle.written.specs.Fills.{FillsBy}
 use Rattle.written.specs.Writes.{AllBytes, TraceOf}
 use Rattle.written.specs.Given.{given_serial, given_steps, GivenDeclines, no_serial, steps_bad, WritesGiven}
 use Rattle.written.proofs.Slim.{le_below}
-use Rattle.written.proofs.Fills.{CameOut, declining, putting, declines_iff, fills, fills_one}
+use Rattle.written.proofs.Fills.{CameOut, declining, putting, declines_iff, fills_by, fills_one}
 use Rattle.written.proofs.Declined.{declined_is}
 use Rattle.written.proofs.Writes.{out, trace_one}
 
@@ -42,8 +43,12 @@ module _ (g : List ℕ) (b : AllBytes g) (o : List ℕ) where
   pub given_declines_iff : (m p : ℕ) → ((written_given g o).answer ≡ refusing m p) ↔ GivenDeclines g (length o) m p
   given_declines_iff = declines_iff (GivenDeclines g (length o)) (TraceOf (given_steps g) (given_serial g)) o (written_given g o) given_declined came_given
 
+  pub writes_given_by : {R : Type 0} (says : R → Said) (r : R) (B : List ℕ) → fill_of (says r) B ≡ written_given g o
+      → FillsBy says (GivenDeclines g (length o)) (TraceOf (given_steps g) (given_serial g)) o r B
+  writes_given_by = fills_by (GivenDeclines g (length o)) (TraceOf (given_steps g) (given_serial g)) o (written_given g o) given_declined came_given
+
   pub writes_given : (r : Filled) (B : List ℕ) → fill_of (said r) B ≡ written_given g o → WritesGiven g o r B
-  writes_given = fills (GivenDeclines g (length o)) (TraceOf (given_steps g) (given_serial g)) o (written_given g o) given_declined came_given
+  writes_given = writes_given_by said
 
 pub given_one : {g o : List ℕ} {r q : Filled} {B C : List ℕ} → WritesGiven g o r B → WritesGiven g o q C → (said r ≡ said q) × (B ≡ C)
 given_one u v = fills_one trace_one u v

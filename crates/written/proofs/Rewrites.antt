@@ -15,7 +15,7 @@ use Rattle.rules.specs.Reading.{Reading, refused, read, reading}
 use Rattle.demand1.specs.Rows.{serial, ReadInto, HasHistory}
 use Rattle.demand1.proofs.Lawful.{lawful_history}
 use Rattle.demand1.proofs.Readings.{refuses_iff, has_history, has_read, read_has, history_one}
-use Rattle.writing.specs.Filling.{refusing, answering, said, content, Fill, fill_of, into, Filled}
+use Rattle.writing.specs.Filling.{Said, refusing, answering, said, content, Fill, fill_of, into, Filled}
 use Rattle.writing.specs.Steps.{steps_in}
 use Rattle.writing.specs.Writing.{trace_of, written}
 use Rattle.writing.specs.Listing.{history_steps, stepped}
@@ -24,6 +24,7 @@ use Rattle.writing.proofs.Filling.{into-fits}
 use Rattle.writing.proofs.Listed.{listing-length}
 use Rattle.writing.proofs.Rewriting.{again_refused, again-steps, whole_refused, whole-second, whole-first}
 use Rattle.written.specs.Declined.{trace_length, steps_length, ListDeclines, trace_refused, second_edition, steps_short}
+use Rattle.written.specs.Fills.{FillsBy}
 use Rattle.written.specs.Writes.{AllBytes, record_at}
 use Rattle.written.specs.Rewrites.{RewriteDeclines, steps_declined, output_short, WholeDeclines, not_read, is_second_lem, too_short, WrittenAgain, StepsLeft, RewritesTrace, RewritesWhole}
 use Rattle.written.proofs.Slim.{le_below, slim_steps}
@@ -33,7 +34,7 @@ use Rattle.written.proofs.Retold.{own-bytes}
 use Rattle.written.proofs.Declined.{written_good, written_short, written-fits}
 use Rattle.written.proofs.Writes.{trace_of_lem}
 use Rattle.written.proofs.Lists.{listing, listing-back, listing_good, steps_of_lem, steps_one, listed-fits, steps_refused}
-use Rattle.written.proofs.Fills.{CameOut, declining, putting, declines_iff, fills, fills_one}
+use Rattle.written.proofs.Fills.{CameOut, declining, putting, declines_iff, fills_by, fills, fills_one}
 
 -- ── a trace that is written of a trace's steps ──
 
@@ -191,8 +192,12 @@ module _ (s : List ℕ) (b : AllBytes s) (o : List ℕ) where
   pub whole_declines_iff : (m p : ℕ) → ((rewritten_whole s o).answer ≡ refusing m p) ↔ WholeDeclines s (length o) m p
   whole_declines_iff = declines_iff (WholeDeclines s (length o)) (WrittenAgain s) o (rewritten_whole s o) whole_declined came_whole
 
+  pub rewrites_whole_by : {R : Type 0} (says : R → Said) (r : R) (B : List ℕ) → fill_of (says r) B ≡ rewritten_whole s o
+      → FillsBy says (WholeDeclines s (length o)) (WrittenAgain s) o r B
+  rewrites_whole_by = fills_by (WholeDeclines s (length o)) (WrittenAgain s) o (rewritten_whole s o) whole_declined came_whole
+
   pub rewrites_whole : (r : Filled) (B : List ℕ) → fill_of (said r) B ≡ rewritten_whole s o → RewritesWhole s o r B
-  rewrites_whole = fills (WholeDeclines s (length o)) (WrittenAgain s) o (rewritten_whole s o) whole_declined came_whole
+  rewrites_whole = rewrites_whole_by said
 
 pub whole_one : {s o : List ℕ} {r q : Filled} {B C : List ℕ} → RewritesWhole s o r B → RewritesWhole s o q C → (said r ≡ said q) × (B ≡ C)
 whole_one u v = fills_one again_one u v

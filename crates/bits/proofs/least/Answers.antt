@@ -4,4 +4,4 @@ use Rattle.bits.proofs.Smallest.{least_from, zeros_few}
 use Rattle.bits.proofs.least.Goals as goal
 
 pub returns : goal.returns
-returns c = (least_from c.args.w c.args.from c.ranges.w.fits, omega (arith, zeros_few (c.args.w / 2 ^ c.args.from)))
+returns c = (least_from c.args.w c.args.from, omega (arith, zeros_few (c.args.w / 2 ^ c.args.from)))
